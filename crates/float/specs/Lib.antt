@@ -1,0 +1,3 @@
+-- What the contracts of `float` cite.
+pub mod Whole
+pub mod Root

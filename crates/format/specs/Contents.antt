@@ -1,0 +1,23 @@
+-- The contents of a leaf and their codes, as the Rust's `BspLeafContents` numbers them.
+use Prim.Native.Nat.{ℕ}
+use mathlib.Core.Bool.{Bool}
+use lib.Dec.{eqb}
+use Rattle.format.specs.declared.contents.BspLeafContents.{BspLeafContents}
+use Rattle.format.specs.declared.contents.BspLeafContents.the-variants.{Empty, Solid, Water, Slime, Lava, Current0, Current90, Current180, Current270, CurrentUp, CurrentDown}
+
+abbrev pub codeOf : BspLeafContents → ℕ
+codeOf Empty = 1
+codeOf Solid = 2
+codeOf Water = 3
+codeOf Slime = 4
+codeOf Lava = 5
+codeOf Current0 = 9
+codeOf Current90 = 10
+codeOf Current180 = 11
+codeOf Current270 = 12
+codeOf CurrentUp = 13
+codeOf CurrentDown = 14
+
+-- Rust's `==`: two contents are equal if their codes are
+unfoldable pub equal : BspLeafContents → BspLeafContents → Bool
+equal a b = eqb (codeOf a) (codeOf b)
