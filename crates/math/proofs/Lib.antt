@@ -1,0 +1,5 @@
+-- Laws about the definitions of `math`.
+pub mod Fits
+pub mod Planes
+pub mod Sides
+pub mod Crossing
