@@ -2,3 +2,7 @@
 pub mod Answer
 pub mod Refusal
 pub mod Contents
+pub mod Step
+pub mod Field
+pub mod Code
+pub mod Section

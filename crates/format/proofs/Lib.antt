@@ -1,0 +1,6 @@
+-- Laws about the definitions of `format`, and what its proofs share.
+pub mod Fields
+pub mod Twos
+pub mod Codes
+pub mod Places
+pub mod Chain
