@@ -3,3 +3,4 @@ pub mod Fits
 pub mod Planes
 pub mod Sides
 pub mod Crossing
+pub mod NearOne

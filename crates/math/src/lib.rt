@@ -101,10 +101,26 @@ impl Vector3 {
         float::root::sqrt(self.dot(self))
     }
 
+    // Each coordinate times 1 / magnitude. The normals of a map are mostly of length 1, rounded: their
+    // square is one of the eight f32 next to 1, and there 1 / magnitude is known.
     pub fn normalize(self) -> Vector3
         ensures { λ r. ⌜ r ≡ Vec.normalize self ⌝ }
     {
-        self.scale(1.0 / self.magnitude())
+        let square = self.dot(self);
+        let bits = float::num::to_bits(square);
+        // the four f32 below 1, then 1 and the one above it, then the next two
+        if 0x3f7f_fffc <= bits {
+            if bits < 0x3f80_0000 {
+                return self.scale(1.00000012);
+            }
+            if bits < 0x3f80_0002 {
+                return self;
+            }
+            if bits < 0x3f80_0004 {
+                return self.scale(0.99999988);
+            }
+        }
+        self.scale(1.0 / float::root::sqrt(square))
     }
 
     // Rust's `==`.

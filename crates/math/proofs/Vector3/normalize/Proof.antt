@@ -1,20 +1,77 @@
--- `math::Vector3::normalize` meets its contract. Assumes nothing.
+-- `math::Vector3::normalize` meets its contract: where the square is next to 1 by the laws of `NearOne`, else by its definition. Assumes nothing.
 use borrow.Author.Needs.{needs}
-use mathlib.Core.Path.{ap, _∙_}
-use lib.Ieee.{Float, binary32, div}
-use Rattle.math.specs.Vector.{one32, scaled, normalize}
+use mathlib.Core.Path.{_≡_, sym, ap, _∙_, subst}
+use Prim.Native.Nat.{ℕ, _≤_, _<_}
+use lib.Dec.{T}
+use lib.Ieee.{Float, binary32, div, toBits}
+use Rattle.float.specs.Root.{sqrt}
+use Rattle.math.specs.Vector.{one32, scaled, dot, normalize}
+use Rattle.math.proofs.Fits.{Fits3}
+use Rattle.math.proofs.NearOne.{normalize-below, normalize-at, normalize-above}
 use Rattle.math.proofs.Vector3.normalize.Statement.{statement}
 use Rattle.math.proofs.Vector3.normalize.Tie as tie
 
-magnitude-requires : tie.Need-magnitude-requires
-magnitude-requires c κs = search needs
+-- the coordinates are f32
+self-fits : (c : tie.Start) → Fits3 (c .args .self)
+self-fits c =
+    let g = c .good .0 .1 .1 in
+    record { x-fits = subst T (sym (g .0 .1)) tt; y-fits = subst T (sym (g .1 .0 .1)) tt; z-fits = subst T (sym (g .1 .1 .0 .1)) tt }
+
+-- the bits are those of the square
+bits-of : (c : tie.After-to-bits) → c .to-bits .result ≡ toBits binary32 (dot (c .before .before .args .self) (c .before .before .args .self))
+bits-of c = c .to-bits .ensures ∙ ap (toBits binary32) (c .before .dot .ensures)
+
+dot-requires : tie.Need-dot-requires
+dot-requires c κs = search needs
+
+to-bits-requires : tie.Need-to-bits-requires
+to-bits-requires c κs = search needs
 
 scale-requires : tie.Need-scale-requires
 scale-requires c κs = search needs
 
 returns : tie.Need-returns
+returns c =
+    let b = c .before .before .before in
+    c .scale .ensures ∙ sym (normalize-below (b .before .before .args .self) (subst (λ (n : ℕ). 0x3f7f_fffc ≤ n) (bits-of b) (c .before .before .if1 .taken)) (subst (λ (n : ℕ). n < 0x3f80_0000) (bits-of b) (c .before .if2 .taken)))
+
+returns-2 : tie.Need-returns-2
+returns-2 c =
+    let b = c .before .before .before in
+    sym (normalize-at (b .before .before .args .self) (self-fits (b .before .before)) (subst (λ (n : ℕ). 0x3f80_0000 ≤ n) (bits-of b) (c .before .if2 .left)) (subst (λ (n : ℕ). n < 0x3f80_0002) (bits-of b) (c .if3 .taken)))
+
+scale-requires-2 : tie.Need-scale-requires-2
+scale-requires-2 c κs = search needs
+
+returns-3 : tie.Need-returns-3
+returns-3 c =
+    let b = c .before .before .before .before .before in
+    c .scale2 .ensures ∙ sym (normalize-above (b .before .before .args .self) (subst (λ (n : ℕ). 0x3f80_0002 ≤ n) (bits-of b) (c .before .before .if3 .left)) (subst (λ (n : ℕ). n < 0x3f80_0004) (bits-of b) (c .before .if4 .taken)))
+
+sqrt-requires : tie.Need-sqrt-requires
+sqrt-requires c κs = search needs
+
+scale-requires-3 : tie.Need-scale-requires-3
+scale-requires-3 c κs = search needs
+
+returns-4 : tie.Need-returns-4
 unfolding normalize
-returns c = c .scale .ensures ∙ ap (λ (m : Float). scaled (div binary32 one32 m) (c .before .before .args .self)) (c .before .magnitude .ensures)
+returns-4 c =
+    let b = c .before .before .before in
+    c .scale3 .ensures
+    ∙ ap (λ (m : Float). scaled (div binary32 one32 m) (b .before .before .args .self)) (c .before .sqrt .ensures ∙ ap sqrt (b .before .dot .ensures))
 
 pub normalize-spec : {M : Type 1} → statement M
-normalize-spec = tie.close (tie.spec magnitude-requires scale-requires returns)
+normalize-spec =
+    tie.close
+    (tie.spec
+    dot-requires
+    to-bits-requires
+    scale-requires
+    returns
+    returns-2
+    scale-requires-2
+    returns-3
+    sqrt-requires
+    scale-requires-3
+    returns-4)

@@ -1,0 +1,19 @@
+-- `ffi_math::vectors::vector_negate` meets its contract. Assumes nothing.
+use borrow.Author.Needs.{needs}
+use mathlib.Core.Path.{ap, _∙_}
+use Rattle.math.specs.declared.Vector3.{Vector3}
+use Rattle.ffi_math.specs.Words as Words
+use Rattle.ffi_math.proofs.vectors.vector_negate.Statement.{statement}
+use Rattle.ffi_math.proofs.vectors.vector_negate.Tie as tie
+
+negate-requires : tie.Need-negate-requires
+negate-requires c κs = search needs
+
+part-of-requires : tie.Need-part-of-requires
+part-of-requires c κs = search needs
+
+returns : tie.Need-returns
+returns c = c .part-of .ensures ∙ ap (λ (v : Vector3). Words.partOf v (c .before .before .args .part)) (c .before .negate .ensures)
+
+pub vector-negate-spec : {M : Type 1} → statement M
+vector-negate-spec = tie.close (tie.spec negate-requires part-of-requires returns)

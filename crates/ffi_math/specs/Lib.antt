@@ -1,0 +1,2 @@
+-- What the contracts of `ffi_math` cite.
+pub mod Words

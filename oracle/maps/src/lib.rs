@@ -1,0 +1,22 @@
+//! Map files made from a seed, for the comparisons.
+//!
+//! - `seed`: numbers that follow from a seed
+//! - `floats`: floats with special ones among them
+//! - `record`: the tables of a file, record by record, and the file that holds them
+//! - `shape`: node tables: balanced, chain, shared, looping, random
+//! - `make`: whole maps with chosen table sizes
+//! - `damage`: cut and changed copies
+//! - `query`: points and segments
+
+pub mod damage;
+pub mod floats;
+pub mod make;
+pub mod query;
+pub mod record;
+pub mod seed;
+pub mod shape;
+
+pub use make::{make, Plan};
+pub use record::{Layout, Tables};
+pub use seed::Seed;
+pub use shape::Shape;
