@@ -1,0 +1,98 @@
+-- A finite shape drawn from a table: what a passing check finds, and what walks and traces are followed along.
+use mathlib.Core.Bool.{true}
+use mathlib.Core.List.{List, [], _∷_, _++_, List·Memᴰ, List·Memᴰ·append-cases, List·Memᴰ·cases-cons, List·Memᴰ·not-nil, Memᴰ·append-left, Memᴰ·append-right}
+use mathlib.Core.Logic.{_⊎_, inl, inr}
+use mathlib.Core.Path.{_≡_, refl}
+use Prim.Native.Nat.{ℕ, suc, _+_, _<_, _≤_, max}
+use native.Mathlib.Omega.{arith}
+use lib.ListN.{length, length-append}
+use Rattle.format.specs.Answer.{answer}
+use Rattle.math.specs.declared.HyperplaneSide.{HyperplaneSide}
+use Rattle.math.specs.declared.HyperplaneSide.the-variants.{Positive, Negative}
+use Rattle.walk.specs.Table.{Child, node, end, Node, Nodes, childOn}
+use Rattle.walk.specs.Tree.{NoTwice}
+use Rattle.walk.proofs.Lists.{room, once-apart}
+
+pub data Shape (E : Type 0) : Type 0 where
+  tip : E → Shape E
+  -- a node's number, its plane's number, what is in front and what is behind
+  fork : ℕ → ℕ → Shape E → Shape E → Shape E
+
+module _ {E : Type 0} where
+  abbrev pub top : Shape E → Child E
+  top (tip e) = end e
+  top (fork i p f b) = node i
+
+  abbrev pub height : Shape E → ℕ
+  height (tip e) = 0
+  height (fork i p f b) = suc (max (height f) (height b))
+
+  abbrev pub nodesOf : Shape E → List ℕ
+  nodesOf (tip e) = []
+  nodesOf (fork i p f b) = i ∷ (nodesOf f ++ nodesOf b)
+
+  abbrev pub part : HyperplaneSide → Shape E → Shape E → Shape E
+  part Positive f b = f
+  part Negative f b = b
+
+  abbrev pub recordOf : ℕ → Shape E → Shape E → Node E
+  recordOf p f b = record { plane = p; front = top f; back = top b }
+
+module _ {E : Type 0} (N : Nodes E) where
+  -- the shape is drawn from the table
+  abbrev pub Drawn : Shape E → Type 0
+  Drawn (tip e) = N .leafIn e ≡ true
+  Drawn (fork i p f b) = (i < N .count) × (N .nodeAt i ≡ answer (recordOf p f b)) × (p < N .planes) × Drawn f × Drawn b
+
+pub height-nodes : {E : Type 0} (s : Shape E) → height s ≤ length (nodesOf s)
+height-nodes (tip e) = omega arith
+height-nodes (fork i p f b) =
+    let hf : height f ≤ length (nodesOf f) = height-nodes f in
+    let hb : height b ≤ length (nodesOf b) = height-nodes b in
+    let e : length (nodesOf f ++ nodesOf b) ≡ length (nodesOf f) + length (nodesOf b) = length-append (nodesOf f) (nodesOf b) in
+    omega arith
+
+module _ {E : Type 0} (N : Nodes E) where
+  pub nodes-below : (s : Shape E) → Drawn N s → (n : ℕ) → List·Memᴰ n (nodesOf s) → n < N .count
+  nodes-below (tip e) d n m = absurd (List·Memᴰ·not-nil m)
+  nodes-below (fork i p f b) d n m = cases (λ k. nodes-below f (d .3) n k) (λ k. nodes-below b (d .4) n k) (List·Memᴰ·cases-cons m)
+    where
+      split : (List·Memᴰ n (nodesOf f) → n < N .count) → (List·Memᴰ n (nodesOf b) → n < N .count) → List·Memᴰ n (nodesOf f) ⊎ List·Memᴰ n (nodesOf b) → n < N .count
+      split kf kb (inl k) = kf k
+      split kf kb (inr k) = kb k
+
+      cases : (List·Memᴰ n (nodesOf f) → n < N .count) → (List·Memᴰ n (nodesOf b) → n < N .count) → (n ≡ i) ⊎ List·Memᴰ n (nodesOf f ++ nodesOf b) → n < N .count
+      cases kf kb (inl e) = let h : i < N .count = d .0 in omega arith
+      cases kf kb (inr k) = split kf kb (List·Memᴰ·append-cases (nodesOf f) k)
+
+  pub height-count : (s : Shape E) → Drawn N s → NoTwice (nodesOf s) → height s ≤ N .count
+  height-count s d o =
+      let a : height s ≤ length (nodesOf s) = height-nodes s in
+      let b : length (nodesOf s) ≤ N .count = room (N .count) (nodesOf s) o (nodes-below s d) in
+      omega arith
+
+-- a side of a shape
+module _ {E : Type 0} where
+  pub on-part : (sd : HyperplaneSide) (p : ℕ) (f b : Shape E) → childOn (recordOf p f b) sd ≡ top (part sd f b)
+  on-part Positive p f b = refl
+  on-part Negative p f b = refl
+
+  pub part-within : (sd : HyperplaneSide) (f b : Shape E) (n : ℕ) → List·Memᴰ n (nodesOf (part sd f b)) → List·Memᴰ n (nodesOf f ++ nodesOf b)
+  part-within Positive f b n m = Memᴰ·append-left (nodesOf b) m
+  part-within Negative f b n m = Memᴰ·append-right (nodesOf f) m
+
+  pub part-height : (sd : HyperplaneSide) (f b : Shape E) → height (part sd f b) ≤ max (height f) (height b)
+  part-height Positive f b = omega arith
+  part-height Negative f b = omega arith
+
+  pub part-drawn : (N : Nodes E) (sd : HyperplaneSide) (f b : Shape E) → Drawn N f → Drawn N b → Drawn N (part sd f b)
+  part-drawn N Positive f b df db = df
+  part-drawn N Negative f b df db = db
+
+  -- two different sides have no node in common
+  pub parts-apart : (x y : HyperplaneSide) (f b : Shape E) → (x ≡ y → ⊥) → NoTwice (nodesOf f ++ nodesOf b)
+      → (n : ℕ) → List·Memᴰ n (nodesOf (part x f b)) → List·Memᴰ n (nodesOf (part y f b)) → ⊥
+  parts-apart Positive Positive f b h o n p q = h refl
+  parts-apart Positive Negative f b h o n p q = once-apart (nodesOf f) (nodesOf b) o n p q
+  parts-apart Negative Positive f b h o n p q = once-apart (nodesOf f) (nodesOf b) o n q p
+  parts-apart Negative Negative f b h o n p q = h refl

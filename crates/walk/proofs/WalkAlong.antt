@@ -1,0 +1,49 @@
+-- A walk along a drawn shape is answered within its height.
+use Prim.Native.Nat.{ℕ, zero, suc, _≤_}
+use native.Mathlib.Omega.{arith}
+use mathlib.Core.List.{_++_}
+use mathlib.Core.Path.{_≡_}
+use lib.ListN.{length}
+use borrow.Author.Tests.{lt-ltb}
+use Rattle.format.specs.Answer.{answer}
+use Rattle.math.specs.Plane as Pl
+use Rattle.math.specs.declared.Hyperplane.{Hyperplane}
+use Rattle.math.specs.declared.HyperplaneSide.{HyperplaneSide}
+use Rattle.math.specs.declared.HyperplaneSide.the-variants.{Positive, Negative}
+use Rattle.math.specs.declared.Vector3.{Vector3}
+use Rattle.walk.specs.Table.{Child, Table}
+use Rattle.walk.specs.Walk.{Outcome, enter, onto, walk}
+use Rattle.walk.specs.Tree.{NoTwice, Reads}
+use Rattle.walk.proofs.Lists.{once-left, once-right}
+use Rattle.walk.proofs.Shape.{Shape, tip, fork, top, height, nodesOf, recordOf, Drawn, part, on-part, part-within, part-height}
+use Rattle.walk.proofs.AnsweredIn.{AnsweredIn, wider, entered-in, enters, end-in}
+
+module _ {E A : Type 0} (T : Table E A) (R : Reads T) (p : Vector3) where
+  abbrev pub walkOn : ℕ → Child E → Outcome A
+  walkOn k c = onto T (λ n. walk T k n p) (λ a. a) c
+
+  abbrev pub Short : Shape E → Outcome A → Type 0
+  Short s o = (g : AnsweredIn (nodesOf s) o) × (length (g .nodes) ≤ height s)
+
+  fork-short : (k i q : ℕ) (f b : Shape E) → Drawn (T .nodes) (fork i q f b) → NoTwice (nodesOf (fork i q f b))
+      → ((sd : HyperplaneSide) → Short (part sd f b) (walkOn k (top (part sd f b)))) → Short (fork i q f b) (walk T (suc k) i p)
+  unfolding walk wider entered-in
+  fork-short k i q f b d o ih =
+      let w : (h : Hyperplane) × (T .planeAt q ≡ answer h) × (enter T i ≡ answer (record { nd = recordOf q f b; plane = h })) = enters T R i q f b d in
+      let sd : HyperplaneSide = Pl.pointSide (w .0) p in
+      let g : Short (part sd f b) (walkOn k (top (part sd f b))) = ih sd in
+      rw (lt-ltb i (T .nodes .count) (d .0), w .2, on-part sd q f b)
+      (entered-in i (nodesOf f ++ nodesOf b) (walkOn k (top (part sd f b))) o (wider (nodesOf f ++ nodesOf b) (part-within sd f b) (g .0)), omega (arith, g .1, part-height sd f b))
+
+  pub along : (s : Shape E) → Drawn (T .nodes) s → NoTwice (nodesOf s) → (k : ℕ) → height s ≤ k → Short s (walkOn k (top s))
+  unfolding end-in
+  along (tip e) d o k h = (end-in T R (λ n. walk T k n p) (λ a. a) e d, omega arith)
+  along (fork i q f b) d o zero h = absurd (omega arith)
+  along (fork i q f b) d o (suc k) h =
+      let hf : height f ≤ k = omega arith in
+      let hb : height b ≤ k = omega arith in
+      fork-short k i q f b d o (sides (along f (d .3) (once-left (nodesOf f) (nodesOf b) (o .1)) k hf) (along b (d .4) (once-right (nodesOf f) (nodesOf b) (o .1)) k hb))
+    where
+      sides : Short f (walkOn k (top f)) → Short b (walkOn k (top b)) → (sd : HyperplaneSide) → Short (part sd f b) (walkOn k (top (part sd f b)))
+      sides x y Positive = x
+      sides x y Negative = y
