@@ -2,6 +2,7 @@
 pub mod Compare
 pub mod NoNan
 pub mod WholeLaws
+pub mod Chosen
 pub mod Wrap
 pub mod RootLaws
 pub mod RootPattern
