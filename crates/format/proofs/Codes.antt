@@ -8,10 +8,10 @@ use native.Mathlib.Numerals.{add-one}
 use native.Mathlib.Nat.{not-suc-le-zero}
 use borrow.Author.Tests.{ltb-true, ltb-false, lt-ltb, le-ltb, ne-eqb}
 use lib.Dec.{T, ltb, eqb}
-use lib.IntN.{ℤ, pos, negsuc, _-ℤ_}
-use lib.Signed.{ltZ, mag}
+use lib.IntN.{ℤ, pos, negsuc, natAbs, _-ℤ_}
+use lib.Signed.{ltZ, mag, nonNeg}
 use mir.Syntax.{Width}
-use mir.Val.{SFits, toZ, ofZ, hbits}
+use mir.Val.{SFits, Fits, toZ, ofZ, bits, hbits}
 use mir.Facts.{toZ-ofZ}
 use Rattle.format.specs.Contents.{codeOf}
 use Rattle.format.specs.Code.{contentsOf, contentsOfSigned, negated, negatedContents}
@@ -51,6 +51,14 @@ module _ (w : Width) (z : ℤ) (fit : SFits w z) where
   -- the number of the difference, cast to unsigned
   pub cast-is : ltZ (toZ w (ofZ w z)) (pos 0) ≡ true → toZ w (ofZ w (negsuc 0 -ℤ toZ w (ofZ w z))) ≡ pos (mag z)
   cast-is e = toZ-ofZ (less-fits e) ∙ less-is e
+
+  pub less-cast : (w′ : Width) → 2 ^ hbits w ≤ 2 ^ bits w′ → ltZ (toZ w (ofZ w z)) (pos 0) ≡ true
+      → T (nonNeg (toZ w (ofZ w (negsuc 0 -ℤ toZ w (ofZ w z))))) × Fits w′ (natAbs (toZ w (ofZ w (negsuc 0 -ℤ toZ w (ofZ w z)))))
+  less-cast w′ h e = rw (cast-is e) (tt, record { fits = omega (arith, fit .sfits) })
+
+  -- and as what the difference is
+  pub less-of : ltZ (toZ w (ofZ w z)) (pos 0) ≡ true → toZ w (ofZ w (negsuc 0 -ℤ toZ w (ofZ w z))) ≡ negsuc 0 -ℤ z
+  less-of e = cast-is e ∙ sym (less z (rw (toZ-ofZ fit) at e))
 
 -- no code is above 14
 pub high : (n : ℕ) → 14 < n → contentsOf n ≡ Invalid

@@ -2,7 +2,7 @@
 -- `place` says.
 -- Assumes nothing.
 use Prim.Native.Nat.{ℕ, _+_, _*_, _/_, _≤_, _<_}
-use mathlib.Core.Path.{_≡_, refl, sym, _∙_}
+use mathlib.Core.Path.{_≡_, refl, sym, ap, _∙_}
 use mathlib.Core.Bool.{Bool, true, false}
 use native.Mathlib.Nat.{le-div-iff-mul-le}
 use native.Mathlib.Omega.{arith}
@@ -87,3 +87,9 @@ found id z n i p e = by (leb (recordCount id z) i) (withinLimit id (recordCount 
           is = sym q;
           fits = omega (arith, leb-true (z .offset + i * elementSize id + elementSize id) n k);
         }
+
+-- and back
+pub found-at : (id : BspFileSectionId) (z : BspFileSection) (n i p : ℕ) → Found id z n i p → place id z n i ≡ answer p
+found-at id z n i p f =
+    let h : z .offset + i * elementSize id + elementSize id ≤ n = omega (arith, f .is, f .fits) in
+    sym (inside id z n i refl refl (f .counted) refl (f .limited) h) ∙ ap answer (sym (f .is))

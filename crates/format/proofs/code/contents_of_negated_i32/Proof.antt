@@ -5,12 +5,12 @@ use mathlib.Core.Path.{_≡_, sym, _∙_, ap}
 use mathlib.Core.Bool.{true}
 use native.Mathlib.Omega.{arith}
 use borrow.Author.Needs.{needs}
-use lib.Dec.{lit<}
+use lib.Dec.{lit<, lit≤}
 use lib.IntN.{ℤ, pos, natAbs}
 use mir.Syntax.{w32}
 use mir.Facts.{toZ-ofZ}
 use Rattle.format.specs.Code.{contentsOf}
-use Rattle.format.proofs.Codes.{less-fits, cast-is, below, above}
+use Rattle.format.proofs.Codes.{less-fits, less-cast, cast-is, below, above}
 use Rattle.format.proofs.code.contents_of_negated_i32.Statement.{statement}
 use Rattle.format.proofs.code.contents_of_negated_i32.Tie as tie
 
@@ -18,7 +18,7 @@ sub-contents-of : tie.Need-sub-contents-of
 sub-contents-of c = less-fits w32 _ (c .before .fits .x) (c .if1 .taken)
 
 cast-contents-of : tie.Need-cast-contents-of
-cast-contents-of c = rw (cast-is w32 _ (c .before .fits .x) (c .if1 .taken)) (tt, record { fits = omega (arith, c .before .fits .x .sfits) })
+cast-contents-of c = less-cast w32 _ (c .before .fits .x) w32 (lit≤ tt) (c .if1 .taken)
 
 add-contents-of : tie.Need-add-contents-of
 add-contents-of c = rw (cast-is w32 _ (c .before .fits .x) (c .if1 .taken)) (record { fits = omega (arith, c .before .fits .x .sfits) })

@@ -1,0 +1,50 @@
+-- The entity text, as a part of the lent file.
+use Prim.Native.Nat.{ℕ, suc, _+_, _-_}
+use mathlib.Core.List.{List, [], _∷_}
+use lib.Dec.{eqb, leb, ltb}
+use lib.ListN.{length, take, drop}
+use Rattle.format.specs.Step.{when}
+use Rattle.format.specs.Answer.{Answer, answer, refused}
+use Rattle.format.specs.Refusal.{numberOf}
+use Rattle.format.specs.declared.section.BspData.{BspData}
+use Rattle.models.specs.declared.text.EntitiesAnswer.{EntitiesAnswer}
+use Rattle.models.specs.declared.text.EntitiesAnswer.the-variants.{Value, Refused}
+
+-- how many bytes there are through the first zero, or in all (`read_until`)
+abbrev pub through : List ℕ → ℕ
+through [] = 0
+through (b ∷ bs) = when (eqb b 0) 1 (suc (through bs))
+
+-- the position after the first zero byte from a position on, or the file's end
+unfoldable pub textEnd : List ℕ → ℕ → ℕ
+textEnd s at = at + through (drop at s)
+
+-- a part of the file: where it starts, and its length
+pub record Part : Type 0 where
+  pub offset : ℕ
+  pub size : ℕ
+
+-- Where the entity text lies: from its section's offset through the first zero byte, or to the file's end. An empty section has an empty
+-- text. 23 where a section that is not empty starts outside the bytes, or its text is above the 65,536 bytes that the Rust's MAX_ENTSTRING allows.
+unfoldable pub entitiesOf : List ℕ → BspData → Answer Part
+entitiesOf s m =
+    let at = m .entities .offset in
+    let n = textEnd s at - at in
+    when (eqb (m .entities .size) 0) (answer (record { offset = at; size = 0 }))
+    (when (leb (length s) at) (refused 23)
+    (when (ltb 65536 n) (refused 23)
+    (answer (record { offset = at; size = n }))))
+
+-- the part of the file that was found, or nothing
+abbrev pub partOf : List ℕ → Answer Part → List ℕ
+partOf s (answer p) = take (p .size) (drop (p .offset) s)
+partOf s (refused n) = []
+
+-- the entity text; empty where `entitiesOf` refuses
+abbrev pub entityText : List ℕ → BspData → List ℕ
+entityText s m = partOf s (entitiesOf s m)
+
+-- what the answer of `entities` stands for
+abbrev pub entitiesAnswer : EntitiesAnswer → Answer Part
+entitiesAnswer (Value a n) = answer (record { offset = a; size = n })
+entitiesAnswer (Refused e) = refused (numberOf e)

@@ -1,0 +1,121 @@
+-- Render nodes (`load_render_node`) and collision nodes.
+use Prim.Native.Nat.{ℕ}
+use mathlib.Core.List.{List}
+use lib.IntN.{ℤ, pos, negsuc, natAbs, _-ℤ_}
+use lib.Signed.{ltZ}
+use mir.Syntax.{w16}
+use Rattle.format.specs.Step.{Step, ok, refused, andThen, when}
+use Rattle.format.specs.Answer as Answer
+use Rattle.format.specs.Answer.{Answer}
+use Rattle.format.specs.Refusal.{numberOf}
+use Rattle.format.specs.Field.{i16At, u16At, indexAt}
+use Rattle.format.specs.Code.{negatedContents}
+use Rattle.format.specs.declared.contents.BspLeafContents.{BspLeafContents}
+use Rattle.format.specs.declared.code.CodedContents.{CodedContents}
+use Rattle.format.specs.declared.code.CodedContents.the-variants as Coded
+use Rattle.format.specs.declared.section.BspData.{BspData}
+use Rattle.format.specs.declared.section.BspFileSectionId.the-variants.{RenderNodes, CollisionNodes}
+use Rattle.records.specs.Access.{recordOf}
+use Rattle.records.specs.Number.{index16At}
+use Rattle.records.specs.Triple.{pointAt}
+use Rattle.records.specs.declared.node.BspRenderNodeChild.{BspRenderNodeChild}
+use Rattle.records.specs.declared.node.BspRenderNodeChild.the-variants as RenderChild
+use Rattle.records.specs.declared.node.BspRenderNode.{BspRenderNode}
+use Rattle.records.specs.declared.node.ReadRenderChild.{ReadRenderChild}
+use Rattle.records.specs.declared.node.ReadRenderChild.the-variants as Rch
+use Rattle.records.specs.declared.node.ReadRenderNode.{ReadRenderNode}
+use Rattle.records.specs.declared.node.ReadRenderNode.the-variants as Ren
+use Rattle.records.specs.declared.node.RenderNodeAnswer.{RenderNodeAnswer}
+use Rattle.records.specs.declared.node.RenderNodeAnswer.the-variants as RenderA
+use Rattle.records.specs.declared.node.BspCollisionNodeChild.{BspCollisionNodeChild}
+use Rattle.records.specs.declared.node.BspCollisionNodeChild.the-variants as CollisionChild
+use Rattle.records.specs.declared.node.BspCollisionNode.{BspCollisionNode}
+use Rattle.records.specs.declared.node.ReadCollisionChild.{ReadCollisionChild}
+use Rattle.records.specs.declared.node.ReadCollisionChild.the-variants as Cch
+use Rattle.records.specs.declared.node.ReadCollisionNode.{ReadCollisionNode}
+use Rattle.records.specs.declared.node.ReadCollisionNode.the-variants as Col
+use Rattle.records.specs.declared.node.CollisionNodeAnswer.{CollisionNodeAnswer}
+use Rattle.records.specs.declared.node.CollisionNodeAnswer.the-variants as CollisionA
+
+-- a child f: a node, or if it is negative the leaf -1 - f
+unfoldable pub renderChild : ℤ → BspRenderNodeChild
+renderChild f = when (ltZ f (pos 0)) (RenderChild.Leaf (natAbs (negsuc 0 -ℤ f))) (RenderChild.Node (natAbs f))
+
+unfoldable pub renderChildAt : List ℕ → ℕ → Step BspRenderNodeChild
+renderChildAt s at = andThen (i16At s at) (λ f p. ok (renderChild f) p)
+
+-- The box and the faces. The Rust also refuses a face count above 65,535, which no u16 is.
+unfoldable pub renderNodeEndAt : ℕ → BspRenderNodeChild → BspRenderNodeChild → List ℕ → ℕ → Step BspRenderNode
+renderNodeEndAt plane front back s at =
+    andThen (pointAt s at) (λ low p.
+    andThen (pointAt s p) (λ high q.
+    andThen (index16At s q) (λ face t.
+    andThen (u16At s t) (λ count next.
+    ok (record {
+      «plane_id» = plane;
+      front = front;
+      back = back;
+      min = low;
+      max = high;
+      «face_id» = face;
+      «face_count» = count;
+    }) next))))
+
+unfoldable pub renderNodeAt : List ℕ → ℕ → Step BspRenderNode
+renderNodeAt s at =
+    andThen (indexAt 10 s at) (λ plane p.
+    andThen (renderChildAt s p) (λ front q.
+    andThen (renderChildAt s q) (λ back t.
+    renderNodeEndAt plane front back s t)))
+
+-- contents, or 10
+abbrev pub withContents : {A : Type 0} → CodedContents → (BspLeafContents → Step A) → Step A
+withContents (Coded.Contents c) k = k c
+withContents Coded.Invalid k = refused 10
+
+-- a child x: a node, or if it is negative the contents of the code -x
+unfoldable pub collisionChildAt : List ℕ → ℕ → Step BspCollisionNodeChild
+collisionChildAt s at =
+    andThen (i16At s at) (λ x p.
+    when (ltZ x (pos 0))
+    (withContents (negatedContents w16 x) (λ c. ok (CollisionChild.Contents c) p))
+    (ok (CollisionChild.Node (natAbs x)) p))
+
+unfoldable pub collisionNodeAt : List ℕ → ℕ → Step BspCollisionNode
+collisionNodeAt s at =
+    andThen (indexAt 10 s at) (λ plane p.
+    andThen (collisionChildAt s p) (λ front q.
+    andThen (collisionChildAt s q) (λ back next.
+    ok (record { «plane_id» = plane; front = front; back = back }) next)))
+
+-- by index
+abbrev pub renderNodeOf : List ℕ → BspData → ℕ → Answer BspRenderNode
+renderNodeOf s m i = recordOf RenderNodes renderNodeAt s m i
+
+abbrev pub collisionNodeOf : List ℕ → BspData → ℕ → Answer BspCollisionNode
+collisionNodeOf s m i = recordOf CollisionNodes collisionNodeAt s m i
+
+-- what the answers of the readers stand for
+abbrev pub renderChildStep : ReadRenderChild → Step BspRenderNodeChild
+renderChildStep (Rch.Value x p) = ok x p
+renderChildStep Rch.EndOfFile = refused 1
+
+abbrev pub renderNodeStep : ReadRenderNode → Step BspRenderNode
+renderNodeStep (Ren.Value x p) = ok x p
+renderNodeStep (Ren.Refused e) = refused (numberOf e)
+
+abbrev pub renderNodeAnswer : RenderNodeAnswer → Answer BspRenderNode
+renderNodeAnswer (RenderA.Value x) = Answer.answer x
+renderNodeAnswer (RenderA.Refused e) = Answer.refused (numberOf e)
+
+abbrev pub collisionChildStep : ReadCollisionChild → Step BspCollisionNodeChild
+collisionChildStep (Cch.Value x p) = ok x p
+collisionChildStep (Cch.Refused e) = refused (numberOf e)
+
+abbrev pub collisionNodeStep : ReadCollisionNode → Step BspCollisionNode
+collisionNodeStep (Col.Value x p) = ok x p
+collisionNodeStep (Col.Refused e) = refused (numberOf e)
+
+abbrev pub collisionNodeAnswer : CollisionNodeAnswer → Answer BspCollisionNode
+collisionNodeAnswer (CollisionA.Value x) = Answer.answer x
+collisionNodeAnswer (CollisionA.Refused e) = Answer.refused (numberOf e)

@@ -1,0 +1,42 @@
+-- Fields that are numbers and are tested as they are read (10).
+use Prim.Native.Nat.{ℕ}
+use mathlib.Core.List.{List}
+use lib.Dec.{ltb}
+use lib.IntN.{ℤ, pos, negsuc, natAbs}
+use lib.Signed.{ltZ}
+use Rattle.format.specs.Step.{Step, ok, refused, andThen, when}
+use Rattle.format.specs.Field.{i16At, i32At, indexAt}
+use Rattle.format.specs.Refusal.{numberOf}
+use Rattle.records.specs.declared.number.OptionalOffset.{OptionalOffset}
+use Rattle.records.specs.declared.number.OptionalOffset.the-variants.{None, Some}
+use Rattle.records.specs.declared.number.ReadOffset.{ReadOffset}
+use Rattle.records.specs.declared.number.ReadOffset.the-variants as Off
+
+-- an i16 that is not negative
+unfoldable pub index16At : List ℕ → ℕ → Step ℕ
+index16At s at = andThen (i16At s at) (λ x p. when (ltZ x (pos 0)) (refused 10) (ok (natAbs x) p))
+
+-- an i16 from 0 to `most`
+unfoldable pub number16At : ℕ → List ℕ → ℕ → Step ℕ
+number16At most s at = andThen (index16At s at) (λ n p. when (ltb most n) (refused 10) (ok n p))
+
+-- an i32 from 0 to `most`
+unfoldable pub numberAt : ℕ → List ℕ → ℕ → Step ℕ
+numberAt most s at = andThen (indexAt 10 s at) (λ n p. when (ltb most n) (refused 10) (ok n p))
+
+-- an i16 of at least `least`
+unfoldable pub countAt : ℕ → List ℕ → ℕ → Step ℕ
+countAt least s at = andThen (index16At s at) (λ n p. when (ltb n least) (refused 10) (ok n p))
+
+-- the offset x; -1 stands for none
+unfoldable pub offsetOf : ℤ → OptionalOffset
+offsetOf x = when (ltZ x (pos 0)) None (Some (natAbs x))
+
+-- an i32 that is an offset, or -1 for none
+unfoldable pub offsetAt : List ℕ → ℕ → Step OptionalOffset
+offsetAt s at = andThen (i32At s at) (λ x p. when (ltZ x (negsuc 0)) (refused 10) (ok (offsetOf x) p))
+
+-- what the answer of the reader stands for
+abbrev pub offsetStep : ReadOffset → Step OptionalOffset
+offsetStep (Off.Value x p) = ok x p
+offsetStep (Off.Refused e) = refused (numberOf e)

@@ -1,0 +1,67 @@
+-- Texture infos (`load_texinfo`), with the file's texture number, which may equal the texture count.
+use Prim.Native.Nat.{ℕ}
+use mathlib.Core.List.{List}
+use mathlib.Core.Bool.{Bool, true, false}
+use lib.Dec.{eqb}
+use lib.Ieee.{Float}
+use Rattle.math.specs.declared.Vector3.{Vector3}
+use Rattle.format.specs.Step.{Step, ok, refused, andThen, when}
+use Rattle.format.specs.Answer as Answer
+use Rattle.format.specs.Answer.{Answer}
+use Rattle.format.specs.Refusal.{numberOf}
+use Rattle.format.specs.Field.{f32At, indexAt}
+use Rattle.format.specs.declared.section.BspData.{BspData}
+use Rattle.format.specs.declared.section.BspFileSectionId.the-variants.{TextureInfo}
+use Rattle.records.specs.Access.{recordOf}
+use Rattle.records.specs.Number.{numberAt}
+use Rattle.records.specs.Triple.{vectorAt}
+use Rattle.records.specs.declared.texinfo.BspTexInfo.{BspTexInfo}
+use Rattle.records.specs.declared.texinfo.ReadFlag.{ReadFlag}
+use Rattle.records.specs.declared.texinfo.ReadFlag.the-variants as Fla
+use Rattle.records.specs.declared.texinfo.ReadTexInfo.{ReadTexInfo}
+use Rattle.records.specs.declared.texinfo.ReadTexInfo.the-variants as Tex
+use Rattle.records.specs.declared.texinfo.TexInfoAnswer.{TexInfoAnswer}
+use Rattle.records.specs.declared.texinfo.TexInfoAnswer.the-variants as TexA
+
+-- an i32 that is 0 or 1
+unfoldable pub flagAt : List ℕ → ℕ → Step Bool
+flagAt s at = andThen (indexAt 10 s at) (λ n p. when (eqb n 0) (ok false p) (when (eqb n 1) (ok true p) (refused 10)))
+
+-- what follows the second vector
+unfoldable pub texinfoEndAt : ℕ → Vector3 → Float → Vector3 → List ℕ → ℕ → Step BspTexInfo
+texinfoEndAt textures sVector sOffset tVector s at =
+    andThen (f32At s at) (λ tOffset p.
+    andThen (numberAt textures s p) (λ texture q.
+    andThen (flagAt s q) (λ special next.
+    ok (record {
+      «s_vector» = sVector;
+      «s_offset» = sOffset;
+      «t_vector» = tVector;
+      «t_offset» = tOffset;
+      «tex_id» = texture;
+      special = special;
+    }) next)))
+
+unfoldable pub texinfoAt : ℕ → List ℕ → ℕ → Step BspTexInfo
+texinfoAt textures s at =
+    andThen (vectorAt s at) (λ sVector p.
+    andThen (f32At s p) (λ sOffset q.
+    andThen (vectorAt s q) (λ tVector t.
+    texinfoEndAt textures sVector sOffset tVector s t)))
+
+-- by index
+abbrev pub texinfoOf : List ℕ → BspData → ℕ → Answer BspTexInfo
+texinfoOf s m i = recordOf TextureInfo (texinfoAt (m .«texture_count»)) s m i
+
+-- what the answers of the readers stand for
+abbrev pub flagStep : ReadFlag → Step Bool
+flagStep (Fla.Value x p) = ok x p
+flagStep (Fla.Refused e) = refused (numberOf e)
+
+abbrev pub texinfoStep : ReadTexInfo → Step BspTexInfo
+texinfoStep (Tex.Value x p) = ok x p
+texinfoStep (Tex.Refused e) = refused (numberOf e)
+
+abbrev pub texinfoAnswer : TexInfoAnswer → Answer BspTexInfo
+texinfoAnswer (TexA.Value x) = Answer.answer x
+texinfoAnswer (TexA.Refused e) = Answer.refused (numberOf e)

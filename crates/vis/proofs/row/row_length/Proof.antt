@@ -1,0 +1,103 @@
+-- `row_length` meets its contract. The loop's invariant: the leaves counted and those of the row from here on make the row's length.
+-- Assumes nothing.
+use Prim.Native.Nat.{_+_, _-_, _<_}
+use native.Mathlib.Omega.{arith}
+use lib.Count.{ones-le}
+use lib.ListN.{length, getD}
+use Rattle.vis.proofs.Passes.{Counting, count-starts, count-done, count-ended, count-cut, count-zeros, count-byte}
+use Rattle.vis.proofs.row.row_length.Statement.{statement}
+use Rattle.vis.proofs.row.row_length.Tie as tie
+use Rattle.vis.proofs.row.row_length.Reads as reads
+use Rattle.vis.proofs.row.row_length.Lts as lts
+
+abbrev Inv-loop : tie.InvT-loop
+Inv-loop visibility offset leaf-count at₀ leaf₀ count₀ at leaf count = Counting visibility offset leaf-count at leaf count
+
+abbrev μ-loop : tie.MeasureT-loop
+μ-loop visibility offset leaf-count at₀ leaf₀ count₀ at leaf count = length visibility - at
+
+-- a byte is below 256
+byte : (c : lts.Then2 reads.Pre reads.Post Inv-loop μ-loop) → getD (c .before .before .before .before .before .args .visibility .now) (c .before .before .before .before .loop .at) 0 < 256
+byte c = c .before .shared-slice-known .given (c .before .before .before .before .loop .at) .fits
+
+follower : (c : lts.After-shared-slice-known2 reads.Pre reads.Post Inv-loop μ-loop) → getD (c .before .before .before .before .before .before .before .args .visibility .now) (c .before .before .before .before .before .before .loop .at + 1) 0 < 256
+follower c = c .shared-slice-known2 .given (c .before .before .before .before .before .before .loop .at + 1) .fits
+
+loop-holds : tie.Need-loop-holds Inv-loop μ-loop
+loop-holds c = count-starts _ _ _ (c .pre .1)
+
+returns : tie.Need-returns Inv-loop μ-loop
+returns c = count-ended _ _ _ _ _ _ (c .before .before .loop .inv) (c .before .loop-test .taken) (c .if1 .taken)
+
+shared-slice-read-byte : tie.Need-shared-slice-read-byte Inv-loop μ-loop
+shared-slice-read-byte c = omega arith
+
+add-at : tie.Need-add-at Inv-loop μ-loop
+add-at c = omega arith
+
+cast-count : tie.Need-cast-count Inv-loop μ-loop
+cast-count c = omega (arith, ones-le 8 _ (byte c))
+
+add-count : tie.Need-add-count Inv-loop μ-loop
+add-count c = omega (arith, ones-le 8 _ (byte c), c .before .before .before .before .loop .inv .few)
+
+add-leaf : tie.Need-add-leaf Inv-loop μ-loop
+add-leaf c = omega arith
+
+loop-less : tie.Need-loop-less Inv-loop μ-loop
+loop-less c = omega arith
+
+loop-again : tie.Need-loop-again Inv-loop μ-loop
+loop-again c = count-byte _ _ _ _ _ _ (c .before .before .before .before .loop .inv) (c .before .before .before .loop-test .taken) (c .before .before .if1 .left) (c .if2 .taken) (byte c)
+
+returns-2 : tie.Need-returns-2 Inv-loop μ-loop
+returns-2 c = count-cut _ _ _ _ _ _ (c .before .before .before .before .before .loop .inv) (c .before .before .before .before .loop-test .taken) (c .before .before .before .if1 .left) (c .before .if2 .left) (c .if3 .taken)
+
+shared-slice-read-leaf : tie.Need-shared-slice-read-leaf Inv-loop μ-loop
+shared-slice-read-leaf c = omega arith
+
+cast-leaf : tie.Need-cast-leaf Inv-loop μ-loop
+cast-leaf c = omega (arith, follower c)
+
+mul-leaf : tie.Need-mul-leaf Inv-loop μ-loop
+mul-leaf c = omega (arith, follower c)
+
+add-leaf-2 : tie.Need-add-leaf-2 Inv-loop μ-loop
+add-leaf-2 c = omega (arith, follower c)
+
+add-at-2 : tie.Need-add-at-2 Inv-loop μ-loop
+add-at-2 c = omega arith
+
+loop-less-2 : tie.Need-loop-less-2 Inv-loop μ-loop
+loop-less-2 c = omega arith
+
+loop-again-2 : tie.Need-loop-again-2 Inv-loop μ-loop
+loop-again-2 c = count-zeros _ _ _ _ _ _ (c .before .before .before .before .before .before .loop .inv) (c .before .before .before .before .before .loop-test .taken) (c .before .if3 .left) (c .before .before .if2 .left) (follower c)
+
+returns-3 : tie.Need-returns-3 Inv-loop μ-loop
+returns-3 c = count-done _ _ _ _ _ _ (c .before .loop .inv) (c .loop-test .left)
+
+pub row-length-spec : {M : Type 1} → statement M
+row-length-spec =
+    tie.close
+    (tie.spec
+    Inv-loop
+    μ-loop
+    loop-holds
+    returns
+    shared-slice-read-byte
+    add-at
+    cast-count
+    add-count
+    add-leaf
+    loop-less
+    loop-again
+    returns-2
+    shared-slice-read-leaf
+    cast-leaf
+    mul-leaf
+    add-leaf-2
+    add-at-2
+    loop-less-2
+    loop-again-2
+    returns-3)
