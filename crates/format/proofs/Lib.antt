@@ -3,4 +3,6 @@ pub mod Fields
 pub mod Twos
 pub mod Codes
 pub mod Places
+pub mod Layouts
+pub mod Steps
 pub mod Chain

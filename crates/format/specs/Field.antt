@@ -49,9 +49,13 @@ i32At s at = andThen (u32At s at) (λ n p. ok (toZ w32 n) p)
 unfoldable pub f32At : List ℕ → ℕ → Step Float
 f32At s at = andThen (u32At s at) (λ n p. ok (ofBits binary32 n) p)
 
--- an i32 that is not negative, else the refusal n
+-- a number that is not negative, else the refusal n
+abbrev pub notNegative : ℕ → ℤ → ℕ → Step ℕ
+notNegative n x p = when (ltZ x (pos 0)) (refused n) (ok (natAbs x) p)
+
+-- an i32 that is not negative
 unfoldable pub indexAt : ℕ → List ℕ → ℕ → Step ℕ
-indexAt n s at = andThen (i32At s at) (λ x p. when (ltZ x (pos 0)) (refused n) (ok (natAbs x) p))
+indexAt n s at = andThen (i32At s at) (λ x p. notNegative n x p)
 
 -- what the answers of the readers stand for
 abbrev pub u8Step : ReadU8 → Step ℕ

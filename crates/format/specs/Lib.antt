@@ -6,3 +6,4 @@ pub mod Step
 pub mod Field
 pub mod Code
 pub mod Section
+pub mod Layout

@@ -2,3 +2,4 @@
 pub mod Chain
 pub mod Models
 pub mod Texts
+pub mod ModelLayout

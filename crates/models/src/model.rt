@@ -1,8 +1,6 @@
 // Models.
 ghost use mathlib.Core.Path.{_≡_};
 ghost use Rattle.models.specs.Model.{paddedBounds, boundsAt, boundsStep, rootsAt, rootsStep, fileModelAt, fileModelEndAt, fileModelStep, fileModelOf, fileModelAnswer, leafIdOf, leafIdAnswer, nodeCounts, withRest, modelOf, modelAnswer, leafRange};
-use records::triple::ReadVector;
-use records::triple::read_vector;
 use format::field::ReadI32;
 use format::field::ReadIndex;
 use format::field::read_i32;
@@ -12,6 +10,8 @@ use format::section::BspData;
 use format::section::BspFileSectionId;
 use format::section::Place;
 use math::Vector3;
+use records::triple::ReadVector;
+use records::triple::read_vector;
 
 // The Rust's `[usize; MAX_HULLS]`.
 pub struct PerHull {

@@ -2,3 +2,5 @@
 pub mod Chain
 pub mod Signs
 pub mod Readable
+pub mod Agree
+pub mod RecordLayouts

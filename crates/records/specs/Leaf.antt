@@ -1,6 +1,7 @@
 -- Leaves: contents code, visibility offset, box, faces, and four sound bytes, of which the file may lack some.
 use Prim.Native.Nat.{ℕ, _+_, _-_, min}
 use mathlib.Core.List.{List}
+use lib.IntN.{ℤ}
 use lib.ListN.{length, getD}
 use mir.Syntax.{w32}
 use Rattle.format.specs.Step.{Step, ok, refused, andThen}
@@ -27,8 +28,11 @@ use Rattle.records.specs.declared.leaf.LeafAnswer.{LeafAnswer}
 use Rattle.records.specs.declared.leaf.LeafAnswer.the-variants as LeafA
 
 -- the contents of the code -x of an i32 x
+abbrev pub contents : ℤ → ℕ → Step BspLeafContents
+contents x p = withContents (negatedContents w32 x) (λ c. ok c p)
+
 unfoldable pub contentsAt : List ℕ → ℕ → Step BspLeafContents
-contentsAt s at = andThen (i32At s at) (λ x p. withContents (negatedContents w32 x) (λ c. ok c p))
+contentsAt s at = andThen (i32At s at) (λ x p. contents x p)
 
 -- a `read` takes what there is, and leaves the rest of its four zeros as they are
 abbrev pub soundsAt : List ℕ → ℕ → Sounds

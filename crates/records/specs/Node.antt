@@ -74,12 +74,14 @@ withContents (Coded.Contents c) k = k c
 withContents Coded.Invalid k = refused 10
 
 -- a child x: a node, or if it is negative the contents of the code -x
-unfoldable pub collisionChildAt : List ℕ → ℕ → Step BspCollisionNodeChild
-collisionChildAt s at =
-    andThen (i16At s at) (λ x p.
+abbrev pub collisionChild : ℤ → ℕ → Step BspCollisionNodeChild
+collisionChild x p =
     when (ltZ x (pos 0))
     (withContents (negatedContents w16 x) (λ c. ok (CollisionChild.Contents c) p))
-    (ok (CollisionChild.Node (natAbs x)) p))
+    (ok (CollisionChild.Node (natAbs x)) p)
+
+unfoldable pub collisionChildAt : List ℕ → ℕ → Step BspCollisionNodeChild
+collisionChildAt s at = andThen (i16At s at) (λ x p. collisionChild x p)
 
 unfoldable pub collisionNodeAt : List ℕ → ℕ → Step BspCollisionNode
 collisionNodeAt s at =

@@ -23,9 +23,12 @@ use Rattle.records.specs.declared.texinfo.ReadTexInfo.the-variants as Te
 use Rattle.records.specs.declared.texinfo.TexInfoAnswer.{TexInfoAnswer}
 use Rattle.records.specs.declared.texinfo.TexInfoAnswer.the-variants as TexA
 
--- an i32 that is 0 or 1
+-- 0 or 1
+abbrev pub flag : ℕ → ℕ → Step Bool
+flag n p = when (eqb n 0) (ok false p) (when (eqb n 1) (ok true p) (refused 10))
+
 unfoldable pub flagAt : List ℕ → ℕ → Step Bool
-flagAt s at = andThen (indexAt 10 s at) (λ n p. when (eqb n 0) (ok false p) (when (eqb n 1) (ok true p) (refused 10)))
+flagAt s at = andThen (indexAt 10 s at) (λ n p. flag n p)
 
 -- what follows the second vector
 unfoldable pub texinfoEndAt : ℕ → Vector3 → Float → Vector3 → List ℕ → ℕ → Step BspTexInfo

@@ -1,0 +1,6 @@
+-- Laws about the definitions of `faces`, and what its proofs share.
+pub mod Chain
+pub mod Spans
+pub mod FaceLayout
+pub mod Zeros
+pub mod ExtentZeros

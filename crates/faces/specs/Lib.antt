@@ -1,0 +1,3 @@
+-- What the contracts of `faces` cite.
+pub mod Face
+pub mod Extents

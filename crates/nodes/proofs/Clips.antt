@@ -1,0 +1,136 @@
+-- A clip node as its words: what the reader at a position makes of them.
+-- Assumes nothing.
+use Prim.Native.Nat.{ℕ, zero, suc, _+_, _-_, _^_, _<_, _≤_}
+use mathlib.Core.Path.{_≡_, refl, sym, ap, _∙_, subst}
+use mathlib.Core.Bool.{Bool, true, false, cond}
+use mathlib.Core.List.{List}
+use native.Mathlib.Omega.{arith}
+use borrow.Author.Tests.{lt-ltb, le-ltb, ltb-true, ltb-false, ne-eqb}
+use lib.Dec.{ltb}
+use lib.ListN.{length}
+use mir.Syntax.{w16}
+use Rattle.format.specs.Answer as Ans
+use Rattle.format.specs.Answer.{Answer, answer}
+use Rattle.format.specs.Step.{Step, ok, refused}
+use Rattle.format.specs.Code.{contentsOf}
+use Rattle.format.proofs.Codes.{high}
+use Rattle.format.specs.declared.code.CodedContents.{CodedContents}
+use Rattle.format.specs.declared.code.CodedContents.the-variants.{Contents, Invalid}
+use Rattle.records.specs.Access.{reading}
+use Rattle.records.specs.Node.{withContents, collisionChildAt, collisionNodeAt}
+use Rattle.records.specs.declared.node.BspCollisionNodeChild.{BspCollisionNodeChild}
+use Rattle.records.specs.declared.node.BspCollisionNodeChild.the-variants as C
+use Rattle.records.specs.declared.node.BspCollisionNode.{BspCollisionNode}
+use Rattle.nodes.specs.Tables.{clipChild, clipNode, mapped}
+use Rattle.nodes.specs.Fast.{u16, u32, isInvalid, invalid, childOf, nodeOf, clipNodeHere}
+use Rattle.nodes.specs.declared.table.HullTable.the-variants.{Clip}
+use Rattle.nodes.specs.declared.read.Words.{Words}
+use Rattle.nodes.proofs.Numbers.{low, high-code, i16-is, index-is, index-not}
+
+-- ---- which codes stand for contents: 1 to 5 and 9 to 14
+
+pub few : (n : ℕ) → 1 ≤ n → n ≤ 5 → isInvalid (contentsOf n) ≡ false
+unfolding contentsOf
+few zero a b = absurd (omega arith)
+few (suc zero) a b = refl
+few (suc (suc zero)) a b = refl
+few (suc (suc (suc zero))) a b = refl
+few (suc (suc (suc (suc zero)))) a b = refl
+few (suc (suc (suc (suc (suc zero))))) a b = refl
+few (suc (suc (suc (suc (suc (suc n)))))) a b = absurd (omega arith)
+
+pub between : (n : ℕ) → 5 < n → n < 9 → isInvalid (contentsOf n) ≡ true
+unfolding contentsOf
+between n a b =
+    simp
+    (ne-eqb n 1 (λ e. omega arith), ne-eqb n 2 (λ e. omega arith), ne-eqb n 3 (λ e. omega arith), ne-eqb n 4 (λ e. omega arith), ne-eqb n 5 (λ e. omega arith), ne-eqb n 9 (λ e. omega arith), ne-eqb n 10 (λ e. omega arith), ne-eqb n 11 (λ e. omega arith), ne-eqb n 12 (λ e. omega arith), ne-eqb n 13 (λ e. omega arith), ne-eqb n 14 (λ e. omega arith))
+
+many : (m : ℕ) → m ≤ 5 → isInvalid (contentsOf (9 + m)) ≡ false
+unfolding contentsOf
+many zero h = refl
+many (suc zero) h = refl
+many (suc (suc zero)) h = refl
+many (suc (suc (suc zero))) h = refl
+many (suc (suc (suc (suc zero)))) h = refl
+many (suc (suc (suc (suc (suc zero))))) h = refl
+many (suc (suc (suc (suc (suc (suc n)))))) h = absurd (omega arith)
+
+pub currents : (n : ℕ) → 9 ≤ n → n ≤ 14 → isInvalid (contentsOf n) ≡ false
+currents n a b = let q : 9 + (n - 9) ≡ n = omega arith in subst (λ (x : ℕ). isInvalid (contentsOf x) ≡ false) q (many (n - 9) (omega arith))
+
+module _ (w : ℕ) where
+  pub is-node : w < 32768 → false ≡ invalid w
+  unfolding invalid
+  is-node h = simp (lt-ltb w 32768 h)
+
+  by-code : 32768 ≤ w → (b : Bool) → isInvalid (contentsOf (65536 - w)) ≡ b → b ≡ invalid w
+  unfolding invalid
+  by-code h b q = simp (le-ltb w 32768 h) (sym q)
+
+  pub too-high : 32768 ≤ w → w < 65522 → true ≡ invalid w
+  too-high a b = by-code a true (ap isInvalid (high (65536 - w) (omega arith)))
+
+  pub a-current : 65522 ≤ w → w < 65528 → false ≡ invalid w
+  a-current a b = by-code (omega arith) false (currents (65536 - w) (omega arith) (omega arith))
+
+  pub last : 65528 ≤ w → w < 65536 → (b : Bool) → ltb w 65531 ≡ b → b ≡ invalid w
+  last a f true q = let h = ltb-true w 65531 q in by-code (omega arith) true (between (65536 - w) (omega arith) (omega arith))
+  last a f false q = let h = ltb-false w 65531 q in by-code (omega arith) false (few (65536 - w) (omega arith) (omega arith))
+
+-- a child's word w
+module _ (s : List ℕ) (at w : ℕ) (e : w ≡ u16 s at) (fits : w < 65536) (h : at + 2 ≤ length s) where
+  below-half : w < 32768 → collisionChildAt s at ≡ ok (C.Node w) (at + 2)
+  unfolding collisionChildAt
+  below-half l = rw (i16-is s at h, ← e) (rw (low w16 w l) (simp (le-ltb w 0 (omega arith))))
+
+  above-half : 32768 ≤ w → collisionChildAt s at ≡ withContents (contentsOf (65536 - w)) (λ c. ok (C.Contents c) (at + 2))
+  unfolding collisionChildAt
+  above-half l = rw (i16-is s at h, ← e) (simp (le-ltb w 32768 l) (ap (λ k. withContents k (λ c. ok (C.Contents c) (at + 2))) (rw (le-ltb w 32768 l) at (high-code w16 (omega arith) w (65536 - w) l (omega arith) (omega arith)))))
+
+  bad-case : (b : Bool) → ltb w 32768 ≡ b → (k : CodedContents) → contentsOf (65536 - w) ≡ k → cond b false (isInvalid k) ≡ true → collisionChildAt s at ≡ refused 10
+  bad-case true q k r t = let z : _≡_ {A = ℕ} 0 1 = cc in absurd (omega arith)
+  bad-case false q (Contents c) r t = let z : _≡_ {A = ℕ} 0 1 = cc in absurd (omega arith)
+  bad-case false q Invalid r t = above-half (ltb-false w 32768 q) ∙ rw r
+
+  pub bad-child : invalid w ≡ true → collisionChildAt s at ≡ refused 10
+  unfolding invalid
+  bad-child t = bad-case (ltb w 32768) refl (contentsOf (65536 - w)) refl t
+
+  abbrev pub Child : Type 0
+  Child = (ch : BspCollisionNodeChild) × (collisionChildAt s at ≡ ok ch (at + 2)) × (clipChild ch ≡ childOf Clip w)
+
+  good-case : (b : Bool) → ltb w 32768 ≡ b → (k : CodedContents) → contentsOf (65536 - w) ≡ k → cond b false (isInvalid k) ≡ false → Child
+  good-case true q k r t = (C.Node w, below-half (ltb-true w 32768 q), simp q)
+  good-case false q (Contents c) r t = (C.Contents c, above-half (ltb-false w 32768 q) ∙ rw r, simp (q, r))
+  good-case false q Invalid r t = let z : _≡_ {A = ℕ} 0 1 = cc in absurd (omega arith)
+
+  pub good-child : invalid w ≡ false → Child
+  unfolding invalid
+  good-child t = good-case (ltb w 32768) refl (contentsOf (65536 - w)) refl t
+
+module _ (s : List ℕ) (at p f b : ℕ) (h : at + 8 ≤ length s) (is-p : p ≡ u32 s at) where
+  pub bad-plane : 2147483648 ≤ p → Ans.refused 23 ≡ clipNodeHere s at
+  unfolding clipNodeHere collisionNodeAt
+  bad-plane l = rw (index-not s at 10 (omega arith) (rw is-p at l))
+
+  module _ (l : p < 2147483648) (is-f : f ≡ u16 s (at + 4)) (fits-f : f < 65536) where
+    pub bad-front : invalid f ≡ true → Ans.refused 23 ≡ clipNodeHere s at
+    unfolding clipNodeHere collisionNodeAt
+    bad-front t = rw (index-is s at 10 (omega arith) (rw is-p at l), bad-child s (at + 4) f is-f fits-f (omega arith) t)
+
+    module _ (ok-f : invalid f ≡ false) (is-b : b ≡ u16 s (at + 6)) (fits-b : b < 65536) where
+      back-place : at + 4 + 2 ≡ at + 6
+      back-place = omega arith
+
+      pub bad-back : invalid b ≡ true → Ans.refused 23 ≡ clipNodeHere s at
+      unfolding clipNodeHere collisionNodeAt
+      bad-back t =
+          let g = good-child s (at + 4) f is-f fits-f (omega arith) ok-f in
+          rw (index-is s at 10 (omega arith) (rw is-p at l), g .1, back-place, bad-child s (at + 6) b is-b fits-b (omega arith) t)
+
+      pub all-good : invalid b ≡ false → answer (nodeOf Clip (record { plane = p; front = f; back = b })) ≡ clipNodeHere s at
+      unfolding clipNodeHere collisionNodeAt
+      all-good t =
+          let g = good-child s (at + 4) f is-f fits-f (omega arith) ok-f in
+          let k = good-child s (at + 6) b is-b fits-b (omega arith) t in
+          rw (index-is s at 10 (omega arith) (rw is-p at l), g .1, back-place, k .1) (rw (g .2, k .2, is-p))

@@ -1,0 +1,94 @@
+-- A node and an end, by which table it is of.
+-- Assumes nothing.
+use Prim.Native.Nat.{ℕ, zero, suc, _+_, _-_, _<_, _≤_}
+use mathlib.Core.Path.{_≡_, refl, sym, ap, _∙_}
+use mathlib.Core.Bool.{Bool, true, false}
+use mathlib.Core.List.{List, [], _∷_}
+use native.Mathlib.Omega.{arith}
+use borrow.Author.Tests.{lt-ltb, le-ltb}
+use lib.ListN.{length}
+use Rattle.format.specs.Answer as Ans
+use Rattle.format.specs.Answer.{Answer, answer}
+use Rattle.format.specs.Refusal.{numberOf}
+use Rattle.format.specs.Code.{contentsOf}
+use Rattle.format.specs.Section.{placeAnswer}
+use Rattle.format.specs.declared.contents.BspLeafContents.{BspLeafContents}
+use Rattle.format.specs.declared.code.CodedContents.{CodedContents}
+use Rattle.format.specs.declared.refusal.Refusal.{Refusal}
+use Rattle.format.specs.declared.section.Place.{Place}
+use Rattle.format.specs.declared.section.Place.the-variants.{At, Refused}
+use Rattle.walk.specs.Walk.{meet}
+use Rattle.nodes.specs.Tables.{nth}
+use Rattle.nodes.specs.Fast.{isRender, placeIn, hereAt, coded, wordsAnswer, renderNodeHere, clipNodeHere, boxNode, nodeIn, nodeAt, leafContentsHere, endOf, table, contentsMet}
+use Rattle.nodes.specs.declared.table.HullTable.{HullTable}
+use Rattle.nodes.specs.declared.table.HullTable.the-variants.{Render, Clip, Box}
+use Rattle.nodes.specs.declared.table.Tables.{Tables}
+use Rattle.nodes.specs.declared.read.ReadWords.{ReadWords}
+
+-- past the end of a list
+pub nth-past : {A : Type 0} (l : List A) (i : ℕ) → length l ≤ i → nth l i ≡ Ans.refused 20
+nth-past [] i h = refl
+nth-past (x ∷ xs) zero h = absurd (omega arith)
+nth-past (x ∷ xs) (suc i) h = nth-past xs i (omega arith)
+
+-- ---- the words of a node
+
+module _ (s : List ℕ) (t : Tables) (i : ℕ) where
+  module _ (e : t .table ≡ Render) (r : Place) (is-r : placeAnswer r ≡ placeIn (t .nodes) 24 (length s) i) where
+    pub render-at : (w : ReadWords) (at : ℕ) → r ≡ At at → wordsAnswer Render w ≡ renderNodeHere s at → wordsAnswer (t .table) w ≡ nodeAt s t i
+    unfolding nodeAt
+    render-at w at q a = rw e (a ∙ sym (ap (λ x. hereAt x (renderNodeHere s)) (sym is-r ∙ ap placeAnswer q)))
+
+    pub render-not : (x : Refusal) → r ≡ Refused x → Ans.refused (numberOf x) ≡ nodeAt s t i
+    unfolding nodeAt
+    render-not x q = rw e (sym (ap (λ y. hereAt y (renderNodeHere s)) (sym is-r ∙ ap placeAnswer q)))
+
+  module _ (e : t .table ≡ Clip) (r : Place) (is-r : placeAnswer r ≡ placeIn (t .nodes) 8 (length s) i) where
+    pub clip-at : (w : ReadWords) (at : ℕ) → r ≡ At at → wordsAnswer Clip w ≡ clipNodeHere s at → wordsAnswer (t .table) w ≡ nodeAt s t i
+    unfolding nodeAt
+    clip-at w at q a = rw e (a ∙ sym (ap (λ x. hereAt x (clipNodeHere s)) (sym is-r ∙ ap placeAnswer q)))
+
+    pub clip-not : (x : Refusal) → r ≡ Refused x → Ans.refused (numberOf x) ≡ nodeAt s t i
+    unfolding nodeAt
+    clip-not x q = rw e (sym (ap (λ y. hereAt y (clipNodeHere s)) (sym is-r ∙ ap placeAnswer q)))
+
+  pub box-at : (w : ReadWords) → t .table ≡ Box → wordsAnswer Box w ≡ boxNode i → wordsAnswer (t .table) w ≡ nodeAt s t i
+  unfolding nodeAt
+  box-at w e a = rw e a
+
+-- ---- the contents at an end
+
+module _ (s : List ℕ) (t : Tables) (w : ℕ) (b : Bool) (is-b : b ≡ isRender (t .table)) where
+  a-render : (tab : HullTable) → isRender tab ≡ true → tab ≡ Render
+  a-render Render e = refl
+  a-render Clip e = let z : _≡_ {A = ℕ} 0 1 = cc in absurd (omega arith)
+  a-render Box e = let z : _≡_ {A = ℕ} 0 1 = cc in absurd (omega arith)
+
+  module _ (e : b ≡ true) where
+    is-render : t .table ≡ Render
+    is-render = a-render (t .table) (sym is-b ∙ e)
+
+    pub no-leaf : t .leaves .count ≤ 65535 - w → Ans.refused 30 ≡ contentsMet s t w
+    unfolding contentsMet meet
+    no-leaf h = rw is-render (simp (le-ltb (65535 - w) (t .leaves .count) h))
+
+    module _ (h : 65535 - w < t .leaves .count) (r : Place) (is-r : placeAnswer r ≡ placeIn (t .leaves) 28 (length s) (65535 - w)) where
+      at-place : hereAt (placeAnswer r) (leafContentsHere s) ≡ contentsMet s t w
+      unfolding contentsMet meet
+      at-place = rw (is-render, is-r) (simp (lt-ltb (65535 - w) (t .leaves .count) h))
+
+      pub leaf-at : (at : ℕ) (x : Answer BspLeafContents) → r ≡ At at → x ≡ leafContentsHere s at → x ≡ contentsMet s t w
+      leaf-at at x q a = a ∙ sym (ap (λ y. hereAt (placeAnswer y) (leafContentsHere s)) q) ∙ at-place
+
+      pub leaf-not : (x : Refusal) → r ≡ Refused x → Ans.refused (numberOf x) ≡ contentsMet s t w
+      leaf-not x q = sym (ap (λ y. hereAt (placeAnswer y) (leafContentsHere s)) q) ∙ at-place
+
+  by-code : (tab : HullTable) → isRender tab ≡ false → answer (coded (contentsOf (65536 - w))) ≡ meet (table s t) (endOf tab w)
+  unfolding meet
+  by-code Render e = let z : _≡_ {A = ℕ} 0 1 = cc in absurd (omega arith)
+  by-code Clip e = refl
+  by-code Box e = refl
+
+  pub code-met : b ≡ false → (k l : CodedContents) → k ≡ contentsOf (65536 - w) → k ≡ l → answer (coded l) ≡ contentsMet s t w
+  unfolding contentsMet
+  code-met e k l is-k q = ap (λ x. answer (coded x)) (sym q ∙ is-k) ∙ by-code (t .table) (sym is-b ∙ e)

@@ -1,0 +1,3 @@
+-- What the contracts of `nodes` cite.
+pub mod Tables
+pub mod Fast

@@ -1,0 +1,4 @@
+-- What the contracts of `sections` cite.
+pub mod Position
+pub mod Table
+pub mod Row

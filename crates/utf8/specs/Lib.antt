@@ -1,0 +1,2 @@
+-- What the contracts of `utf8` cite.
+pub mod Unicode
