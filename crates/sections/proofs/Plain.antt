@@ -1,25 +1,23 @@
 -- Records whose fields are not tested: a row of them is one test of the length.
 -- Assumes nothing.
 use Prim.Native.Nat.{ℕ, zero, suc, _+_, _*_, _<_, _≤_, zero-le}
-use mathlib.Core.Path.{_≡_, refl, sym, ap, _∙_, subst}
+use mathlib.Core.Path.{_≡_, refl, sym, ap, _∙_}
 use mathlib.Core.List.{List}
-use mathlib.Core.Logic.{_⊎_, inl, inr, ⊎-elim}
 use mathlib.Core.Bool.{Bool, true, false, or-true}
 use native.Mathlib.Nat.{zero-mul, suc-mul, add-zero, add-assoc, div-mul-le-self}
 use native.Mathlib.Omega.{arith}
-use borrow.Author.Tests.{lt-leb, le-leb, leb-true, leb-false, ne-eqb}
-use lib.Dec.{leb, eqb}
+use borrow.Author.Tests.{leb-true, leb-false, ne-eqb}
+use lib.Dec.{leb}
 use lib.ListN.{length}
-use Rattle.format.specs.Step.{Step, ok, refused, andThen, when}
+use Rattle.format.specs.Step.{Step, ok, refused, andThen}
 use Rattle.format.specs.Field.{field, u8At, u16At, u32At, i16At, i32At, f32At}
 use Rattle.format.specs.Section.{elementSize, recordCount}
 use Rattle.format.specs.declared.section.BspFileSection.{BspFileSection}
 use Rattle.format.specs.declared.section.BspFileSectionId.{BspFileSectionId}
 use Rattle.format.proofs.Places.{some-bytes}
-use Rattle.sections.specs.Position.{checkEndPosition}
 use Rattle.format.proofs.Fields as Fields
 use Rattle.sections.specs.Row.{records, section, plain, plainSection}
-use Rattle.sections.proofs.Loops.{done, more, stop}
+use Rattle.sections.proofs.Loops.{done}
 
 -- k bytes are read, whatever they are
 pub record Plain {A : Type 0} (one : List ℕ → ℕ → Step A) (k : ℕ) : Type 0 where

@@ -2,7 +2,7 @@
 -- more bytes are to follow in the character, the next of them from lo to hi.
 use Prim.Native.Nat.{ℕ, _-_}
 use mathlib.Core.List.{List, [], _∷_}
-use mathlib.Core.Bool.{Bool, true, false}
+use mathlib.Core.Bool.{Bool, false}
 use lib.Dec.{ltb, eqb}
 use Rattle.format.specs.Step.{when}
 use Rattle.utf8.specs.declared.Utf8.{Utf8}

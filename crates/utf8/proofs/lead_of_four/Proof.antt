@@ -1,6 +1,5 @@
 -- `utf8::lead_of_four` meets its contract: a chain of reads and tests.
 -- Assumes nothing.
-use borrow.Author.Needs.{needs}
 use Rattle.format.proofs.Chain.{tests}
 use Rattle.utf8.specs.Unicode.{leadFour}
 use Rattle.utf8.proofs.lead_of_four.Statement.{statement}

@@ -1,0 +1,125 @@
+-- `descend` meets its contract. The loop's invariant: the trace from the present node, with the calls left and the visits so far, says what
+-- the trace from the first one says.
+-- Assumes nothing.
+use Prim.Native.Nat.{_≤_}
+use native.Mathlib.Omega.{arith}
+use mathlib.Core.Path.{_≡_, refl, sym, ap, _∙_}
+use Rattle.walk.specs.Walk.{after}
+use Rattle.walk.specs.Trace.{recursiveTrace}
+use Rattle.walk.proofs.Steps.{trace-outside, trace-spent}
+use Rattle.nodes.specs.Fast as Fast
+use Rattle.hull.proofs.Descents.{unread, no-plane, crosses, to-node, in-leaf, no-leaf}
+use borrow.Author.Needs.{needs}
+use Rattle.hull.proofs.tracing.descend.Statement.{statement}
+use Rattle.hull.proofs.tracing.descend.Tie as tie
+
+abbrev Inv-loop : tie.InvT-loop
+Inv-loop s t node0 start end left0 visits0 nodes node₀ left₀ visits₀ node left visits =
+    (left ≤ left0)
+    × (after visits (recursiveTrace (Fast.table s t) left node start end) ≡ after visits0 (recursiveTrace (Fast.table s t) left0 node0 start end))
+
+abbrev μ-loop : tie.MeasureT-loop
+μ-loop s t node0 start end left0 visits0 nodes node₀ left₀ visits₀ node left visits = left
+
+loop-holds : tie.Need-loop-holds Inv-loop μ-loop
+loop-holds c = (search needs, refl)
+
+cast-if1 : tie.Need-cast-if1 Inv-loop μ-loop
+cast-if1 c = search needs
+
+returns : tie.Need-returns Inv-loop μ-loop
+returns c = record { says = sym (ap (after _) (trace-outside _ _ _ _ _ (c .if1 .taken))) ∙ c .before .before .loop .inv .1; falls = search needs }
+
+returns-2 : tie.Need-returns-2 Inv-loop μ-loop
+returns-2 c = record { says = sym (ap (after _) (trace-spent _ _ _ _ _ (c .if2 .taken) (c .before .if1 .left))) ∙ c .before .before .before .loop .inv .1; falls = search needs }
+
+read-words-requires : tie.Need-read-words-requires Inv-loop μ-loop
+read-words-requires c κs = search needs
+
+enum-known-e : tie.Need-enum-known-e Inv-loop μ-loop
+enum-known-e c = search needs
+
+returns-3 : tie.Need-returns-3 Inv-loop μ-loop
+returns-3 c = record { says = unread _ _ _ _ _ _ _ (c .before .before .before .before .if2 .left) (c .before .before .before .before .before .if1 .left) _ (c .before .before .before .read-words .ensures) _ (c .before .e .given .1) ∙ c .before .before .before .before .before .before .before .loop .inv .1; falls = search needs }
+
+enum-known-w : tie.Need-enum-known-w Inv-loop μ-loop
+enum-known-w c = search needs
+
+cast-dists-at : tie.Need-cast-dists-at Inv-loop μ-loop
+cast-dists-at c = search needs
+
+dists-at-requires : tie.Need-dists-at-requires Inv-loop μ-loop
+dists-at-requires c κs = search needs
+
+enum-known-e-2 : tie.Need-enum-known-e-2 Inv-loop μ-loop
+enum-known-e-2 c = search needs
+
+returns-4 : tie.Need-returns-4 Inv-loop μ-loop
+returns-4 c = record { says = no-plane _ _ _ _ _ _ _ (c .before .before .before .before .before .before .before .before .before .if2 .left) (c .before .before .before .before .before .before .before .before .before .before .if1 .left) _ (c .before .before .before .before .before .before .before .before .read-words .ensures) _ (c .before .before .before .before .before .before .w .given .1) _ (c .before .before .before .dists-at .ensures) _ (c .before .e2 .given .1) ∙ c .before .before .before .before .before .before .before .before .before .before .before .before .loop .inv .1; falls = search needs }
+
+enum-known-a : tie.Need-enum-known-a Inv-loop μ-loop
+enum-known-a c = search needs
+
+one-more-requires : tie.Need-one-more-requires Inv-loop μ-loop
+one-more-requires c κs = search needs
+
+sub-left : tie.Need-sub-left Inv-loop μ-loop
+sub-left c = omega (arith, c .before .before .before .before .before .before .before .before .before .before .if2 .left)
+
+returns-5 : tie.Need-returns-5 Inv-loop μ-loop
+returns-5 c = record { says = crosses _ _ _ _ _ _ _ (c .before .before .before .before .before .before .before .before .before .before .before .if2 .left) (c .before .before .before .before .before .before .before .before .before .before .before .before .if1 .left) _ (c .before .before .before .before .before .before .before .before .before .before .read-words .ensures) _ (c .before .before .before .before .before .before .before .before .w .given .1) _ (c .before .before .before .before .before .dists-at .ensures) _ _ (c .before .before .before .a .given .1) (c .if3 .taken) _ (c .before .one-more .ensures) ∙ c .before .before .before .before .before .before .before .before .before .before .before .before .before .before .loop .inv .1; falls = omega (arith, c .before .before .before .before .before .before .before .before .before .before .before .if2 .left, c .before .before .before .before .before .before .before .before .before .before .before .before .before .before .loop .inv .0) }
+
+meet-on-requires : tie.Need-meet-on-requires Inv-loop μ-loop
+meet-on-requires c κs = search needs
+
+enum-known-n : tie.Need-enum-known-n Inv-loop μ-loop
+enum-known-n c = search needs
+
+loop-less : tie.Need-loop-less Inv-loop μ-loop
+loop-less c = omega (arith, c .before .before .before .before .before .before .before .before .before .before .before .before .before .before .before .if2 .left)
+
+loop-again : tie.Need-loop-again Inv-loop μ-loop
+loop-again c = (omega (arith, c .before .before .before .before .before .before .before .before .before .before .before .before .before .before .before .before .before .before .loop .inv .0), sym (to-node _ _ _ _ _ _ _ (c .before .before .before .before .before .before .before .before .before .before .before .before .before .before .before .if2 .left) (c .before .before .before .before .before .before .before .before .before .before .before .before .before .before .before .before .if1 .left) _ (c .before .before .before .before .before .before .before .before .before .before .before .before .before .before .read-words .ensures) _ (c .before .before .before .before .before .before .before .before .before .before .before .before .w .given .1) _ (c .before .before .before .before .before .before .before .before .before .dists-at .ensures) _ _ (c .before .before .before .before .before .before .before .a .given .1) (c .before .before .before .before .if3 .left) _ (c .before .before .before .meet-on .ensures) _ (c .before .before .before .before .before .one-more .ensures) _ (c .before .n .given .1)) ∙ c .before .before .before .before .before .before .before .before .before .before .before .before .before .before .before .before .before .before .loop .inv .1)
+
+enum-known-c : tie.Need-enum-known-c Inv-loop μ-loop
+enum-known-c c = search needs
+
+returns-6 : tie.Need-returns-6 Inv-loop μ-loop
+returns-6 c = record { says = in-leaf _ _ _ _ _ _ _ (c .before .before .before .before .before .before .before .before .before .before .before .before .before .before .before .if2 .left) (c .before .before .before .before .before .before .before .before .before .before .before .before .before .before .before .before .if1 .left) _ (c .before .before .before .before .before .before .before .before .before .before .before .before .before .before .read-words .ensures) _ (c .before .before .before .before .before .before .before .before .before .before .before .before .w .given .1) _ (c .before .before .before .before .before .before .before .before .before .dists-at .ensures) _ _ (c .before .before .before .before .before .before .before .a .given .1) (c .before .before .before .before .if3 .left) _ (c .before .before .before .meet-on .ensures) _ (c .before .before .before .before .before .one-more .ensures) _ (c .before .c .given .1) ∙ c .before .before .before .before .before .before .before .before .before .before .before .before .before .before .before .before .before .before .loop .inv .1; falls = search needs }
+
+enum-known-e-3 : tie.Need-enum-known-e-3 Inv-loop μ-loop
+enum-known-e-3 c = search needs
+
+returns-7 : tie.Need-returns-7 Inv-loop μ-loop
+returns-7 c = record { says = no-leaf _ _ _ _ _ _ _ (c .before .before .before .before .before .before .before .before .before .before .before .before .before .before .before .if2 .left) (c .before .before .before .before .before .before .before .before .before .before .before .before .before .before .before .before .if1 .left) _ (c .before .before .before .before .before .before .before .before .before .before .before .before .before .before .read-words .ensures) _ (c .before .before .before .before .before .before .before .before .before .before .before .before .w .given .1) _ (c .before .before .before .before .before .before .before .before .before .dists-at .ensures) _ _ (c .before .before .before .before .before .before .before .a .given .1) (c .before .before .before .before .if3 .left) _ (c .before .before .before .meet-on .ensures) _ (c .before .before .before .before .before .one-more .ensures) _ (c .before .e3 .given .1) ∙ c .before .before .before .before .before .before .before .before .before .before .before .before .before .before .before .before .before .before .loop .inv .1; falls = search needs }
+
+pub descend-spec : {M : Type 1} → statement M
+descend-spec =
+    tie.close
+    (tie.spec
+    Inv-loop
+    μ-loop
+    loop-holds
+    cast-if1
+    returns
+    returns-2
+    read-words-requires
+    enum-known-e
+    returns-3
+    enum-known-w
+    cast-dists-at
+    dists-at-requires
+    enum-known-e-2
+    returns-4
+    enum-known-a
+    one-more-requires
+    sub-left
+    returns-5
+    meet-on-requires
+    enum-known-n
+    loop-less
+    loop-again
+    enum-known-c
+    returns-6
+    enum-known-e-3
+    returns-7)

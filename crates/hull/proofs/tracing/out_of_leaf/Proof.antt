@@ -1,0 +1,21 @@
+-- `out_of_leaf` meets its contract.
+-- Assumes nothing.
+use mathlib.Core.Path.{_∙_}
+use borrow.Author.Needs.{needs}
+use Rattle.hull.proofs.tracing.out_of_leaf.Statement.{statement}
+use Rattle.hull.proofs.tracing.out_of_leaf.Tie as tie
+
+new-requires : tie.Need-new-requires
+new-requires c κs = search needs
+
+boundary-requires : tie.Need-boundary-requires
+boundary-requires c κs = search needs
+
+new-requires-2 : tie.Need-new-requires-2
+new-requires-2 c κs = search needs
+
+returns : tie.Need-returns
+returns c = c .new2 .ensures ∙ simp (c .before .boundary .ensures, c .before .before .new .ensures)
+
+pub out-of-leaf-spec : {M : Type 1} → statement M
+out-of-leaf-spec = tie.close (tie.spec new-requires boundary-requires new-requires-2 returns)

@@ -1,0 +1,5 @@
+-- What the contracts of `load` cite.
+pub mod Entities
+pub mod Tested
+pub mod Extents
+pub mod Load

@@ -1,0 +1,110 @@
+-- Loading a file, in the order of load.rs: the header, the limits, the sections, the extents of the faces, the leaves that render nodes
+-- name, the models; up to the first refusal.
+use Prim.Native.Nat.{ℕ}
+use mathlib.Core.List.{List}
+use Rattle.format.specs.Answer as Answer
+use Rattle.format.specs.Answer.{Answer}
+use Rattle.format.specs.Field.{u16At}
+use Rattle.format.specs.Refusal.{numberOf}
+use Rattle.format.specs.Step.{Step, ok, refused, andThen}
+use Rattle.format.specs.declared.section.BspData.{BspData}
+use Rattle.format.specs.declared.section.BspFileSectionId.the-variants.{Planes, Vertices, RenderNodes, CollisionNodes, Leaves, FaceList, Edges, EdgeList, Models}
+use Rattle.records.specs.Edge.{edgeAt, edgeIndexAt}
+use Rattle.records.specs.Leaf.{leafAt}
+use Rattle.models.specs.Model.{fileModelAt}
+use Rattle.records.specs.Node.{renderNodeAt, collisionNodeAt}
+use Rattle.records.specs.Number.{numberAt}
+use Rattle.records.specs.Plane.{planeAt}
+use Rattle.records.specs.Triple.{vectorAt}
+use Rattle.sections.specs.Row.{section, blob}
+use Rattle.sections.specs.Table.{headerAt, limits}
+use Rattle.load.specs.Entities.{entities}
+use Rattle.load.specs.Extents.{faceExtents}
+use Rattle.load.specs.Tested.{texinfos, faces, leafReferences}
+use Rattle.load.specs.declared.Loaded.{Loaded}
+use Rattle.load.specs.declared.Loaded.the-variants as L
+
+unfoldable pub fromExtents : List ℕ → BspData → Step BspData
+fromExtents s m =
+    andThen (faceExtents s m) (λ u p.
+    andThen (leafReferences s m) (λ u p.
+    andThen (section fileModelAt Models s (m .models)) (λ u p.
+    ok m 0)))
+
+unfoldable pub fromEdges : List ℕ → BspData → Step BspData
+fromEdges s m =
+    andThen (section edgeAt Edges s (m .edges)) (λ u p.
+    andThen (section edgeIndexAt EdgeList s (m .edgelist)) (λ u p.
+    fromExtents s m))
+
+unfoldable pub fromCollisionNodes : List ℕ → BspData → Step BspData
+fromCollisionNodes s m =
+    andThen (section collisionNodeAt CollisionNodes s (m .«collision_nodes»)) (λ u p.
+    andThen (section leafAt Leaves s (m .leaves)) (λ u p.
+    andThen (section u16At FaceList s (m .facelist)) (λ u p.
+    fromEdges s m)))
+
+unfoldable pub fromTexinfo : List ℕ → BspData → Step BspData
+fromTexinfo s m =
+    andThen (texinfos s m) (λ u p.
+    andThen (faces s m) (λ u p.
+    andThen (blob s (m .lightmaps)) (λ u p.
+    fromCollisionNodes s m)))
+
+unfoldable pub fromVertices : List ℕ → BspData → Step BspData
+fromVertices s m =
+    andThen (section vectorAt Vertices s (m .vertices)) (λ u p.
+    andThen (blob s (m .visibility)) (λ u p.
+    andThen (section renderNodeAt RenderNodes s (m .«render_nodes»)) (λ u p.
+    fromTexinfo s m)))
+
+-- the map record with its texture count
+abbrev pub counted : BspData → ℕ → BspData
+counted m n = record {
+  entities = m .entities;
+  planes = m .planes;
+  textures = m .textures;
+  vertices = m .vertices;
+  visibility = m .visibility;
+  «render_nodes» = m .«render_nodes»;
+  texinfo = m .texinfo;
+  faces = m .faces;
+  lightmaps = m .lightmaps;
+  «collision_nodes» = m .«collision_nodes»;
+  leaves = m .leaves;
+  facelist = m .facelist;
+  edges = m .edges;
+  edgelist = m .edgelist;
+  models = m .models;
+  «texture_count» = n;
+}
+
+-- of the texture section only the count is read, from 0 to MAX_TEXTURES, and its end is not tested
+unfoldable pub fromPlanes : List ℕ → BspData → Step BspData
+fromPlanes s m =
+    andThen (section planeAt Planes s (m .planes)) (λ u p.
+    andThen (numberAt 2097152 s (m .textures .offset)) (λ n p.
+    fromVertices s (counted m n)))
+
+unfoldable pub loadAt : List ℕ → Step BspData
+loadAt s =
+    andThen (headerAt s) (λ m p.
+    andThen (limits m) (λ u p.
+    andThen (entities s (m .entities)) (λ u p.
+    fromPlanes s m)))
+
+-- the map record, or the first refusal
+abbrev pub outcome : Step BspData → Answer BspData
+outcome (ok m p) = Answer.answer m
+outcome (refused n) = Answer.refused n
+
+abbrev pub loadOf : List ℕ → Answer BspData
+loadOf s = outcome (loadAt s)
+
+-- what an answer stands for
+abbrev pub loadedStep : Loaded → Step BspData
+loadedStep (L.Map m) = ok m 0
+loadedStep (L.Refused e) = refused (numberOf e)
+
+abbrev pub loadedAnswer : Loaded → Answer BspData
+loadedAnswer r = outcome (loadedStep r)
