@@ -18,13 +18,32 @@ fn print_refusal(refusal: Refusal) {
 
 // The counts of document 01's report; the entities in bytes.
 fn print_counts(map: BspData) {
-    print_line(b"planes ", map.planes.record_count(BspFileSectionId::Planes));
-    print_line(b"nodes ", map.render_nodes.record_count(BspFileSectionId::RenderNodes));
-    print_line(b"clipnodes ", map.collision_nodes.record_count(BspFileSectionId::CollisionNodes));
-    print_line(b"leaves ", map.leaves.record_count(BspFileSectionId::Leaves));
+    print_line(
+        b"planes ",
+        map.planes.record_count(BspFileSectionId::Planes),
+    );
+    print_line(
+        b"nodes ",
+        map.render_nodes.record_count(BspFileSectionId::RenderNodes),
+    );
+    print_line(
+        b"clipnodes ",
+        map.collision_nodes
+            .record_count(BspFileSectionId::CollisionNodes),
+    );
+    print_line(
+        b"leaves ",
+        map.leaves.record_count(BspFileSectionId::Leaves),
+    );
     print_line(b"faces ", map.faces.record_count(BspFileSectionId::Faces));
-    print_line(b"models ", map.models.record_count(BspFileSectionId::Models));
-    print_line(b"entities ", map.entities.record_count(BspFileSectionId::Entities));
+    print_line(
+        b"models ",
+        map.models.record_count(BspFileSectionId::Models),
+    );
+    print_line(
+        b"entities ",
+        map.entities.record_count(BspFileSectionId::Entities),
+    );
 }
 
 fn main() {

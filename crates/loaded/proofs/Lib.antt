@@ -1,0 +1,2 @@
+-- Demand 3 from end to end.
+pub mod EveryFile
