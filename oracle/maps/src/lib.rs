@@ -5,6 +5,7 @@
 //! - `record`: the tables of a file, record by record, and the file that holds them
 //! - `shape`: node tables: balanced, chain, shared, looping, random
 //! - `make`: whole maps with chosen table sizes
+//! - `world`: a tree that divides a box evenly, as a map compiler makes it, for timing
 //! - `damage`: cut and changed copies
 //! - `query`: points and segments
 
@@ -15,6 +16,7 @@ pub mod query;
 pub mod record;
 pub mod seed;
 pub mod shape;
+pub mod world;
 
 pub use make::{make, Plan};
 pub use record::{Layout, Tables};

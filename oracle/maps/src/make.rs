@@ -285,16 +285,12 @@ fn faces(seed: &mut Seed, plan: &Plan, tables: &mut Tables) {
                 }
             }
             1 => {
-                // an exact difference, at and around the ones where the product wraps
-                let mut difference;
-                loop {
-                    difference =
-                        some(seed, &[0, 1, 125, 2048, 2049, 4096, 4221, 8192, 32_767, 40_000])
-                            + seed.below(3) as u32;
-                    if allowed(difference) {
-                        break;
-                    }
-                }
+                // an exact difference, at and around the ones where the product wraps; one that
+                // is too large goes with the special flag
+                let difference =
+                    some(seed, &[0, 1, 124, 125, 2046, 2048, 4096, 4221, 8192, 32_766, 40_000])
+                        + seed.below(3) as u32;
+                texinfo.flags = (!allowed(difference) || seed.once_in(4)) as i32;
                 texinfo.s = [1.0, 0.0, 0.0, 0.0];
                 texinfo.t = [0.0; 4];
                 for corner in 0..corners {

@@ -125,4 +125,14 @@ impl Hull {
             )
         })
     }
+
+    /// `contents_at_point` with nothing caught or noted, for timing.
+    pub fn bare_contents(&self, p: Point) -> u32 {
+        self.inner.contents_at_point(vector(p)).expect("a point walk gives no error") as u32
+    }
+
+    /// `trace` with nothing caught or noted, for timing.
+    pub fn bare_trace(&self, start: Point, end: Point) -> crate::server::world::phys::Trace {
+        self.inner.trace(vector(start), vector(end)).expect("a trace gives no error")
+    }
 }

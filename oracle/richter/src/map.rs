@@ -288,6 +288,16 @@ impl Map {
         LeafFinder::new(self.data.planes.clone(), &nodes, root)
     }
 
+    /// `find_leaf` with nothing caught or noted, for timing.
+    pub fn bare_find_leaf(&self, p: Point) -> usize {
+        self.data.find_leaf(vector(p))
+    }
+
+    /// `get_pvs` with nothing caught, for timing.
+    pub fn bare_pvs(&self, leaf: usize, leaf_count: usize) -> Vec<usize> {
+        self.data.get_pvs(leaf, leaf_count)
+    }
+
     /// `get_pvs`.
     pub fn get_pvs(&self, leaf: usize, leaf_count: usize) -> Result<Vec<usize>, Refusal> {
         catch(|| self.data.get_pvs(leaf, leaf_count)).map_err(Caught::of_pvs)

@@ -1,0 +1,306 @@
+//! The time of each call beside the published Rust, in one run over the same generated maps.
+//!
+//! Each slice runs both sides over the same inputs, one after the other; the least time of many
+//! slices counts. Build without the feature `notes`: the marked lines take time.
+
+use std::hint::black_box;
+use std::time::Instant;
+
+use maps::world::{tables, World, SIDE};
+use maps::{floats, Layout, Seed};
+use richter::{Hull, Trace};
+
+use crate::board::Plan;
+use crate::calls;
+use crate::calls_stub::TRACE_WORDS;
+use crate::words;
+
+/// Points and segments asked a slice.
+const INPUTS: usize = 1000;
+
+/// Leaves asked for their lists a slice.
+const LISTS: usize = 50;
+
+pub fn run(plan: &Plan) -> bool {
+    if cfg!(feature = "notes") {
+        println!("built with the marked lines: the Rust's times are too high");
+    }
+    let axis = World { nodes: 10_000, slanted: 0, visibility: 200_000, lightmaps: 0, faces: 500 };
+    let worlds = [
+        ("axis", axis),
+        ("slanted", World { slanted: 40, ..axis }),
+        (
+            "large",
+            World {
+                nodes: 32_000,
+                slanted: 10,
+                visibility: 1_000_000,
+                lightmaps: 1_000_000,
+                faces: 16_000,
+            },
+        ),
+    ];
+    println!("least of {} slices; ratio: proved / Rust", plan.cases);
+    println!(
+        "{:<9} {:<22} {:>12} {:>12} {:>7} {:>10} {:>10}",
+        "map", "call", "ns a call", "Rust", "ratio", "ns a part", "Rust"
+    );
+    let mut equal = true;
+    for (name, world) in worlds {
+        let mut seed = Seed::named(plan.seed, name);
+        let file = tables(&mut seed, &world).file(&Layout::plain());
+        let mut table = Table { name, slices: plan.cases, equal: true };
+        of_map(&mut table, &mut seed, &file);
+        equal &= table.equal;
+    }
+    for call in ["bsp_load", "bsp_contents", "bsp_pvs", "bsp_tree_check"] {
+        if !calls::is_linked(call) {
+            println!("{call} and its group are the stub's");
+        }
+    }
+    equal
+}
+
+/// Where the lines of one map go.
+struct Table {
+    name: &'static str,
+    slices: u64,
+    equal: bool,
+}
+
+impl Table {
+    /// Times both sides by turns. Each side's answer is a sum over its answers; `parts` is how many
+    /// nodes, leaves or bytes a slice of `calls` calls goes through.
+    fn line(
+        &mut self,
+        call: &str,
+        (calls, parts): (usize, u64),
+        mut ours: impl FnMut() -> u64,
+        rust: Option<&mut dyn FnMut() -> u64>,
+    ) {
+        let mut least = [f64::MAX; 2];
+        let mut none = || 0;
+        let has_rust = rust.is_some();
+        let rust = rust.unwrap_or(&mut none);
+        if has_rust && ours() != rust() {
+            println!("{:<9} {call:<22} the answers differ", self.name);
+            self.equal = false;
+        }
+        for _ in 0..self.slices {
+            least[0] = least[0].min(timed(&mut ours));
+            if has_rust {
+                least[1] = least[1].min(timed(&mut *rust));
+            }
+        }
+        self.row(call, (calls, parts), least, has_rust);
+    }
+
+    /// One line: ns a call and a part for both sides.
+    fn row(&self, call: &str, (calls, parts): (usize, u64), least: [f64; 2], has_rust: bool) {
+        let a_call = least.map(|time| time / calls as f64);
+        let a_part = least.map(|time| time / parts.max(1) as f64);
+        let rust = |text: String| if has_rust { text } else { "-".to_string() };
+        println!(
+            "{:<9} {call:<22} {:>12.1} {:>12} {:>7} {:>10.2} {:>10}",
+            self.name,
+            a_call[0],
+            rust(format!("{:.1}", a_call[1])),
+            rust(format!("{:.2}", a_call[0] / a_call[1])),
+            a_part[0],
+            rust(format!("{:.2}", a_part[1])),
+        );
+    }
+}
+
+fn timed(side: &mut (impl FnMut() -> u64 + ?Sized)) -> f64 {
+    let start = Instant::now();
+    black_box(side());
+    start.elapsed().as_nanos() as f64
+}
+
+fn of_map(table: &mut Table, seed: &mut Seed, file: &[u8]) {
+    let mut map = [0u32; 31];
+    let refusal = calls::load(file, &mut map);
+    let Ok(rust) = richter::load(file) else { panic!("the Rust refuses {}", table.name) };
+    if refusal != 0 {
+        println!("{:<9} bsp_load refuses: {refusal}", table.name);
+        table.equal = false;
+        return;
+    }
+    load(table, file);
+    let points: Vec<[f32; 3]> = (0..INPUTS).map(|_| point(seed)).collect();
+    for (number, nodes) in [(1, "clip"), (0, "render")] {
+        let hull = rust.table(number).with_root(0);
+        let words = words::hull(number as u64, &hull);
+        contents(table, (file, &map, &words), &hull, nodes, &points);
+        for (length, name) in [(100.0, "short"), (4000.0, "long")] {
+            let segments: Vec<[f32; 6]> =
+                points.iter().map(|p| segment(seed, *p, length)).collect();
+            traces(table, (file, &map, &words), &hull, &format!("{nodes}, {name}"), &segments);
+        }
+    }
+    find_leaf(table, (file, &map), &rust, &points);
+    lists(table, seed, (file, &map), &rust);
+    for (number, nodes) in [(1, "clip"), (0, "render")] {
+        tree_check(table, (file, &map), number, nodes);
+    }
+}
+
+fn point(seed: &mut Seed) -> [f32; 3] {
+    [0; 3].map(|_| floats::half(seed) * 2.0 * SIDE)
+}
+
+fn segment(seed: &mut Seed, p: [f32; 3], length: f32) -> [f32; 6] {
+    let way = floats::unit(seed);
+    [p[0], p[1], p[2], p[0] + length * way[0], p[1] + length * way[1], p[2] + length * way[2]]
+}
+
+/// Loading; the Rust's map is dropped while no clock runs.
+fn load(table: &mut Table, file: &[u8]) {
+    let mut map = [0u32; 31];
+    let mut least = [f64::MAX; 2];
+    for _ in 0..(table.slices / 10).max(3) {
+        least[0] = least[0].min(timed(&mut || calls::load(black_box(file), &mut map) as u64));
+        let start = Instant::now();
+        let loaded = black_box(richter::load(black_box(file)));
+        least[1] = least[1].min(start.elapsed().as_nanos() as f64);
+        drop(loaded);
+    }
+    table.row("load", (1, file.len() as u64), least, true);
+}
+
+type Lent<'a> = (&'a [u8], &'a [u32], &'a [u64]);
+
+fn contents(
+    table: &mut Table,
+    (file, map, words): Lent,
+    hull: &Hull,
+    nodes: &str,
+    points: &[[f32; 3]],
+) {
+    let mut out = [0; 2];
+    let mut visits = 0;
+    for p in points {
+        assert_eq!(calls::contents(file, map, words, p, &mut out), 0, "contents");
+        visits += out[1];
+    }
+    let ours = || {
+        let mut sum = 0;
+        for p in points {
+            calls::contents(file, map, words, black_box(p), &mut out);
+            sum += out[0];
+        }
+        sum
+    };
+    let mut rust = || points.iter().map(|p| hull.bare_contents(black_box(*p)) as u64).sum();
+    let name = format!("contents, {nodes}");
+    table.line(&name, (points.len(), visits), ours, Some(&mut rust));
+}
+
+fn traces(
+    table: &mut Table,
+    (file, map, words): Lent,
+    hull: &Hull,
+    name: &str,
+    segments: &[[f32; 6]],
+) {
+    let mut out = [0; TRACE_WORDS];
+    let mut visits = 0;
+    let ends = |s: &[f32; 6]| ([s[0], s[1], s[2]], [s[3], s[4], s[5]]);
+    for s in segments {
+        assert_eq!(calls::trace(file, map, words, s, &mut out), 0, "trace");
+        visits += out[0];
+        let (start, end) = ends(s);
+        let expected = words::trace(Trace::of(&hull.bare_trace(start, end)), out[0]);
+        if out[..] != expected[..] {
+            println!("{:<9} trace {name}: the answers differ", table.name);
+            table.equal = false;
+            break;
+        }
+    }
+    let ours = || {
+        let mut sum = 0;
+        for s in segments {
+            calls::trace(file, map, words, black_box(s), &mut out);
+            sum += out[2];
+        }
+        sum
+    };
+    let mut rust = || {
+        let mut sum = 0;
+        for s in segments {
+            let (start, end) = ends(black_box(s));
+            sum += black_box(hull.bare_trace(start, end)).start_solid() as u64;
+        }
+        sum
+    };
+    let name = format!("trace, {name}");
+    table.line(&name, (segments.len(), visits), ours, Some(&mut rust));
+}
+
+fn find_leaf(
+    table: &mut Table,
+    (file, map): (&[u8], &[u32]),
+    rust: &richter::Map,
+    points: &[[f32; 3]],
+) {
+    let mut out = [0; 2];
+    let mut visits = 0;
+    for p in points {
+        assert_eq!(calls::find_leaf(file, map, 0, p, &mut out), 0, "find_leaf");
+        visits += out[1];
+    }
+    let ours = || {
+        let mut sum = 0;
+        for p in points {
+            calls::find_leaf(file, map, 0, black_box(p), &mut out);
+            sum += out[0];
+        }
+        sum
+    };
+    let mut other = || points.iter().map(|p| rust.bare_find_leaf(black_box(*p)) as u64).sum();
+    table.line("find_leaf", (points.len(), visits), ours, Some(&mut other));
+}
+
+fn lists(table: &mut Table, seed: &mut Seed, (file, map): (&[u8], &[u32]), rust: &richter::Map) {
+    let leaves = rust.leaves().len();
+    let count = leaves as u64 - 1;
+    let asked: Vec<u64> = (0..LISTS).map(|_| 1 + seed.below(count)).collect();
+    let mut list = vec![0u32; leaves + 8];
+    let mut out = [0; 1];
+    let mut entries = 0;
+    for leaf in &asked {
+        assert_eq!(calls::pvs(file, map, *leaf, count, &mut list, &mut out), 0, "pvs");
+        entries += out[0];
+    }
+    let ours = || {
+        let mut sum = 0;
+        for leaf in &asked {
+            calls::pvs(file, map, black_box(*leaf), count, &mut list, &mut out);
+            sum += out[0] + list[out[0] as usize - 1] as u64;
+        }
+        sum
+    };
+    let mut other = || {
+        let mut sum = 0;
+        for leaf in &asked {
+            let list = rust.bare_pvs(black_box(*leaf) as usize, count as usize);
+            sum += list.len() as u64 + *list.last().expect("a leaf") as u64;
+        }
+        sum
+    };
+    table.line("visibility", (asked.len(), entries), ours, Some(&mut other));
+}
+
+/// Ours alone: the Rust has no such check.
+fn tree_check(table: &mut Table, (file, map): (&[u8], &[u32]), number: u32, nodes: &str) {
+    let section = if number == 0 { 5 } else { 9 };
+    let count = map[2 * section + 1] as usize / maps::record::SIZES[section];
+    let mut marks = vec![0; count];
+    let mut out = [0; 1];
+    let ours = || calls::tree_check(file, map, number, 0, &mut marks, &mut out) as u64 + out[0];
+    let slices = table.slices;
+    table.slices = (slices / 10).max(3);
+    table.line(&format!("tree check, {nodes}"), (1, count as u64), ours, None);
+    table.slices = slices;
+}

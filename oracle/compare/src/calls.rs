@@ -1,0 +1,359 @@
+//! The calls of the C interface (crate ffi), as the static library exports them.
+//!
+//! A slice is a pointer and a length. Each call answers 0 or the number of a refusal; what it
+//! answers goes into lent lists. A group of calls is linked if its feature is on; the functions of
+//! `calls_stub` stand in for the others.
+
+#![allow(clippy::too_many_arguments)]
+
+type Bytes = *const u8;
+type Words = *const u32;
+type Longs = *const u64;
+type Floats = *const f32;
+type BytesOut = *mut u8;
+type WordsOut = *mut u32;
+type LongsOut = *mut u64;
+
+#[rustfmt::skip]
+#[allow(dead_code)]
+extern "C" {
+    fn bsp_load(file: Bytes, file_len: usize, map: WordsOut, map_len: usize) -> u32;
+
+    fn bsp_record(file: Bytes, file_len: usize, map: Words, map_len: usize, section: u32, index: u64, out: LongsOut, out_len: usize) -> u32;
+    fn bsp_count(map: Words, map_len: usize, section: u32, out: LongsOut, out_len: usize) -> u32;
+    fn bsp_entities(file: Bytes, file_len: usize, map: Words, map_len: usize, out: LongsOut, out_len: usize) -> u32;
+
+    fn bsp_hull(file: Bytes, file_len: usize, map: Words, map_len: usize, model: u64, index: u64, hull: LongsOut, hull_len: usize) -> u32;
+    fn bsp_box(bounds: Floats, bounds_len: usize, hull: LongsOut, hull_len: usize) -> u32;
+    fn bsp_contents(file: Bytes, file_len: usize, map: Words, map_len: usize, hull: Longs, hull_len: usize, point: Floats, point_len: usize, out: LongsOut, out_len: usize) -> u32;
+    fn bsp_find_leaf(file: Bytes, file_len: usize, map: Words, map_len: usize, root: u64, point: Floats, point_len: usize, out: LongsOut, out_len: usize) -> u32;
+    fn bsp_trace(file: Bytes, file_len: usize, map: Words, map_len: usize, hull: Longs, hull_len: usize, segment: Floats, segment_len: usize, out: LongsOut, out_len: usize) -> u32;
+    fn bsp_contents_nodes(file: Bytes, file_len: usize, map: Words, map_len: usize, hull: Longs, hull_len: usize, point: Floats, point_len: usize, list: WordsOut, list_len: usize, out: LongsOut, out_len: usize) -> u32;
+    fn bsp_find_leaf_nodes(file: Bytes, file_len: usize, map: Words, map_len: usize, root: u64, point: Floats, point_len: usize, list: WordsOut, list_len: usize, out: LongsOut, out_len: usize) -> u32;
+    fn bsp_trace_nodes(file: Bytes, file_len: usize, map: Words, map_len: usize, hull: Longs, hull_len: usize, segment: Floats, segment_len: usize, list: WordsOut, list_len: usize, out: LongsOut, out_len: usize) -> u32;
+
+    fn bsp_pvs(file: Bytes, file_len: usize, map: Words, map_len: usize, leaf: u64, leaf_count: u64, list: WordsOut, list_len: usize, out: LongsOut, out_len: usize) -> u32;
+
+    fn bsp_tree_check(file: Bytes, file_len: usize, map: Words, map_len: usize, table: u32, root: u64, marks: BytesOut, marks_len: usize, out: LongsOut, out_len: usize) -> u32;
+}
+
+/// One call: the linked one if its group is, else the stub's.
+macro_rules! either {
+    ($feature:literal, $name:ident($($stub:expr),*), ($($linked:expr),*)) => {{
+        #[cfg(feature = $feature)]
+        let refusal = unsafe { $name($($linked),*) };
+        #[cfg(not(feature = $feature))]
+        let refusal = crate::calls_stub::$name($($stub),*);
+        refusal
+    }};
+}
+
+/// The calls compared, by pointer, so that a test can put a wrong one in a place.
+#[rustfmt::skip]
+#[derive(Copy, Clone)]
+pub struct Calls {
+    pub load: fn(&[u8], &mut [u32]) -> u32,
+    pub record: fn(&[u8], &[u32], u32, u64, &mut [u64]) -> u32,
+    pub count: fn(&[u32], u32, &mut [u64]) -> u32,
+    pub entities: fn(&[u8], &[u32], &mut [u64]) -> u32,
+    pub hull: fn(&[u8], &[u32], u64, u64, &mut [u64]) -> u32,
+    pub bounds: fn(&[f32], &mut [u64]) -> u32,
+    pub contents: fn(&[u8], &[u32], &[u64], &[f32], &mut [u64]) -> u32,
+    pub find_leaf: fn(&[u8], &[u32], u64, &[f32], &mut [u64]) -> u32,
+    pub trace: fn(&[u8], &[u32], &[u64], &[f32], &mut [u64]) -> u32,
+    pub contents_nodes: fn(&[u8], &[u32], &[u64], &[f32], &mut [u32], &mut [u64]) -> u32,
+    pub find_leaf_nodes: fn(&[u8], &[u32], u64, &[f32], &mut [u32], &mut [u64]) -> u32,
+    pub trace_nodes: fn(&[u8], &[u32], &[u64], &[f32], &mut [u32], &mut [u64]) -> u32,
+    pub pvs: fn(&[u8], &[u32], u64, u64, &mut [u32], &mut [u64]) -> u32,
+    pub tree_check: fn(&[u8], &[u32], u32, u64, &mut [u8], &mut [u64]) -> u32,
+}
+
+impl Calls {
+    pub fn linked() -> Calls {
+        Calls {
+            load,
+            record,
+            count,
+            entities,
+            hull,
+            bounds,
+            contents,
+            find_leaf,
+            trace,
+            contents_nodes,
+            find_leaf_nodes,
+            trace_nodes,
+            pvs,
+            tree_check,
+        }
+    }
+}
+
+/// Whether a call is the library's and not the stub's.
+pub fn is_linked(call: &str) -> bool {
+    match call {
+        "bsp_load" => cfg!(feature = "ffi_load"),
+        "bsp_record" | "bsp_count" | "bsp_entities" => cfg!(feature = "ffi_records"),
+        "bsp_pvs" => cfg!(feature = "ffi_pvs"),
+        "bsp_tree_check" => cfg!(feature = "ffi_tree"),
+        _ => cfg!(feature = "ffi_walks"),
+    }
+}
+
+pub fn load(file: &[u8], map: &mut [u32]) -> u32 {
+    either!(
+        "ffi_load",
+        bsp_load(file, map),
+        (file.as_ptr(), file.len(), map.as_mut_ptr(), map.len())
+    )
+}
+
+pub fn record(file: &[u8], map: &[u32], section: u32, index: u64, out: &mut [u64]) -> u32 {
+    either!(
+        "ffi_records",
+        bsp_record(file, map, section, index, out),
+        (
+            file.as_ptr(),
+            file.len(),
+            map.as_ptr(),
+            map.len(),
+            section,
+            index,
+            out.as_mut_ptr(),
+            out.len()
+        )
+    )
+}
+
+pub fn count(map: &[u32], section: u32, out: &mut [u64]) -> u32 {
+    either!(
+        "ffi_records",
+        bsp_count(map, section, out),
+        (map.as_ptr(), map.len(), section, out.as_mut_ptr(), out.len())
+    )
+}
+
+pub fn entities(file: &[u8], map: &[u32], out: &mut [u64]) -> u32 {
+    either!(
+        "ffi_records",
+        bsp_entities(file, map, out),
+        (file.as_ptr(), file.len(), map.as_ptr(), map.len(), out.as_mut_ptr(), out.len())
+    )
+}
+
+pub fn hull(file: &[u8], map: &[u32], model: u64, index: u64, hull: &mut [u64]) -> u32 {
+    either!(
+        "ffi_walks",
+        bsp_hull(file, map, model, index, hull),
+        (
+            file.as_ptr(),
+            file.len(),
+            map.as_ptr(),
+            map.len(),
+            model,
+            index,
+            hull.as_mut_ptr(),
+            hull.len()
+        )
+    )
+}
+
+/// `bsp_box`.
+pub fn bounds(bounds: &[f32], hull: &mut [u64]) -> u32 {
+    either!(
+        "ffi_walks",
+        bsp_box(bounds, hull),
+        (bounds.as_ptr(), bounds.len(), hull.as_mut_ptr(), hull.len())
+    )
+}
+
+pub fn contents(file: &[u8], map: &[u32], hull: &[u64], point: &[f32], out: &mut [u64]) -> u32 {
+    either!(
+        "ffi_walks",
+        bsp_contents(file, map, hull, point, out),
+        (
+            file.as_ptr(),
+            file.len(),
+            map.as_ptr(),
+            map.len(),
+            hull.as_ptr(),
+            hull.len(),
+            point.as_ptr(),
+            point.len(),
+            out.as_mut_ptr(),
+            out.len()
+        )
+    )
+}
+
+pub fn find_leaf(file: &[u8], map: &[u32], root: u64, point: &[f32], out: &mut [u64]) -> u32 {
+    either!(
+        "ffi_walks",
+        bsp_find_leaf(file, map, root, point, out),
+        (
+            file.as_ptr(),
+            file.len(),
+            map.as_ptr(),
+            map.len(),
+            root,
+            point.as_ptr(),
+            point.len(),
+            out.as_mut_ptr(),
+            out.len()
+        )
+    )
+}
+
+pub fn trace(file: &[u8], map: &[u32], hull: &[u64], segment: &[f32], out: &mut [u64]) -> u32 {
+    either!(
+        "ffi_walks",
+        bsp_trace(file, map, hull, segment, out),
+        (
+            file.as_ptr(),
+            file.len(),
+            map.as_ptr(),
+            map.len(),
+            hull.as_ptr(),
+            hull.len(),
+            segment.as_ptr(),
+            segment.len(),
+            out.as_mut_ptr(),
+            out.len()
+        )
+    )
+}
+
+pub fn contents_nodes(
+    file: &[u8],
+    map: &[u32],
+    hull: &[u64],
+    point: &[f32],
+    list: &mut [u32],
+    out: &mut [u64],
+) -> u32 {
+    either!(
+        "ffi_walks",
+        bsp_contents_nodes(file, map, hull, point, list, out),
+        (
+            file.as_ptr(),
+            file.len(),
+            map.as_ptr(),
+            map.len(),
+            hull.as_ptr(),
+            hull.len(),
+            point.as_ptr(),
+            point.len(),
+            list.as_mut_ptr(),
+            list.len(),
+            out.as_mut_ptr(),
+            out.len()
+        )
+    )
+}
+
+pub fn find_leaf_nodes(
+    file: &[u8],
+    map: &[u32],
+    root: u64,
+    point: &[f32],
+    list: &mut [u32],
+    out: &mut [u64],
+) -> u32 {
+    either!(
+        "ffi_walks",
+        bsp_find_leaf_nodes(file, map, root, point, list, out),
+        (
+            file.as_ptr(),
+            file.len(),
+            map.as_ptr(),
+            map.len(),
+            root,
+            point.as_ptr(),
+            point.len(),
+            list.as_mut_ptr(),
+            list.len(),
+            out.as_mut_ptr(),
+            out.len()
+        )
+    )
+}
+
+pub fn trace_nodes(
+    file: &[u8],
+    map: &[u32],
+    hull: &[u64],
+    segment: &[f32],
+    list: &mut [u32],
+    out: &mut [u64],
+) -> u32 {
+    either!(
+        "ffi_walks",
+        bsp_trace_nodes(file, map, hull, segment, list, out),
+        (
+            file.as_ptr(),
+            file.len(),
+            map.as_ptr(),
+            map.len(),
+            hull.as_ptr(),
+            hull.len(),
+            segment.as_ptr(),
+            segment.len(),
+            list.as_mut_ptr(),
+            list.len(),
+            out.as_mut_ptr(),
+            out.len()
+        )
+    )
+}
+
+pub fn pvs(
+    file: &[u8],
+    map: &[u32],
+    leaf: u64,
+    leaf_count: u64,
+    list: &mut [u32],
+    out: &mut [u64],
+) -> u32 {
+    either!(
+        "ffi_pvs",
+        bsp_pvs(file, map, leaf, leaf_count, list, out),
+        (
+            file.as_ptr(),
+            file.len(),
+            map.as_ptr(),
+            map.len(),
+            leaf,
+            leaf_count,
+            list.as_mut_ptr(),
+            list.len(),
+            out.as_mut_ptr(),
+            out.len()
+        )
+    )
+}
+
+pub fn tree_check(
+    file: &[u8],
+    map: &[u32],
+    table: u32,
+    root: u64,
+    marks: &mut [u8],
+    out: &mut [u64],
+) -> u32 {
+    either!(
+        "ffi_tree",
+        bsp_tree_check(file, map, table, root, marks, out),
+        (
+            file.as_ptr(),
+            file.len(),
+            map.as_ptr(),
+            map.len(),
+            table,
+            root,
+            marks.as_mut_ptr(),
+            marks.len(),
+            out.as_mut_ptr(),
+            out.len()
+        )
+    )
+}

@@ -1,0 +1,349 @@
+//! The stub agrees in every mode, and a wrong call in any one place is noticed and no other blamed.
+
+use crate::board::{Board, Plan};
+use crate::calls::Calls;
+use crate::calls_stub as stub;
+use crate::{hand_made, loads, pvs, records, tree, walks};
+
+const PLAN: Plan = Plan { cases: 250, from: 0, seed: 7, quick: true };
+
+type Compare = fn(&Calls, &Plan) -> Board;
+
+/// The stub's calls, whatever is linked.
+fn right() -> Calls {
+    Calls {
+        load: stub::bsp_load,
+        record: stub::bsp_record,
+        count: stub::bsp_count,
+        entities: stub::bsp_entities,
+        hull: stub::bsp_hull,
+        bounds: stub::bsp_box,
+        contents: stub::bsp_contents,
+        find_leaf: stub::bsp_find_leaf,
+        trace: stub::bsp_trace,
+        contents_nodes: stub::bsp_contents_nodes,
+        find_leaf_nodes: stub::bsp_find_leaf_nodes,
+        trace_nodes: stub::bsp_trace_nodes,
+        pvs: stub::bsp_pvs,
+        tree_check: stub::bsp_tree_check,
+    }
+}
+
+const MODES: [Compare; 6] = [
+    records::compare,
+    hand_made::compare,
+    walks::compare,
+    tree::compare,
+    pvs::compare,
+    loads::compare,
+];
+
+#[test]
+fn the_stub_agrees() {
+    for compare in MODES {
+        let board = compare(&right(), &PLAN);
+        assert!(!board.lines().is_empty());
+        assert_eq!(board.blamed(), Vec::<String>::new());
+    }
+}
+
+#[test]
+fn every_number_is_met() {
+    let mut met = std::collections::BTreeSet::new();
+    for compare in MODES {
+        let board = compare(&right(), &PLAN);
+        met.extend(board.lines().iter().flat_map(|line| line.refusals.keys().copied()));
+    }
+    let all = (1..=12).chain(20..=23).chain(30..=34);
+    assert_eq!(met.into_iter().collect::<Vec<u32>>(), all.collect::<Vec<u32>>());
+}
+
+macro_rules! wrong {
+    ($($mode:ident: $test:ident, $field:ident, $blamed:literal, $call:expr;)*) => {
+        $(#[test]
+        fn $test() {
+            let calls = Calls { $field: $call, ..right() };
+            assert_eq!($mode::compare(&calls, &PLAN).blamed(), [$blamed]);
+        })*
+    };
+}
+
+/// The words of an answer changed where `change` says; refusals stay.
+fn changed(refusal: u32, out: &mut [u64], change: impl FnOnce(&mut [u64])) -> u32 {
+    if refusal == 0 {
+        change(out);
+    }
+    refusal
+}
+
+fn swap(word: &mut u64, from: u64, to: u64) {
+    if *word == from {
+        *word = to;
+    }
+}
+
+wrong! {
+    records: record_cuts_the_index, record, "bsp_record", |f, m, s, i, o| {
+        stub::bsp_record(f, m, s, i as u32 as u64, o)
+    };
+    records: record_turns_the_least_entry, record, "bsp_record", |f, m, s, i, o| {
+        changed(stub::bsp_record(f, m, s, i, o), o, |o| swap(&mut o[1], 18446744071562067968, 1 << 31))
+    };
+    records: record_loses_the_sign_of_zero, record, "bsp_record", |f, m, s, i, o| {
+        changed(stub::bsp_record(f, m, s, i, o), o, |o| if s == 3 { swap(&mut o[2], 0x8000_0000, 0) })
+    };
+    records: record_writes_past_the_answer, record, "bsp_record", |f, m, s, i, o| {
+        changed(stub::bsp_record(f, m, s, i, o), o, |o| if s == 12 { o[2] = 0 })
+    };
+    records: record_writes_when_it_refuses, record, "bsp_record", |f, m, s, i, o| {
+        let refusal = stub::bsp_record(f, m, s, i, o);
+        if refusal == 20 {
+            o[0] = 0;
+        }
+        refusal
+    };
+    records: record_holds_extents, record, "bsp_record", |f, m, s, i, o| {
+        let hold = |o: &mut [u64]| if s == 7 { swap(&mut o[12], -32768i64 as u64, 32767) };
+        changed(stub::bsp_record(f, m, s, i, o), o, hold)
+    };
+    records: record_sums_no_leaves, record, "bsp_record", |f, m, s, i, o| {
+        changed(stub::bsp_record(f, m, s, i, o), o, |o| if s == 14 { o[15] = 0 })
+    };
+    records: record_takes_a_short_list, record, "bsp_record", |f, m, s, i, o| {
+        match stub::bsp_record(f, m, s, i, o) {
+            22 if m.len() == 31 && o.len() > 14 => 20,
+            refusal => refusal,
+        }
+    };
+    records: count_of_no_section, count, "bsp_count", |m, s, o| match stub::bsp_count(m, s, o) {
+        20 if s == 15 => 0,
+        refusal => refusal,
+    };
+    records: entities_lose_their_zero, entities, "bsp_entities", |f, m, o| {
+        changed(stub::bsp_entities(f, m, o), o, |o| o[1] = o[1].saturating_sub(1))
+    };
+
+    hand_made: record_has_no_limit, record, "bsp_record", |f, m, s, i, o| {
+        match stub::bsp_record(f, m, s, i, o) {
+            23 if s == 9 && m[19] >= 262_144 => 20,
+            refusal => refusal,
+        }
+    };
+    hand_made: count_rounds_up, count, "bsp_count", |m, s, o| {
+        changed(stub::bsp_count(m, s, o), o, |o| if s == 9 { o[0] = (m[19] as u64).div_ceil(8) })
+    };
+    hand_made: entities_outside, entities, "bsp_entities", |f, m, o| {
+        match stub::bsp_entities(f, m, o) {
+            23 => 1,
+            refusal => refusal,
+        }
+    };
+    hand_made: hull_reads_no_model, hull, "bsp_hull", |f, m, n, i, o| {
+        match stub::bsp_hull(f, m, n, i, o) {
+            23 if n > 0 => 20,
+            refusal => refusal,
+        }
+    };
+    hand_made: contents_of_another_table, contents, "bsp_contents", |f, m, h, p, o| {
+        match stub::bsp_contents(f, m, h, p, o) {
+            20 => 30,
+            refusal => refusal,
+        }
+    };
+    hand_made: list_of_a_section_outside, pvs, "bsp_pvs", |f, m, l, c, list, o| {
+        match stub::bsp_pvs(f, m, l, c, list, o) {
+            23 if m[8] as usize > f.len() => 33,
+            refusal => refusal,
+        }
+    };
+    hand_made: tree_over_its_limit, tree_check, "bsp_tree_check", |f, m, t, r, marks, o| {
+        match stub::bsp_tree_check(f, m, t, r, marks, o) {
+            23 => 30,
+            refusal => refusal,
+        }
+    };
+
+    walks: contents_counts_one_more, contents, "bsp_contents", |f, m, h, p, o| {
+        changed(stub::bsp_contents(f, m, h, p, o), o, |o| o[1] += (o[1] == 511) as u64)
+    };
+    walks: contents_stops_late, contents, "bsp_contents", |f, m, h, p, o| {
+        match stub::bsp_contents(f, m, h, p, o) {
+            31 => 32,
+            refusal => refusal,
+        }
+    };
+    walks: contents_takes_any_box, contents, "bsp_contents", |f, m, h, p, o| {
+        let refusal = stub::bsp_contents(f, m, h, p, o);
+        let odd = |o: &mut [u64]| {
+            if h[0] == 2 && p[0].is_nan() {
+                o[0] = 2;
+            }
+        };
+        changed(refusal, o, odd)
+    };
+    walks: find_leaf_tests_no_leaf, find_leaf, "bsp_find_leaf", |f, m, r, p, o| {
+        match stub::bsp_find_leaf(f, m, r, p, o) {
+            30 if r == 0 && m[11] > 0 && m[21] > 0 => 31,
+            refusal => refusal,
+        }
+    };
+    walks: find_leaf_cuts_its_root, find_leaf, "bsp_find_leaf", |f, m, r, p, o| {
+        stub::bsp_find_leaf(f, m, r as u32 as u64, p, o)
+    };
+    walks: trace_is_shallow, trace, "bsp_trace", |f, m, h, s, o| {
+        match stub::bsp_trace(f, m, h, s, o) {
+            0 if o[0] == 512 => 32,
+            refusal => refusal,
+        }
+    };
+    walks: trace_leaves_the_plane, trace, "bsp_trace", |f, m, h, s, o| {
+        let turn = |o: &mut [u64]| if o[10] == 1 && o[12] == 3 { o[16] ^= 0x8000_0000 };
+        changed(stub::bsp_trace(f, m, h, s, o), o, turn)
+    };
+    walks: trace_forgets_the_start, trace, "bsp_trace", |f, m, h, s, o| {
+        let forget = |o: &mut [u64]| o[2] = (o[1] == 2) as u64;
+        changed(stub::bsp_trace(f, m, h, s, o), o, forget)
+    };
+    walks: trace_fills_a_terminal, trace, "bsp_trace", |f, m, h, s, o| {
+        let fill = |o: &mut [u64]| if o[10] == 0 { o[11] = 0x3f80_0000 };
+        changed(stub::bsp_trace(f, m, h, s, o), o, fill)
+    };
+    walks: nodes_in_another_order, trace_nodes, "bsp_trace_nodes", |f, m, h, s, list, o| {
+        let refusal = stub::bsp_trace_nodes(f, m, h, s, list, o);
+        if refusal == 0 && o[0] > 2 {
+            list.swap(1, 2);
+        }
+        refusal
+    };
+    walks: a_short_list_first, contents_nodes, "bsp_contents_nodes", |f, m, h, p, list, o| {
+        match stub::bsp_contents_nodes(f, m, h, p, list, o) {
+            30 if list.is_empty() => 22,
+            refusal => refusal,
+        }
+    };
+    walks: a_list_cleared, find_leaf_nodes, "bsp_find_leaf_nodes", |f, m, r, p, list, o| {
+        let refusal = stub::bsp_find_leaf_nodes(f, m, r, p, list, o);
+        if refusal == 0 {
+            list[o[0] as usize..].fill(0);
+        }
+        refusal
+    };
+    walks: hull_counts_to_zero, hull, "bsp_hull", |f, m, n, i, o| {
+        let hold = |o: &mut [u64]| if o[2] > 1 << 32 { o[2] = 0 };
+        changed(stub::bsp_hull(f, m, n, i, o), o, hold)
+    };
+    walks: hull_three, hull, "bsp_hull", |f, m, n, i, o| match i {
+        3 => stub::bsp_hull(f, m, n, 2, o),
+        i => stub::bsp_hull(f, m, n, i, o),
+    };
+    walks: box_refuses_nan, bounds, "bsp_box", |b, o| {
+        match stub::bsp_box(b, o) {
+            0 if b.iter().any(|x| x.is_nan()) => 21,
+            refusal => refusal,
+        }
+    };
+
+    tree: marks_left_behind, tree_check, "bsp_tree_check", |f, m, t, r, marks, o| {
+        let refusal = stub::bsp_tree_check(f, m, t, r, marks, o);
+        if refusal == 34 {
+            marks[r as usize] = 1;
+        }
+        refusal
+    };
+    tree: marks_cleared_too_far, tree_check, "bsp_tree_check", |f, m, t, r, marks, o| {
+        let refusal = stub::bsp_tree_check(f, m, t, r, marks, o);
+        if refusal == 0 {
+            marks.fill(0);
+        }
+        refusal
+    };
+    tree: marks_touched_by_22, tree_check, "bsp_tree_check", |f, m, t, r, marks, o| {
+        let refusal = stub::bsp_tree_check(f, m, t, r, marks, o);
+        if refusal == 22 && m.len() == 31 {
+            marks.fill(0);
+        }
+        refusal
+    };
+    tree: tree_of_513, tree_check, "bsp_tree_check", |f, m, t, r, marks, o| {
+        match stub::bsp_tree_check(f, m, t, r, marks, o) {
+            32 if m[19] == 8 * 513 => 0,
+            refusal => refusal,
+        }
+    };
+    tree: dirty_marks_count, tree_check, "bsp_tree_check", |f, m, t, r, marks, o| {
+        let dirty = marks.first() == Some(&0xff);
+        match stub::bsp_tree_check(f, m, t, r, marks, o) {
+            0 if dirty => 34,
+            refusal => refusal,
+        }
+    };
+    tree: planes_first, tree_check, "bsp_tree_check", |f, m, t, r, marks, o| {
+        match stub::bsp_tree_check(f, m, t, r, marks, o) {
+            23 if t == 1 && m[19] == 16 => 30,
+            refusal => refusal,
+        }
+    };
+
+    pvs: list_cut_at_the_count, pvs, "bsp_pvs", |f, m, l, c, list, o| {
+        let refusal = stub::bsp_pvs(f, m, l, c, list, o);
+        if refusal == 0 {
+            let kept = list[..o[0] as usize].iter().filter(|n| (**n as u64) < c).count();
+            list[kept..o[0] as usize].fill(0xa5a5_a5a5);
+            o[0] = kept as u64;
+        }
+        refusal
+    };
+    pvs: leaf_0_is_looked_up, pvs, "bsp_pvs", |f, m, l, c, list, o| {
+        match stub::bsp_pvs(f, m, l, c, list, o) {
+            0 if l == 0 && m[21] == 0 => 20,
+            refusal => refusal,
+        }
+    };
+    pvs: offset_at_the_end, pvs, "bsp_pvs", |f, m, l, c, list, o| {
+        match stub::bsp_pvs(f, m, l, c, list, o) {
+            0 if c < 2 && l > 0 && o[0] == 0 && m[9] < 2 => 33,
+            refusal => refusal,
+        }
+    };
+    pvs: short_before_outside, pvs, "bsp_pvs", |f, m, l, c, list, o| {
+        match stub::bsp_pvs(f, m, l, c, list, o) {
+            33 if list.is_empty() => 22,
+            refusal => refusal,
+        }
+    };
+
+    loads: short_rows_are_short, load, "bsp_load", |f, m| match stub::bsp_load(f, m) {
+        7 => 1,
+        refusal => refusal,
+    };
+    loads: text_of_65537, load, "bsp_load", |f, m| match stub::bsp_load(f, m) {
+        8 => 9,
+        refusal => refusal,
+    };
+    loads: extents_not_tested, load, "bsp_load", |f, m| match stub::bsp_load(f, m) {
+        12 => 10,
+        refusal => refusal,
+    };
+    loads: limit_off_by_one, load, "bsp_load", |f, m| match stub::bsp_load(f, m) {
+        0 if m[27] == 2_048_000 => 6,
+        refusal => refusal,
+    };
+    loads: texture_count_lost, load, "bsp_load", |f, m| {
+        let refusal = stub::bsp_load(f, m);
+        if refusal == 0 {
+            m[30] = 0;
+        }
+        refusal
+    };
+    loads: words_written_when_refused, load, "bsp_load", |f, m| {
+        let refusal = stub::bsp_load(f, m);
+        if refusal == 12 {
+            m[0] = 0;
+        }
+        refusal
+    };
+    loads: surrogates_taken, load, "bsp_load", |f, m| match stub::bsp_load(f, m) {
+        9 if f.ends_with(&[0xed, 0xa0, 0x80, 0]) => 7,
+        refusal => refusal,
+    };
+}
