@@ -3,7 +3,7 @@
 -- Assumes nothing.
 use Prim.Native.Nat.{ℕ}
 use mathlib.Core.Path.{_≡_, sym, ap, _∙_}
-use Rattle.format.specs.Step.{Step, ok, refused, andThen}
+use Rattle.format.specs.Step.{Step, refused, andThen}
 use Rattle.format.specs.Answer as Answer
 use Rattle.format.specs.Refusal.{numberOf}
 use Rattle.format.specs.declared.refusal.Refusal.{Refusal}

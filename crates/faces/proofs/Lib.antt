@@ -2,5 +2,6 @@
 pub mod Chain
 pub mod Spans
 pub mod FaceLayout
+pub mod FaceLaws
 pub mod Zeros
 pub mod ExtentZeros

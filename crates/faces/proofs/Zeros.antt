@@ -1,16 +1,16 @@
 -- Two floats that differ at most in the sign of a zero, and what does not tell them apart.
 -- Assumes nothing.
-use Prim.Native.Nat.{ℕ, zero, suc, _+_, _-_, _*_, _/_, _%_, _^_, _≤_, _<_, min, compare, compare·zero-suc, zero-le}
-use mathlib.Core.Path.{_≡_, refl, sym, ap, _∙_, subst}
-use mathlib.Core.Bool.{Bool, true, false, not, _&&_, _||_, Bool·beq, cond}
+use Prim.Native.Nat.{ℕ, zero, suc, _-_, _*_, _<_, compare, compare·zero-suc, zero-le}
+use mathlib.Core.Path.{_≡_, refl, sym, _∙_, subst}
+use mathlib.Core.Bool.{Bool, true, false, not, _&&_, cond}
 use native.Mathlib.Nat.{zero-mul, mul-one, add-zero, zero-add, zero-div, zero-mod, mul-pos, zero-lt-suc}
 use native.Mathlib.Omega.{arith}
-use borrow.Author.Tests.{lt-ltb, le-ltb, ltb-false}
-use lib.Dec.{ltb, eqb}
-use lib.IntN.{ℤ, pos, negsuc, negℤ}
+use borrow.Author.Tests.{lt-ltb, le-ltb}
+use lib.Dec.{ltb}
+use lib.IntN.{ℤ, pos}
 use lib.Ieee.{Float, nan, inf, fin, binary32, ofBits, up, down, unlike, nearest, size, odd, units, round, neg, sum, add, sub, div, lt, isNan, toSigned}
-use lib.Ieee.Fits.{up-pos, down-pos}
-use Rattle.float.specs.Whole.{minimum, maximum, floorOf, ceilOf, ofWhole, cut, raised}
+use lib.Ieee.Fits.{up-pos}
+use Rattle.float.specs.Whole.{minimum, maximum, floorOf, ceilOf, ofWhole}
 
 abbrev zeroOf : Bool → Float
 zeroOf s = fin s 0 (pos 0)
@@ -92,10 +92,7 @@ pub max-alike : (x y z : Float) → Alike x y → Alike (maximum x z) (maximum y
 unfolding maximum
 max-alike x y z h = rw (sym (no-number x y h), sym (lt-left x y z h)) (picked (isNan x) (lt x z) z h)
 
--- division by a number that is not 0, floor, ceiling
-sixteen : Float
-sixteen = ofBits binary32 0x4180_0000
-
+-- division by 16, floor and ceiling
 pub div-alike : (x y : Float) → Alike x y → Alike (div binary32 x (ofBits binary32 0x4180_0000)) (div binary32 y (ofBits binary32 0x4180_0000))
 unfolding div ofBits
 div-alike x y same = same

@@ -1,7 +1,7 @@
 -- The texture mins and extents of a face, in the order of the Rust's text after 'see Calc_SurfaceExtents'. Each operation on floats is
 -- rounded once. An index that leads outside its table is refused with 11, as loading does where the Rust panics.
 use Prim.Native.Nat.{ℕ, zero, suc, _+_}
-use mathlib.Core.Bool.{Bool, true, false}
+use mathlib.Core.Bool.{Bool}
 use mathlib.Core.List.{List}
 use lib.Dec.{ltb}
 use lib.IntN.{ℤ}

@@ -1,11 +1,10 @@
 -- What `search` goes by in a function that is a chain of reads and tests: a read that gave a value and one that refused, for each answer
 -- enum, and a test that held and one that failed. `search (tests, values, i32) depth 10` closes a return of a function that reads an i32.
 -- Assumes nothing.
-use Prim.Native.Nat.{ℕ, _<_, _≤_}
-use mathlib.Core.Path.{_≡_, refl, sym, ap, _∙_}
+use Prim.Native.Nat.{ℕ}
+use mathlib.Core.Path.{_≡_, sym, ap, _∙_}
 use mathlib.Core.Bool.{Bool, true, false}
 use borrow.Author.Tests.{lt-ltb, le-ltb, le-leb, lt-leb, eq-eqb, ne-eqb}
-use lib.Dec.{ltb, leb, eqb}
 use lib.IntN.{ℤ}
 use lib.Ieee.{Float}
 use lib.Signed.{ltZ}

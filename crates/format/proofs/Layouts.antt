@@ -1,21 +1,20 @@
 -- The readers of fields read the bytes that a layout names, and the sizes of the records are those of the layouts.
 -- Assumes nothing.
-use Prim.Native.Nat.{ℕ, _+_, _*_, _^_, _≤_, _<_, zero-le}
-use mathlib.Core.Path.{_≡_, refl, sym, ap, _∙_}
+use Prim.Native.Nat.{ℕ, _+_, _*_, _^_, _≤_, zero-le}
+use mathlib.Core.Path.{_≡_, refl}
 use mathlib.Core.Bool.{Bool, true, false}
 use mathlib.Core.List.{List}
 use native.Mathlib.Nat.{add-zero}
 use native.Mathlib.Omega.{arith}
 use borrow.Author.Tests.{le-leb, lt-leb, le-ltb, ltb-true, ltb-false}
 use lib.Dec.{leb, ltb}
-use lib.IntN.{ℤ, pos}
+use lib.IntN.{pos}
 use lib.Signed.{ltZ}
-use lib.Ieee.{Float, ofBits, binary32}
+use lib.Ieee.{ofBits, binary32}
 use lib.ListN.{length, getD}
 use mir.Syntax.{Width, w16, w32}
 use mir.Val.{toZ, hbits}
-use Rattle.format.specs.Step.{Step, ok, refused, andThen, when}
-use Rattle.format.specs.Answer.{Answer}
+use Rattle.format.specs.Step.{Step, ok, andThen, when}
 use Rattle.format.specs.Field.{u8At, u16At, u32At, i16At, i32At, f32At}
 use Rattle.format.specs.Section.{elementSize}
 use Rattle.format.specs.Layout as Layout

@@ -1,7 +1,7 @@
 -- Where records lie: a record of the count ends within its section, so that no sum or product of a place wraps, and what each refusal of
 -- `place` says.
 -- Assumes nothing.
-use Prim.Native.Nat.{ℕ, _+_, _*_, _/_, _≤_, _<_}
+use Prim.Native.Nat.{ℕ, _+_, _*_, _≤_, _<_}
 use mathlib.Core.Path.{_≡_, refl, sym, ap, _∙_}
 use mathlib.Core.Bool.{Bool, true, false}
 use native.Mathlib.Nat.{le-div-iff-mul-le}
@@ -9,7 +9,7 @@ use native.Mathlib.Omega.{arith}
 use borrow.Author.Tests.{le-leb, lt-leb, leb-true, leb-false}
 use lib.Dec.{leb, lit<}
 use Rattle.format.specs.Step.{when}
-use Rattle.format.specs.Answer.{Answer, answer, refused}
+use Rattle.format.specs.Answer.{answer, refused}
 use Rattle.format.specs.Section.{elementSize, withinLimit, recordCount, place}
 use Rattle.format.specs.declared.section.BspFileSection.{BspFileSection}
 use Rattle.format.specs.declared.section.BspFileSectionId.{BspFileSectionId}

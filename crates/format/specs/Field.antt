@@ -1,7 +1,6 @@
 -- Little-endian fields at a position: the value and the position after it, or 1 where the bytes end.
 use Prim.Native.Nat.{ℕ, _+_, _*_}
 use mathlib.Core.List.{List}
-use mathlib.Core.Bool.{Bool, true, false}
 use lib.ListN.{length, getD}
 use lib.Dec.{leb}
 use lib.IntN.{ℤ, pos, natAbs}

@@ -1,6 +1,6 @@
 -- The fifteen sections: the sizes of their records, their limits, how many records they have, and where a record lies.
 use Prim.Native.Nat.{ℕ, _+_, _*_, _/_}
-use mathlib.Core.Bool.{Bool, true, false}
+use mathlib.Core.Bool.{Bool, true}
 use lib.Dec.{leb}
 use Rattle.format.specs.Step.{when}
 use Rattle.format.specs.Answer.{Answer, answer, refused}

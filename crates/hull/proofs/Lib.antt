@@ -1,8 +1,8 @@
 -- Laws about walks and traces over the tables of `nodes`.
-mod Entering
+pub mod Entering
 mod Ends
 mod Points
-mod Founds
+pub mod Founds
 mod Descents
 mod Crossings
 mod Hulls

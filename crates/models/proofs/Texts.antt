@@ -1,10 +1,10 @@
 -- The steps of the loop over the entity text: the zero byte, any other, and the end; and where the text lies.
 -- Assumes nothing.
-use Prim.Native.Nat.{ℕ, zero, suc, _+_, _-_, _<_, _≤_, zero-le}
+use Prim.Native.Nat.{ℕ, suc, _+_, _-_, _<_, _≤_, zero-le}
 use mathlib.Core.Bool.{Bool, true, false}
 use lib.Dec.{eqb, leb, ltb}
 use Rattle.format.specs.Step.{when}
-use mathlib.Core.Path.{_≡_, refl, sym, ap, _∙_}
+use mathlib.Core.Path.{_≡_, refl, sym}
 use mathlib.Core.List.{List, [], _∷_}
 use native.Mathlib.Nat.{add-zero, add-sub-cancel-left}
 use native.Mathlib.Numerals.{add-one}
@@ -12,7 +12,7 @@ use native.Mathlib.Omega.{arith}
 use borrow.Author.Tests.{eq-eqb, ne-eqb, lt-ltb, le-ltb, lt-leb, le-leb, leb-false}
 use lib.ListN.{length, getD, take, drop, drop-of-length-le, length-drop}
 use lib.Seq.{drop-cons}
-use Rattle.format.specs.Answer.{Answer, answer, refused}
+use Rattle.format.specs.Answer.{answer, refused}
 use Rattle.format.specs.declared.section.BspData.{BspData}
 use Rattle.models.specs.Text.{Part, through, textEnd, entitiesOf, entityText}
 

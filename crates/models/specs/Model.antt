@@ -2,7 +2,7 @@
 -- them and from the models before.
 use Prim.Native.Nat.{ℕ, zero, suc, _+_, _-_, _%_, _^_}
 use mathlib.Core.List.{List}
-use lib.Ieee.{Float, binary32, ofBits}
+use lib.Ieee.{binary32, ofBits}
 use Rattle.math.specs.Vector.{vector, sum, difference}
 use Rattle.math.specs.declared.Vector3.{Vector3}
 use Rattle.format.specs.Step.{Step, ok, refused, andThen}

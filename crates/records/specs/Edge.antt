@@ -1,7 +1,7 @@
 -- Edges, the list of edges and the list of faces.
 use Prim.Native.Nat.{ℕ}
 use mathlib.Core.List.{List}
-use lib.IntN.{ℤ, pos, negsuc, natAbs}
+use lib.IntN.{ℤ, pos, natAbs}
 use lib.Signed.{ltZ}
 use mir.Syntax.{w32, w64}
 use mir.Val.{ofZ}

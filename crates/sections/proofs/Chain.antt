@@ -12,7 +12,7 @@ use Rattle.sections.specs.Position.{positionStep}
 use Rattle.sections.specs.Table.{sectionStep, threeSectionsStep, tableStep}
 use Rattle.sections.specs.declared.position.Position.{Position}
 use Rattle.sections.specs.declared.position.Position.the-variants as Pos
-use Rattle.sections.specs.declared.table.ThreeSections.{ThreeSections}
+use Rattle.sections.specs.declared.table.Three.{Three}
 use Rattle.sections.specs.declared.table.ReadSection.{ReadSection}
 use Rattle.sections.specs.declared.table.ReadSection.the-variants as Sec
 use Rattle.sections.specs.declared.table.ReadThreeSections.{ReadThreeSections}
@@ -27,11 +27,11 @@ module _ {B : Type 0} (k : BspFileSection → ℕ → Step B) where
   pub section-no : (r : ReadSection) (x : Step BspFileSection) (n : Refusal) → sectionStep r ≡ x → r ≡ Sec.Refused n → refused (numberOf n) ≡ andThen x k
   section-no r x n e q = no x k (numberOf n) (sym e ∙ ap sectionStep q)
 
-module _ {B : Type 0} (k : ThreeSections → ℕ → Step B) where
-  pub three-ok : (r : ReadThreeSections) (x : Step ThreeSections) (v : ThreeSections) (p : ℕ) (y : Step B) → threeSectionsStep r ≡ x → r ≡ Thr.Value v p → y ≡ k v p → y ≡ andThen x k
+module _ {B : Type 0} (k : Three → ℕ → Step B) where
+  pub three-ok : (r : ReadThreeSections) (x : Step Three) (v : Three) (p : ℕ) (y : Step B) → threeSectionsStep r ≡ x → r ≡ Thr.Value v p → y ≡ k v p → y ≡ andThen x k
   three-ok r x v p y e q h = go x k v p y (sym e ∙ ap threeSectionsStep q) h
 
-  pub three-no : (r : ReadThreeSections) (x : Step ThreeSections) (n : Refusal) → threeSectionsStep r ≡ x → r ≡ Thr.Refused n → refused (numberOf n) ≡ andThen x k
+  pub three-no : (r : ReadThreeSections) (x : Step Three) (n : Refusal) → threeSectionsStep r ≡ x → r ≡ Thr.Refused n → refused (numberOf n) ≡ andThen x k
   three-no r x n e q = no x k (numberOf n) (sym e ∙ ap threeSectionsStep q)
 
 module _ {B : Type 0} (k : BspData → ℕ → Step B) where

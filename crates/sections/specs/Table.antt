@@ -13,7 +13,7 @@ use Rattle.format.specs.declared.section.BspFileSection.{BspFileSection}
 use Rattle.format.specs.declared.section.BspData.{BspData}
 use Rattle.format.specs.declared.section.BspFileSectionId.{BspFileSectionId}
 use Rattle.format.specs.declared.section.BspFileSectionId.the-variants.{Entities, Planes, Textures, Vertices, Visibility, RenderNodes, TextureInfo, Faces, Lightmaps, CollisionNodes, Leaves, FaceList, Edges, EdgeList, Models}
-use Rattle.sections.specs.declared.table.ThreeSections.{ThreeSections}
+use Rattle.sections.specs.declared.table.Three.{Three}
 use Rattle.sections.specs.declared.table.ReadSection.{ReadSection}
 use Rattle.sections.specs.declared.table.ReadSection.the-variants as S
 use Rattle.sections.specs.declared.table.ReadThreeSections.{ReadThreeSections}
@@ -33,7 +33,7 @@ sectionAt id s at =
     when (isMultiple id size) (ok (record { offset = offset; size = size }) next) (refused 5)))
 
 -- three sections of the table
-unfoldable pub threeSectionsAt : BspFileSectionId → BspFileSectionId → BspFileSectionId → List ℕ → ℕ → Step ThreeSections
+unfoldable pub threeSectionsAt : BspFileSectionId → BspFileSectionId → BspFileSectionId → List ℕ → ℕ → Step Three
 threeSectionsAt i j k s at =
     andThen (sectionAt i s at) (λ a p.
     andThen (sectionAt j s p) (λ b q.
@@ -41,7 +41,7 @@ threeSectionsAt i j k s at =
     ok (record { a = a; b = b; c = c }) next)))
 
 -- the fifteen sections in the map record, whose texture count is not known yet
-abbrev pub tableOf : ThreeSections → ThreeSections → ThreeSections → ThreeSections → ThreeSections → BspData
+abbrev pub tableOf : Three → Three → Three → Three → Three → BspData
 tableOf a b c d e = record {
   entities = a .a;
   planes = a .b;
@@ -62,7 +62,7 @@ tableOf a b c d e = record {
 }
 
 -- the table from the collision nodes on
-unfoldable pub tableEndAt : ThreeSections → ThreeSections → ThreeSections → List ℕ → ℕ → Step BspData
+unfoldable pub tableEndAt : Three → Three → Three → List ℕ → ℕ → Step BspData
 tableEndAt a b c s at =
     andThen (threeSectionsAt CollisionNodes Leaves FaceList s at) (λ d p.
     andThen (threeSectionsAt Edges EdgeList Models s p) (λ e next.
@@ -113,7 +113,7 @@ abbrev pub sectionStep : ReadSection → Step BspFileSection
 sectionStep (S.Value x p) = ok x p
 sectionStep (S.Refused e) = refused (numberOf e)
 
-abbrev pub threeSectionsStep : ReadThreeSections → Step ThreeSections
+abbrev pub threeSectionsStep : ReadThreeSections → Step Three
 threeSectionsStep (H.Value x p) = ok x p
 threeSectionsStep (H.Refused e) = refused (numberOf e)
 

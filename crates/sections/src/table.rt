@@ -16,14 +16,14 @@ pub enum ReadSection {
 }
 
 // Three sections in a row.
-pub struct ThreeSections {
+pub struct Three {
     pub a: BspFileSection,
     pub b: BspFileSection,
     pub c: BspFileSection,
 }
 
 pub enum ReadThreeSections {
-    Value(ThreeSections, usize),
+    Value(Three, usize),
     Refused(Refusal),
 }
 
@@ -74,10 +74,7 @@ fn read_three_sections(
             ReadSection::Refused(e) => ReadThreeSections::Refused(e),
             ReadSection::Value(b, q) => match read_section(s, q, k) {
                 ReadSection::Refused(e) => ReadThreeSections::Refused(e),
-                ReadSection::Value(c, next) => ReadThreeSections::Value(
-                    ThreeSections { a, b, c },
-                    next,
-                ),
+                ReadSection::Value(c, next) => ReadThreeSections::Value(Three { a, b, c }, next),
             },
         },
     }
@@ -117,13 +114,7 @@ pub fn read_table(s: &[u8], at: usize) -> ReadTable
 }
 
 // The table from the collision nodes on.
-fn read_table_end(
-    s: &[u8],
-    at: usize,
-    a: ThreeSections,
-    b: ThreeSections,
-    c: ThreeSections,
-) -> ReadTable
+fn read_table_end(s: &[u8], at: usize, a: Three, b: Three, c: Three) -> ReadTable
     ensures { λ r. ⌜ Table.tableStep r ≡ Table.tableEndAt a b c (now (s .entry)) at ⌝ }
 {
     match read_three_sections(
@@ -147,13 +138,7 @@ fn read_table_end(
     }
 }
 
-fn table_of(
-    a: ThreeSections,
-    b: ThreeSections,
-    c: ThreeSections,
-    d: ThreeSections,
-    e: ThreeSections,
-) -> BspData
+fn table_of(a: Three, b: Three, c: Three, d: Three, e: Three) -> BspData
     ensures { λ r. ⌜ r ≡ Table.tableOf a b c d e ⌝ }
 {
     let entities = a.a;

@@ -1,11 +1,10 @@
 -- `faces::extents::span_over` meets its contract: the span of the entries left, from what is known so far, is the span of all.
 -- Assumes nothing.
-use Prim.Native.Nat.{ℕ, _+_, _-_, _<_, _≤_}
+use Prim.Native.Nat.{_+_, _-_}
 use mathlib.Core.Path.{_≡_, refl, sym, ap, _∙_}
 use native.Mathlib.Omega.{arith}
 use borrow.Author.Needs.{needs}
 use denote.Ref.{now}
-use Rattle.format.specs.Answer.{answer, refused}
 use Rattle.format.proofs.Fields.{found}
 use Rattle.records.specs.Plane.{vertexAnswer}
 use Rattle.faces.specs.Extents.{unbounded, spanOver}

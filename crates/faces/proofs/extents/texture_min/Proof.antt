@@ -1,7 +1,7 @@
 -- `faces::extents::texture_min` meets its contract: one operation after another.
 -- Assumes nothing.
 use borrow.Author.Needs.{needs}
-use mathlib.Core.Path.{refl, _∙_, ap}
+use mathlib.Core.Path.{_∙_, ap}
 use lib.Ieee.{toSigned}
 use mir.Syntax.{w16}
 use mir.Facts.{toZ-ofZ}

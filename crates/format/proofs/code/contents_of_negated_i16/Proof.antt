@@ -1,7 +1,7 @@
 -- `format::code::contents_of_negated_i16` meets its contract: the wider type agrees.
 -- Assumes nothing.
-use Prim.Native.Nat.{ℕ, _^_, _<_}
-use mathlib.Core.Path.{_≡_, refl, _∙_, ap}
+use Prim.Native.Nat.{_<_}
+use mathlib.Core.Path.{refl}
 use native.Mathlib.Omega.{arith}
 use borrow.Author.Needs.{needs}
 use lib.Dec.{lit<}

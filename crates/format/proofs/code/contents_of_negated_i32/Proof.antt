@@ -1,12 +1,11 @@
 -- `format::code::contents_of_negated_i32` meets its contract, by the distance of the number from -1.
 -- Assumes nothing.
-use Prim.Native.Nat.{ℕ, _+_, _^_, _<_, _≤_}
-use mathlib.Core.Path.{_≡_, sym, _∙_, ap}
-use mathlib.Core.Bool.{true}
+use Prim.Native.Nat.{_+_, _<_, _≤_}
+use mathlib.Core.Path.{sym, _∙_, ap}
 use native.Mathlib.Omega.{arith}
 use borrow.Author.Needs.{needs}
 use lib.Dec.{lit<, lit≤}
-use lib.IntN.{ℤ, pos, natAbs}
+use lib.IntN.{ℤ, natAbs}
 use mir.Syntax.{w32}
 use mir.Facts.{toZ-ofZ}
 use Rattle.format.specs.Code.{contentsOf}

@@ -1,11 +1,11 @@
 -- `models::model::leaf_id` meets its contract: so far the leaf counts of the models passed are added up, each below 2^32.
 -- Assumes nothing.
-use Prim.Native.Nat.{ℕ, _+_, _-_, _*_, _≤_, _<_}
+use Prim.Native.Nat.{ℕ, _-_, _*_, _≤_}
 use mathlib.Core.Path.{_≡_, refl, sym, ap, _∙_}
 use native.Mathlib.Omega.{arith}
 use borrow.Author.Needs.{needs}
 use denote.Ref.{now}
-use Rattle.format.specs.Answer.{answer, refused}
+use Rattle.format.specs.Answer.{answer}
 use Rattle.format.proofs.Fields.{found}
 use Rattle.models.specs.Model.{leafIdOf, fileModelAnswer}
 use Rattle.models.proofs.Models.{few, step, stop}

@@ -1,9 +1,8 @@
 -- `models::text::text_end` meets its contract: the end of the text from i is the end from the start.
 -- Assumes nothing.
-use Prim.Native.Nat.{ℕ, _+_, _-_, _<_, _≤_}
+use Prim.Native.Nat.{_-_}
 use mathlib.Core.Path.{_≡_, refl, sym, _∙_}
 use native.Mathlib.Omega.{arith}
-use borrow.Author.Needs.{needs}
 use lib.ListN.{length}
 use Rattle.models.specs.Text.{textEnd}
 use Rattle.models.proofs.Texts.{zero-ends, goes-on, at-end}

@@ -1,6 +1,5 @@
 -- `records::edge::edge_index_of` meets its contract: by the sign of the number, and the least number apart.
 -- Assumes nothing.
-use borrow.Author.Needs.{needs}
 use mathlib.Core.Path.{refl}
 use lib.Dec.{lit≤}
 use mir.Syntax.{w32, w64}

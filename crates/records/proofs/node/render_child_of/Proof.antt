@@ -1,6 +1,5 @@
 -- `records::node::render_child_of` meets its contract: by the sign of the child.
 -- Assumes nothing.
-use borrow.Author.Needs.{needs}
 use lib.Dec.{lit≤}
 use mir.Syntax.{w16, w64}
 use mathlib.Core.Path.{refl}

@@ -1,6 +1,5 @@
 -- `records::number::offset_of` meets its contract: by the sign of the offset.
 -- Assumes nothing.
-use borrow.Author.Needs.{needs}
 use lib.Dec.{lit≤}
 use mir.Syntax.{w32, w64}
 use mathlib.Core.Path.{refl}

@@ -1,11 +1,7 @@
 -- `BspFileSection::place` meets its contract: the tests in order, and no sum wraps, since a record of the count ends within its section.
 -- Assumes nothing.
-use Prim.Native.Nat.{ℕ, _+_, _*_, _≤_, _<_}
-use mathlib.Core.Path.{_≡_, sym, ap, _∙_}
-use mathlib.Core.Bool.{true}
 use native.Mathlib.Omega.{arith}
 use borrow.Author.Needs.{needs}
-use Rattle.format.specs.Section.{elementSize}
 use Rattle.format.proofs.Places.{before-end, none, above, outside, inside}
 use Rattle.format.proofs.section.BspFileSection.place.Statement.{statement}
 use Rattle.format.proofs.section.BspFileSection.place.Tie as tie
