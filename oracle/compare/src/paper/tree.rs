@@ -51,13 +51,27 @@ impl Check<'_> {
     }
 }
 
-/// Table 0 is the render nodes, 1 the clip nodes; another names none (20). The answer is the tree's
-/// height. Marks that are too short are 22 and untouched; else the first ones, one per node, are
-/// zero afterwards.
+/// The six nodes of a box, each below the one before.
+fn check_box(root: u64, marks: &mut [u8]) -> Answer<u64> {
+    if marks.len() < 6 {
+        return Err(22);
+    }
+    marks[..6].fill(0);
+    if root < 6 {
+        Ok(6 - root)
+    } else {
+        Err(30)
+    }
+}
+
+/// Table 0 is the render nodes, 1 the clip nodes, 2 a box; another names none (20). The answer is
+/// the tree's height. Marks that are too short are 22 and untouched; else the first ones, one per
+/// node, are zero afterwards.
 pub fn check(map: &Map, table: u32, root: u64, marks: &mut [u8]) -> Answer<u64> {
     let section = match table {
         0 => RENDER_NODES,
         1 => CLIP_NODES,
+        2 => return check_box(root, marks),
         _ => return Err(20),
     };
     let count = map.count(section);
