@@ -96,6 +96,7 @@ pub fn is_linked(call: &str) -> bool {
         "bsp_record" | "bsp_count" | "bsp_entities" => cfg!(feature = "ffi_records"),
         "bsp_pvs" => cfg!(feature = "ffi_pvs"),
         "bsp_tree_check" => cfg!(feature = "ffi_tree"),
+        "bsp_contents_nodes" | "bsp_find_leaf_nodes" | "bsp_trace_nodes" => cfg!(feature = "ffi_nodes"),
         _ => cfg!(feature = "ffi_walks"),
     }
 }
@@ -232,7 +233,7 @@ pub fn contents_nodes(
     out: &mut [u64],
 ) -> u32 {
     either!(
-        "ffi_walks",
+        "ffi_nodes",
         bsp_contents_nodes(file, map, hull, point, list, out),
         (
             file.as_ptr(),
@@ -260,7 +261,7 @@ pub fn find_leaf_nodes(
     out: &mut [u64],
 ) -> u32 {
     either!(
-        "ffi_walks",
+        "ffi_nodes",
         bsp_find_leaf_nodes(file, map, root, point, list, out),
         (
             file.as_ptr(),
@@ -287,7 +288,7 @@ pub fn trace_nodes(
     out: &mut [u64],
 ) -> u32 {
     either!(
-        "ffi_walks",
+        "ffi_nodes",
         bsp_trace_nodes(file, map, hull, segment, list, out),
         (
             file.as_ptr(),

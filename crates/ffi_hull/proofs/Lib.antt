@@ -1,0 +1,2 @@
+-- What the proofs of `ffi_hull` share.
+pub mod Asking

@@ -1,0 +1,56 @@
+-- `ffi_hull::find_leaf` meets its contract. Assumes nothing.
+use borrow.Author.Needs.{needs}
+use mathlib.Core.Path.{_≡_, ap₂, _∙_}
+use borrow.Author.Tests.{lt-ltb, le-ltb}
+use Rattle.words.specs.Words.{given, inWords}
+use Rattle.walk.specs.Walk.{withVisits, pointWalk}
+use Rattle.nodes.specs.Tables.{leafTable}
+use Rattle.ffi_hull.specs.Layout.{leafWords}
+use Rattle.ffi_hull.specs.Calls.{bspFindLeaf}
+use Rattle.ffi_hull.proofs.find_leaf.Statement.{statement}
+use Rattle.ffi_hull.proofs.find_leaf.Tie as tie
+
+returns : tie.Need-returns
+unfolding bspFindLeaf
+returns c = simp (lt-ltb _ _ (c .if1 .taken))
+
+returns-2 : tie.Need-returns-2
+unfolding bspFindLeaf
+returns-2 c = simp (le-ltb _ _ (c .before .if1 .left), lt-ltb _ _ (c .if2 .taken))
+
+returns-3 : tie.Need-returns-3
+unfolding bspFindLeaf
+returns-3 c = simp (le-ltb _ _ (c .before .before .if1 .left), le-ltb _ _ (c .before .if2 .left), lt-ltb _ _ (c .if3 .taken))
+
+map-of-requires : tie.Need-map-of-requires
+map-of-requires c κs = search needs
+
+first-point-requires : tie.Need-first-point-requires
+first-point-requires c κs = search needs
+
+give-leaf-requires : tie.Need-give-leaf-requires
+give-leaf-requires c κs = search needs
+
+same-length : tie.Need-same-length
+same-length c = search needs
+
+returns-4 : tie.Need-returns-4
+unfolding bspFindLeaf
+returns-4 c =
+    let s = c .before .before .before .before .before .before .before .before .before .before .before .before .before .args in
+    simp (le-ltb _ _ (c .before .before .before .before .before .before .before .before .if1 .left), le-ltb _ _ (c .before .before .before .before .before .before .before .if2 .left), le-ltb _ _ (c .before .before .before .before .before .before .if3 .left))
+    (c .before .before .give-leaf .ensures
+    ∙ ap₂ (λ m p. given (inWords leafWords (withVisits (pointWalk (leafTable (s .file .now) m) (s .root) p))) (s .out .now)) (c .before .before .before .before .before .map-of .ensures) (c .before .before .before .before .first-point .ensures))
+
+pub find-leaf-spec : {M : Type 1} → statement M
+find-leaf-spec =
+    tie.close
+    (tie.spec
+    returns
+    returns-2
+    returns-3
+    map-of-requires
+    first-point-requires
+    give-leaf-requires
+    same-length
+    returns-4)

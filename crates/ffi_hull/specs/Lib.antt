@@ -1,0 +1,3 @@
+-- What the contracts of `ffi_hull` cite.
+pub mod Layout
+pub mod Calls

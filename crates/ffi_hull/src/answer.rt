@@ -1,0 +1,72 @@
+// The answers of the hull's calls, their words at the front of a list.
+ghost use mathlib.Core.Path.{_≡_};
+ghost use Prim.Native.Nat.{_≤_};
+ghost use lib.ListN.{length};
+ghost use Rattle.words.specs.Words.{written, given, inWords};
+ghost use Rattle.walk.specs.Walk.{withVisits, pointWalk};
+ghost use Rattle.walk.specs.Trace as Tracing;
+ghost use Rattle.nodes.specs.Tables.{leafTable};
+ghost use Rattle.hull.specs.Hull.{hullAnswer, hullTable};
+ghost use Rattle.ffi_hull.specs.Layout as Layout;
+use crate::layout;
+use format::section::BspData;
+use hull::collision::BspCollisionHull;
+use hull::collision::HullAnswer;
+use hull::point::FoundLeaf;
+use hull::point::PointContents;
+use hull::tracing::Traced;
+use math::Vector3;
+use words::give;
+
+pub fn give_hull(hull: HullAnswer, out: &mut [u64]) -> u32
+    requires { ⌜ 9 ≤ length (now out) ⌝ }
+    ensures { λ r. ⌜ written r (now (out .exit)) ≡ given (inWords Layout.hullWords (hullAnswer hull)) (now (out .entry)) ⌝ }
+{
+    match hull {
+        HullAnswer::Refused(e) => e.number(),
+        HullAnswer::Hull(value) => give(&layout::hull_words(value), out),
+    }
+}
+
+pub fn give_contents(
+    file: &[u8],
+    map: BspData,
+    hull: BspCollisionHull,
+    point: Vector3,
+    out: &mut [u64],
+) -> u32
+    requires { ⌜ 2 ≤ length (now out) ⌝ }
+    ensures { λ r. ⌜ written r (now (out .exit)) ≡ given (inWords Layout.contentsWords (withVisits (pointWalk (hullTable (now (file .entry)) map hull) (hull .«node_id») point))) (now (out .entry)) ⌝ }
+{
+    match hull::point::contents_at_point(file, map, hull, point) {
+        PointContents::Refused(e) => e.number(),
+        PointContents::Contents(contents, visits) => give(&[contents.code() as u64, visits], out),
+    }
+}
+
+pub fn give_leaf(file: &[u8], map: BspData, root: usize, point: Vector3, out: &mut [u64]) -> u32
+    requires { ⌜ 2 ≤ length (now out) ⌝ }
+    ensures { λ r. ⌜ written r (now (out .exit)) ≡ given (inWords Layout.leafWords (withVisits (pointWalk (leafTable (now (file .entry)) map) root point))) (now (out .entry)) ⌝ }
+{
+    match hull::point::find_leaf_from(file, map, root, point) {
+        FoundLeaf::Refused(e) => e.number(),
+        FoundLeaf::Leaf(leaf, visits) => give(&[leaf as u64, visits], out),
+    }
+}
+
+pub fn give_trace(
+    file: &[u8],
+    map: BspData,
+    hull: BspCollisionHull,
+    start: Vector3,
+    end: Vector3,
+    out: &mut [u64],
+) -> u32
+    requires { ⌜ 17 ≤ length (now out) ⌝ }
+    ensures { λ r. ⌜ written r (now (out .exit)) ≡ given (inWords Layout.traceWords (withVisits (Tracing.trace (hullTable (now (file .entry)) map hull) (hull .«node_id») start end))) (now (out .entry)) ⌝ }
+{
+    match hull::tracing::trace(file, map, hull, start, end) {
+        Traced::Refused(e) => e.number(),
+        Traced::Trace(value, visits) => give(&layout::trace_words(value, visits), out),
+    }
+}

@@ -1,0 +1,2 @@
+-- What the proofs of `ffi_records` share.
+pub mod Rows

@@ -1,0 +1,137 @@
+// One record by its index, its words at the front of a list: a function for each kind.
+ghost use mathlib.Core.Path.{_≡_};
+ghost use Prim.Native.Nat.{_≤_};
+ghost use lib.ListN.{length};
+ghost use Rattle.words.specs.Words.{written, given, inWords};
+ghost use Rattle.faces.specs.Extents.{faceOf};
+ghost use Rattle.records.specs.Edge.{edgeOf, edgelistOf, facelistOf};
+ghost use Rattle.records.specs.Leaf.{leafOf};
+ghost use Rattle.models.specs.Model.{modelOf};
+ghost use Rattle.records.specs.Node.{renderNodeOf, collisionNodeOf};
+ghost use Rattle.records.specs.Plane.{planeOf, vertexOf};
+ghost use Rattle.records.specs.Texinfo.{texinfoOf};
+ghost use Rattle.ffi_records.specs.Layout as Layout;
+use crate::layout;
+use faces::face::FaceAnswer;
+use format::section::BspData;
+use models::model::ModelAnswer;
+use records::edge::EdgeAnswer;
+use records::edge::EdgeIndexAnswer;
+use records::edge::FaceIndexAnswer;
+use records::leaf::LeafAnswer;
+use records::node::CollisionNodeAnswer;
+use records::node::RenderNodeAnswer;
+use records::plane::PlaneAnswer;
+use records::plane::VertexAnswer;
+use records::texinfo::TexInfoAnswer;
+use words::give;
+
+pub fn give_plane(file: &[u8], map: BspData, index: usize, out: &mut [u64]) -> u32
+    requires { ⌜ 20 ≤ length (now out) ⌝ }
+    ensures { λ r. ⌜ written r (now (out .exit)) ≡ given (inWords Layout.planeWords (planeOf (now (file .entry)) map index)) (now (out .entry)) ⌝ }
+{
+    match records::plane::plane(file, map, index) {
+        PlaneAnswer::Refused(e) => e.number(),
+        PlaneAnswer::Value(value) => give(&words::plane_words(value), out),
+    }
+}
+
+pub fn give_vertex(file: &[u8], map: BspData, index: usize, out: &mut [u64]) -> u32
+    requires { ⌜ 20 ≤ length (now out) ⌝ }
+    ensures { λ r. ⌜ written r (now (out .exit)) ≡ given (inWords Layout.vectorWords (vertexOf (now (file .entry)) map index)) (now (out .entry)) ⌝ }
+{
+    match records::plane::vertex(file, map, index) {
+        VertexAnswer::Refused(e) => e.number(),
+        VertexAnswer::Value(value) => give(&layout::vector_words(value), out),
+    }
+}
+
+pub fn give_render_node(file: &[u8], map: BspData, index: usize, out: &mut [u64]) -> u32
+    requires { ⌜ 20 ≤ length (now out) ⌝ }
+    ensures { λ r. ⌜ written r (now (out .exit)) ≡ given (inWords Layout.renderNodeWords (renderNodeOf (now (file .entry)) map index)) (now (out .entry)) ⌝ }
+{
+    match records::node::render_node(file, map, index) {
+        RenderNodeAnswer::Refused(e) => e.number(),
+        RenderNodeAnswer::Value(value) => give(&layout::render_node_words(value), out),
+    }
+}
+
+pub fn give_texinfo(file: &[u8], map: BspData, index: usize, out: &mut [u64]) -> u32
+    requires { ⌜ 20 ≤ length (now out) ⌝ }
+    ensures { λ r. ⌜ written r (now (out .exit)) ≡ given (inWords Layout.texinfoWords (texinfoOf (now (file .entry)) map index)) (now (out .entry)) ⌝ }
+{
+    match records::texinfo::texinfo(file, map, index) {
+        TexInfoAnswer::Refused(e) => e.number(),
+        TexInfoAnswer::Value(value) => give(&layout::texinfo_words(value), out),
+    }
+}
+
+pub fn give_face(file: &[u8], map: BspData, index: usize, out: &mut [u64]) -> u32
+    requires { ⌜ 20 ≤ length (now out) ⌝ }
+    ensures { λ r. ⌜ written r (now (out .exit)) ≡ given (inWords Layout.faceWords (faceOf (now (file .entry)) map index)) (now (out .entry)) ⌝ }
+{
+    match faces::extents::face(file, map, index) {
+        FaceAnswer::Refused(e) => e.number(),
+        FaceAnswer::Value(value) => give(&layout::face_words(value), out),
+    }
+}
+
+pub fn give_collision_node(file: &[u8], map: BspData, index: usize, out: &mut [u64]) -> u32
+    requires { ⌜ 20 ≤ length (now out) ⌝ }
+    ensures { λ r. ⌜ written r (now (out .exit)) ≡ given (inWords Layout.collisionNodeWords (collisionNodeOf (now (file .entry)) map index)) (now (out .entry)) ⌝ }
+{
+    match records::node::collision_node(file, map, index) {
+        CollisionNodeAnswer::Refused(e) => e.number(),
+        CollisionNodeAnswer::Value(value) => give(&layout::collision_node_words(value), out),
+    }
+}
+
+pub fn give_leaf(file: &[u8], map: BspData, index: usize, out: &mut [u64]) -> u32
+    requires { ⌜ 20 ≤ length (now out) ⌝ }
+    ensures { λ r. ⌜ written r (now (out .exit)) ≡ given (inWords Layout.leafWords (leafOf (now (file .entry)) map index)) (now (out .entry)) ⌝ }
+{
+    match records::leaf::leaf(file, map, index) {
+        LeafAnswer::Refused(e) => e.number(),
+        LeafAnswer::Value(value) => give(&layout::leaf_words(value), out),
+    }
+}
+
+pub fn give_edge(file: &[u8], map: BspData, index: usize, out: &mut [u64]) -> u32
+    requires { ⌜ 20 ≤ length (now out) ⌝ }
+    ensures { λ r. ⌜ written r (now (out .exit)) ≡ given (inWords Layout.edgeWords (edgeOf (now (file .entry)) map index)) (now (out .entry)) ⌝ }
+{
+    match records::edge::edge(file, map, index) {
+        EdgeAnswer::Refused(e) => e.number(),
+        EdgeAnswer::Value(value) => give(&layout::edge_words(value), out),
+    }
+}
+
+pub fn give_edge_index(file: &[u8], map: BspData, index: usize, out: &mut [u64]) -> u32
+    requires { ⌜ 20 ≤ length (now out) ⌝ }
+    ensures { λ r. ⌜ written r (now (out .exit)) ≡ given (inWords Layout.edgeIndexWords (edgelistOf (now (file .entry)) map index)) (now (out .entry)) ⌝ }
+{
+    match records::edge::edgelist(file, map, index) {
+        EdgeIndexAnswer::Refused(e) => e.number(),
+        EdgeIndexAnswer::Value(value) => give(&layout::edge_index_words(value), out),
+    }
+}
+
+pub fn give_model(file: &[u8], map: BspData, index: usize, out: &mut [u64]) -> u32
+    requires { ⌜ 20 ≤ length (now out) ⌝ }
+    ensures { λ r. ⌜ written r (now (out .exit)) ≡ given (inWords Layout.modelWords (modelOf (now (file .entry)) map index)) (now (out .entry)) ⌝ }
+{
+    match models::model::model(file, map, index) {
+        ModelAnswer::Refused(e) => e.number(),
+        ModelAnswer::Value(value) => give(&layout::model_words(value), out),
+    }
+}
+
+pub fn give_face_index(file: &[u8], map: BspData, index: usize, out: &mut [u64]) -> u32
+    requires { ⌜ 20 ≤ length (now out) ⌝ }
+    ensures { λ r. ⌜ written r (now (out .exit)) ≡ given (inWords Layout.numberWords (facelistOf (now (file .entry)) map index)) (now (out .entry)) ⌝ }
+{
+    match records::edge::facelist(file, map, index) {
+        FaceIndexAnswer::Refused(e) => e.number(),
+        FaceIndexAnswer::Value(face) => give(&[face as u64], out),
+    }
+}

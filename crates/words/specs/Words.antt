@@ -1,0 +1,146 @@
+-- Words in lent lists: how a map record is taken from words, and what a call leaves in a list.
+use Prim.Native.Nat.{ℕ, _+_}
+use mathlib.Core.Bool.{cond}
+use mathlib.Core.List.{List, [], _∷_, _++_}
+use lib.Dec.{ltb}
+use lib.ListN.{length, drop, getD}
+use lib.IntN.{ℤ}
+use lib.Ieee.{Float, binary32, toBits}
+use mir.Syntax.{w64}
+use mir.Val.{ofZ}
+use Rattle.math.specs.Plane.{normalOf}
+use Rattle.math.specs.declared.Vector3.{Vector3}
+use Rattle.math.specs.declared.Axis.the-variants.{X, Y, Z}
+use Rattle.math.specs.declared.Alignment.{Alignment}
+use Rattle.math.specs.declared.Alignment.the-variants.{Axis, Normal}
+use Rattle.math.specs.declared.Hyperplane.{Hyperplane}
+use Rattle.format.specs.Answer.{Answer, answer, refused}
+use Rattle.format.specs.declared.section.BspData.{BspData}
+use Rattle.format.specs.declared.section.BspFileSection.{BspFileSection}
+
+-- the words, and then what lay past them
+abbrev pub put : List ℕ → List ℕ → List ℕ
+put ws out = ws ++ drop (length ws) out
+
+-- what a call says, and what is in the lent list afterwards: 0 and the answer's words, or a refusal's number and the list as it was
+pub record Written : Type 0 where
+  pub status : ℕ
+  pub list : List ℕ
+
+abbrev pub written : ℕ → List ℕ → Written
+written n out = record { status = n; list = out }
+
+-- the words of an answer, or 22 where the list is too short
+abbrev pub give : List ℕ → List ℕ → Written
+give ws out = cond (ltb (length out) (length ws)) (written 22 out) (written 0 (put ws out))
+
+-- what a call leaves of an answer: 0 and its words at the front of the list, or the refusal's number and the list as it was
+abbrev pub given : Answer (List ℕ) → List ℕ → Written
+given (answer ws) out = written 0 (put ws out)
+given (refused n) out = written n out
+
+-- the words of an answer's value
+abbrev pub inWords : {A : Type 0} → (A → List ℕ) → Answer A → Answer (List ℕ)
+inWords words (answer x) = answer (words x)
+inWords words (refused n) = refused n
+
+-- 22 where a list has fewer than n words (or floats), before anything else is looked at
+abbrev pub atLeast : {A : Type 0} → ℕ → List A → List ℕ → Written → Written
+atLeast n ws out rest = cond (ltb (length ws) n) (written 22 out) rest
+
+-- ---- calls with two lists
+
+-- what a call says, what is in the list that it fills or marks, and in the list `out`
+pub record Left : Type 0 where
+  pub status : ℕ
+  pub list : List ℕ
+  pub out : List ℕ
+
+abbrev pub left : ℕ → List ℕ → List ℕ → Left
+left n list out = record { status = n; list = list; out = out }
+
+-- 22 where a list has fewer than n words (or floats), with both lists as they were
+abbrev pub enough : {A : Type 0} → ℕ → List A → List ℕ → List ℕ → Left → Left
+enough n ws list out rest = cond (ltb (length ws) n) (left 22 list out) rest
+
+-- what is left in `out`, and in the other list
+abbrev pub beside : List ℕ → Written → Left
+beside list w = left (w .status) list (w .list)
+
+-- ---- the words of numbers and planes
+
+-- a number is its own word
+abbrev pub numberWords : ℕ → List ℕ
+numberWords n = n ∷ []
+
+-- a float is its 32 bits, every NaN 0x7fc00000
+abbrev pub floatWord : Float → ℕ
+floatWord x = toBits binary32 x
+
+-- a signed number is its two's complement in 64 bits
+abbrev pub signedWord : ℤ → ℕ
+signedWord x = ofZ w64 x
+
+-- 0, 1, 2 for an axis, 3 for a normal
+abbrev pub kindOf : Alignment → ℕ
+kindOf (Axis X) = 0
+kindOf (Axis Y) = 1
+kindOf (Axis Z) = 2
+kindOf (Normal n) = 3
+
+abbrev pub vectorWords : Vector3 → List ℕ
+vectorWords v = floatWord (v .x) ∷ floatWord (v .y) ∷ floatWord (v .z) ∷ []
+
+-- kind, normal, distance
+abbrev pub planeWords : Hyperplane → List ℕ
+planeWords h = (kindOf (h .alignment) ∷ vectorWords (normalOf h)) ++ (floatWord (h .dist) ∷ [])
+
+-- ---- the map record
+
+abbrev pub sectionAt : List ℕ → ℕ → BspFileSection
+sectionAt ws at = record { offset = getD ws at 0; size = getD ws (at + 1) 0 }
+
+-- 31 words: offset and size of each section in file order, then the texture count
+abbrev pub mapOf : List ℕ → BspData
+mapOf ws =
+    record {
+      entities = sectionAt ws 0;
+      planes = sectionAt ws 2;
+      textures = sectionAt ws 4;
+      vertices = sectionAt ws 6;
+      visibility = sectionAt ws 8;
+      «render_nodes» = sectionAt ws 10;
+      texinfo = sectionAt ws 12;
+      faces = sectionAt ws 14;
+      lightmaps = sectionAt ws 16;
+      «collision_nodes» = sectionAt ws 18;
+      leaves = sectionAt ws 20;
+      facelist = sectionAt ws 22;
+      edges = sectionAt ws 24;
+      edgelist = sectionAt ws 26;
+      models = sectionAt ws 28;
+      «texture_count» = getD ws 30 0;
+    }
+
+abbrev pub sectionWords : BspFileSection → List ℕ
+sectionWords z = z .offset ∷ z .size ∷ []
+
+-- the 31 words of a map record
+abbrev pub mapWords : BspData → List ℕ
+mapWords m =
+    sectionWords (m .entities)
+    ++ sectionWords (m .planes)
+    ++ sectionWords (m .textures)
+    ++ sectionWords (m .vertices)
+    ++ sectionWords (m .visibility)
+    ++ sectionWords (m .«render_nodes»)
+    ++ sectionWords (m .texinfo)
+    ++ sectionWords (m .faces)
+    ++ sectionWords (m .lightmaps)
+    ++ sectionWords (m .«collision_nodes»)
+    ++ sectionWords (m .leaves)
+    ++ sectionWords (m .facelist)
+    ++ sectionWords (m .edges)
+    ++ sectionWords (m .edgelist)
+    ++ sectionWords (m .models)
+    ++ (m .«texture_count» ∷ [])
