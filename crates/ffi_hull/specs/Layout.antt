@@ -1,6 +1,5 @@
 -- Hulls and traces as words, and hulls and points from words.
 use Prim.Native.Nat.{ℕ, _+_, _%_}
-use mathlib.Core.Bool.{Bool, true, false}
 use mathlib.Core.List.{List, [], _∷_, _++_}
 use lib.Dec.{eqb}
 use lib.ListN.{getD}
@@ -18,7 +17,7 @@ use Rattle.phys.specs.declared.Trace.{Trace}
 use Rattle.nodes.specs.declared.table.HullTable.{HullTable}
 use Rattle.nodes.specs.declared.table.HullTable.the-variants.{Render, Clip, Box}
 use Rattle.hull.specs.declared.collision.BspCollisionHull.{BspCollisionHull}
-use Rattle.words.specs.Words.{floatWord, vectorWords, planeWords}
+use Rattle.words.specs.Words.{flagWord, floatWord, vectorWords, planeWords}
 
 -- ---- points and hulls from lists
 
@@ -69,10 +68,6 @@ contentsWords a = codeOf (a .0) ∷ a .1 ∷ []
 -- the leaf's number, and the visits
 abbrev pub leafWords : ℕ × ℕ → List ℕ
 leafWords a = a .0 ∷ a .1 ∷ []
-
-abbrev pub flagWord : Bool → ℕ
-flagWord false = 0
-flagWord true = 1
 
 -- 1, the ratio and the plane
 abbrev pub boundaryWords : TraceEndBoundary → List ℕ

@@ -11,6 +11,7 @@ use nodes::table::HullTable;
 use phys::Trace;
 use phys::TraceEndBoundary;
 use phys::TraceEndKind;
+use words::flag_word;
 use words::float_at;
 use words::float_word;
 use words::word_at_u64;
@@ -109,12 +110,6 @@ pub fn hull_words(hull: BspCollisionHull) -> [u64; 9]
         float_word(maxs.y),
         float_word(maxs.z),
     ]
-}
-
-fn flag_word(flag: bool) -> u64
-    ensures { λ r. ⌜ r ≡ Layout.flagWord flag ⌝ }
-{
-    if flag { 1 } else { 0 }
 }
 
 // 1, the ratio and the plane.

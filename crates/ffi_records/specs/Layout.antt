@@ -1,9 +1,8 @@
 -- The words of each record, in the order of its fields in the Rust: a number is its own word, a float its 32 bits, a signed number its two's
 -- complement in 64 bits.
 use Prim.Native.Nat.{ℕ}
-use mathlib.Core.Bool.{Bool, true, false}
 use mathlib.Core.List.{List, [], _∷_, _++_}
-use Rattle.words.specs.Words.{floatWord, signedWord}
+use Rattle.words.specs.Words.{flagWord, floatWord, signedWord}
 pub use Rattle.words.specs.Words.{numberWords, vectorWords, planeWords}
 use Rattle.format.specs.Contents.{codeOf}
 use Rattle.models.specs.Model.{leafRange}
@@ -39,10 +38,6 @@ pointWords p = signedWord (p .x) ∷ signedWord (p .y) ∷ signedWord (p .z) ∷
 abbrev pub offsetWord : OptionalOffset → ℕ
 offsetWord None = 18446744073709551615
 offsetWord (Some n) = n
-
-abbrev pub flagWord : Bool → ℕ
-flagWord false = 0
-flagWord true = 1
 
 -- ---- nodes
 

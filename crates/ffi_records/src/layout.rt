@@ -15,6 +15,7 @@ use records::node::BspRenderNode;
 use records::node::BspRenderNodeChild;
 use records::number::OptionalOffset;
 use records::texinfo::BspTexInfo;
+use words::flag_word;
 use words::float_word;
 use words::signed_word;
 
@@ -65,12 +66,6 @@ pub fn render_node_words(node: BspRenderNode) -> [u64; 13]
         node.face_id as u64,
         node.face_count as u64,
     ]
-}
-
-fn flag_word(flag: bool) -> u64
-    ensures { λ r. ⌜ r ≡ Layout.flagWord flag ⌝ }
-{
-    if flag { 1 } else { 0 }
 }
 
 pub fn texinfo_words(info: BspTexInfo) -> [u64; 10]

@@ -1,11 +1,11 @@
 -- What a call leaves: laws for its ways out. Assumes nothing.
-use Prim.Native.Nat.{ℕ, _<_, _≤_}
-use mathlib.Core.Path.{_≡_, refl, sym, ap, _∙_}
+use Prim.Native.Nat.{ℕ, _≤_}
+use mathlib.Core.Path.{_≡_, sym, ap, _∙_}
 use mathlib.Core.List.{List}
-use borrow.Author.Tests.{lt-ltb, le-ltb}
+use borrow.Author.Tests.{le-ltb}
 use lib.ListN.{length}
 use Rattle.format.specs.Answer.{Answer, answer, refused}
-use Rattle.words.specs.Words.{Written, written, put, give, given, inWords, atLeast}
+use Rattle.words.specs.Words.{Written, written, put, give, given, inWords}
 
 fits : (ws out : List ℕ) → length ws ≤ length out → give ws out ≡ written 0 (put ws out)
 fits ws out h = simp (le-ltb (length out) (length ws) h)
@@ -20,11 +20,3 @@ module _ {R A : Type 0} (reading : R → Answer A) (words : A → List ℕ) wher
       → length (words v) ≤ length out → w ≡ give ws out → w ≡ given (inWords words a) out
   gives out {v = v} e q n k h g =
       g ∙ ap (λ l. give l out) k ∙ fits (words v) out h ∙ ap (λ b. given (inWords words b) out) (sym n ∙ sym (ap reading q) ∙ e)
-
--- a list is too short, and long enough
-module _ {A : Type 0} (n : ℕ) (ws : List A) (out : List ℕ) (rest : Written) where
-  pub short : length ws < n → written 22 out ≡ atLeast n ws out rest
-  short h = simp (lt-ltb (length ws) n h)
-
-  pub enough : (w : Written) → n ≤ length ws → w ≡ rest → w ≡ atLeast n ws out rest
-  enough w h e = simp (le-ltb (length ws) n h) e

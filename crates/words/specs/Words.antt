@@ -1,6 +1,6 @@
 -- Words in lent lists: how a map record is taken from words, and what a call leaves in a list.
 use Prim.Native.Nat.{ℕ, _+_}
-use mathlib.Core.Bool.{cond}
+use mathlib.Core.Bool.{Bool, true, false, cond}
 use mathlib.Core.List.{List, [], _∷_, _++_}
 use lib.Dec.{ltb}
 use lib.ListN.{length, drop, getD}
@@ -72,6 +72,10 @@ beside list w = left (w .status) list (w .list)
 -- a number is its own word
 abbrev pub numberWords : ℕ → List ℕ
 numberWords n = n ∷ []
+
+abbrev pub flagWord : Bool → ℕ
+flagWord false = 0
+flagWord true = 1
 
 -- a float is its 32 bits, every NaN 0x7fc00000
 abbrev pub floatWord : Float → ℕ

@@ -74,6 +74,13 @@ pub fn signed_word(v: i16) -> u64
     }
 }
 
+// 0 or 1.
+pub fn flag_word(flag: bool) -> u64
+    ensures { λ r. ⌜ r ≡ Words.flagWord flag ⌝ }
+{
+    if flag { 1 } else { 0 }
+}
+
 fn kind_word(alignment: Alignment) -> u64
     ensures { λ r. ⌜ r ≡ Words.kindOf alignment ⌝ }
 {

@@ -1,0 +1,2 @@
+-- Laws about the lists of nodes entered.
+mod Trails

@@ -1,0 +1,174 @@
+-- The nodes of a walk are its trail: each is what the walk goes on to from the one before.
+-- Assumes nothing.
+use Prim.Native.Nat.{ℕ, zero, suc, _+_, _-_, _^_, _<_, _≤_}
+use mathlib.Core.Path.{_≡_, refl, sym, ap, _∙_}
+use mathlib.Core.Bool.{Bool, true, false, cond}
+use mathlib.Core.List.{List, [], _∷_, _++_, append-assoc, append-nil}
+use native.Mathlib.Omega.{arith}
+use native.Mathlib.Numerals.{add-one}
+use borrow.Author.Tests.{lt-ltb, le-ltb}
+use lib.Dec.{ltb}
+use lib.ListN.{length, take, drop, set}
+use lib.Seq.{take-suc-set, take-all, length-take-le}
+use Rattle.format.specs.Answer as Ans
+use Rattle.format.specs.Answer.{Answer, answer}
+use Rattle.format.specs.Refusal.{numberOf}
+use Rattle.format.specs.declared.refusal.Refusal.{Refusal}
+use Rattle.math.specs.Plane as Pl
+use Rattle.math.specs.declared.Vector3.{Vector3}
+use Rattle.walk.specs.Table.{Child, node, end, Table, childOn}
+use Rattle.walk.specs.Walk.{Outcome, done, refused, entered, held, withVisits, Entered, enter, meet, ended, onto, walkAt, walk, pointWalk}
+use Rattle.walk.proofs.Steps.{walk-outside}
+use Rattle.format.specs.declared.contents.BspLeafContents.{BspLeafContents}
+use Rattle.math.specs.declared.Hyperplane.{Hyperplane}
+use Rattle.math.specs.declared.HyperplaneSide.{HyperplaneSide}
+use Rattle.format.specs.declared.section.BspData.{BspData}
+use Rattle.nodes.specs.Tables.{End, tableOf}
+use Rattle.nodes.specs.declared.table.HullTable.{HullTable}
+use Rattle.hull.proofs.Founds.{table-same}
+use Rattle.nodes.specs.Fast.{tablesOf, wordsAnswer, nodeOf, wordOn, planeIn, sideFrom, sidedAnswer}
+use Rattle.nodes.specs.Fast as Fast
+use Rattle.nodes.specs.declared.table.Tables.{Tables}
+use Rattle.nodes.specs.declared.read.Words.{Words as WordsT}
+use Rattle.nodes.specs.declared.read.ReadWords.{ReadWords}
+use Rattle.nodes.specs.declared.read.ReadWords.the-variants.{Words, Refused}
+use Rattle.nodes.specs.declared.read.Sided.{Sided}
+use Rattle.nodes.specs.declared.read.Sided.the-variants as S
+use Rattle.hull.proofs.Entering.{mapped-answer, mapped-refused, child-node, child-end, enter-not, enter-is, enter-no-plane}
+use Rattle.entered.specs.Lists.{listedWith, listed, nodeOr0, onward, next, trail}
+
+module _ {E A : Type 0} (T : Table E A) (p : Vector3) where
+  -- the nodes of an outcome are the trail from i
+  abbrev Along : ℕ → Outcome A → Type 0
+  Along i (done a ns) = ns ≡ trail T p (length ns) i
+  Along i (refused n) = Unit {0}
+
+  one-step : (i j : ℕ) (o : Outcome A) → next T p i ≡ j → Along j o → Along i (entered i o)
+  unfolding trail
+  one-step i j (done a ns) e h = ap (λ (l : List ℕ). i ∷ l) (h ∙ ap (trail T p (length ns)) (sym e))
+  one-step i j (refused n) e h = tt
+
+  at-end : (i : ℕ) (a : Answer A) → Along i (entered i (ended T (λ x. x) a))
+  unfolding trail
+  at-end i (answer a) = refl
+  at-end i (Ans.refused n) = tt
+
+  module _ (go : ℕ → Outcome A) (along : (n : ℕ) → Along n (go n)) (i : ℕ) where
+    at-child : (c : Child E) → next T p i ≡ nodeOr0 c → Along i (entered i (onto T go (λ x. x) c))
+    at-child (node n) e = one-step i n (go n) e (along n)
+    at-child (end x) e = at-end i (meet T x)
+
+    at-node : (m : Answer (Entered E)) → next T p i ≡ onward p m → Along i (walkAt T go i p m)
+    at-node (answer m) e = at-child (childOn (m .nd) (Pl.pointSide (m .plane) p)) e
+    at-node (Ans.refused n) e = tt
+
+  by-index : (b : Bool) (i n : ℕ) (o : Outcome A) → Along i o → Along i (cond b o (refused n))
+  by-index true i n o h = h
+  by-index false i n o h = tt
+
+  by-index-none : (b : Bool) (i n m : ℕ) → Along i (cond b (refused n) (refused m))
+  by-index-none true i n m = tt
+  by-index-none false i n m = tt
+
+  along-walk : (k i : ℕ) → Along i (walk T k i p)
+  unfolding walk next
+  along-walk zero i = by-index-none (ltb i (T .nodes .count)) i 31 30
+  along-walk (suc k) i = by-index (ltb i (T .nodes .count)) i 30 (walkAt T (λ n. walk T k n p) i p (enter T i)) (at-node (λ n. walk T k n p) (λ n. along-walk k n) i (enter T i) refl)
+
+  -- ---- the list that is left
+
+  length-trail : (n i : ℕ) → length (trail T p n i) ≡ n
+  unfolding trail
+  length-trail zero i = refl
+  length-trail (suc n) i = ap suc (length-trail n (next T p i))
+
+  module _ (l : List ℕ) (root : ℕ) where
+    by-outcome : (o : Outcome A) (a : A) (v : ℕ) → Along root o → answer (a, v) ≡ withVisits o → length l < 2 ^ 63
+        → (v ≤ length l → listedWith (answer v) (trail T p v root ++ drop v l) ≡ listed l o) × (length l < v → listedWith (Ans.refused 22) l ≡ listed l o)
+    unfolding listed
+    by-outcome (done b ns) a v h e f =
+        let d : _≡_ {A = A × ℕ} (a, v) (b, held (length ns)) = cc in
+        let q : v ≡ held (length ns) = ap (λ (x : A × ℕ). x .1) d in
+        ((λ g. let r : v ≡ length ns = omega arith in rw r (simp (le-ltb (length l) (length ns) (omega arith)) (ap (λ (x : List ℕ). listedWith (answer (length ns)) (x ++ drop (length ns) l)) (sym h)))), (λ g. simp (lt-ltb (length l) (length ns) (omega arith))))
+    by-outcome (refused n) a v h e f = let z : _≡_ {A = ℕ} 0 1 = cc in absurd (omega arith)
+
+    pub fits : (a : A) (v : ℕ) → answer (a, v) ≡ withVisits (pointWalk T root p) → length l < 2 ^ 63 → v ≤ length l → listedWith (answer v) (trail T p v root ++ drop v l) ≡ listed l (pointWalk T root p)
+    fits a v e f g = by-outcome (pointWalk T root p) a v (along-walk (T .nodes .count) root) e f .0 g
+
+    pub too-short : (a : A) (v : ℕ) → answer (a, v) ≡ withVisits (pointWalk T root p) → length l < 2 ^ 63 → length l < v → listedWith (Ans.refused 22) l ≡ listed l (pointWalk T root p)
+    too-short a v e f g = by-outcome (pointWalk T root p) a v (along-walk (T .nodes .count) root) e f .1 g
+
+    declines : (o : Outcome A) (n : ℕ) → Ans.refused n ≡ withVisits o → listedWith (Ans.refused n) l ≡ listed l o
+    unfolding listed
+    declines (done b ns) n e = let z : _≡_ {A = ℕ} 0 1 = cc in absurd (omega arith)
+    declines (refused m) n e = let z : n ≡ m = cc in rw z
+
+    pub declined : (n : ℕ) → Ans.refused n ≡ withVisits (pointWalk T root p) → listedWith (Ans.refused n) l ≡ listed l (pointWalk T root p)
+    declined n e = declines (pointWalk T root p) n e
+
+  -- ---- writing a trail
+
+  module _ (n root : ℕ) where
+    pub starts : (l : List ℕ) → take 0 l ++ trail T p (n - 0) root ≡ trail T p n root
+    starts l = let q : n - 0 ≡ n = omega arith in ap (λ (k : ℕ). trail T p k root) q
+
+    -- one entry more
+    pub goes-on : (l : List ℕ) (i v : ℕ) → i < length l → i < n → take i l ++ trail T p (n - i) v ≡ trail T p n root
+        → take (i + 1) (set l i v) ++ trail T p (n - (i + 1)) (next T p v) ≡ trail T p n root
+    unfolding trail
+    goes-on l i v h g e =
+        let q : n - i ≡ suc (n - suc i) = omega arith in
+        rw (add-one i, take-suc-set l i v h) (append-assoc (take i l) (v ∷ []) (trail T p (n - suc i) (next T p v)) ∙ sym (ap (λ (k : ℕ). take i l ++ trail T p k v) q) ∙ e)
+
+    -- all entries are written
+    pub ends : (l : List ℕ) (i v : ℕ) → length l ≡ n → n ≤ i → take i l ++ trail T p (n - i) v ≡ trail T p n root → l ≡ trail T p n root
+    unfolding trail
+    ends l i v f g e =
+        let q : n - i ≡ 0 = omega arith in
+        sym (append-nil l) ∙ ap (λ (x : List ℕ). x ++ []) (sym (take-all i l (omega arith))) ∙ sym (ap (λ (k : ℕ). take i l ++ trail T p k v) q) ∙ e
+
+-- ---- the list of a hull's walk, with the tables that the readers go by
+
+module _ (s : List ℕ) (m : BspData) (tab : HullTable) (mins maxs : Vector3) (t : Tables) (is-t : t ≡ tablesOf m tab mins maxs) (root : ℕ) (p : Vector3) (l : List ℕ) where
+  pub root-outside : t .nodes .count ≤ root → listedWith (Ans.refused 30) l ≡ listed l (pointWalk (tableOf s m tab mins maxs) root p)
+  unfolding listed
+  root-outside h =
+      sym (ap (listed l) (ap (λ (T : Table End BspLeafContents). pointWalk T root p) (sym (table-same s m tab mins maxs t is-t)) ∙ walk-outside (Fast.table s t) p (t .nodes .count) root h))
+
+  pub written : (c : BspLeafContents) (v : ℕ) (x : List ℕ) → answer (c, v) ≡ withVisits (pointWalk (tableOf s m tab mins maxs) root p) → length l < 2 ^ 63 → v ≤ length l
+      → x ≡ trail (Fast.table s t) p (length (take v l)) root → listedWith (answer v) (x ++ drop v l) ≡ listed l (pointWalk (tableOf s m tab mins maxs) root p)
+  written c v x e f g is-x =
+      ap (λ (y : List ℕ). listedWith (answer v) (y ++ drop v l)) (is-x ∙ ap (λ (k : ℕ). trail (Fast.table s t) p k root) (length-take-le v l g) ∙ ap (λ (T : Table End BspLeafContents). trail T p v root) (table-same s m tab mins maxs t is-t))
+      ∙ fits (tableOf s m tab mins maxs) p l root c v e f g
+
+-- ---- the node that a walk goes on to, by what the readers answer
+
+module _ (s : List ℕ) (t : Tables) (p : Vector3) (i : ℕ) (r : ReadWords) (is-r : wordsAnswer (t .table) r ≡ Fast.nodeAt s t i) where
+  abbrev T : Table End BspLeafContents
+  T = Fast.table s t
+
+  pub not-read : (x : Refusal) → r ≡ Refused x → 0 ≡ next T p i
+  unfolding next
+  not-read x q = sym (ap (onward p) (enter-not s t T refl refl refl i r is-r x q))
+
+  module _ (w : WordsT) (q : r ≡ Words w) (r2 : Sided) (is-r2 : sidedAnswer r2 ≡ sideFrom p (planeIn s t (w .plane))) where
+    pub no-plane : (x : Refusal) → r2 ≡ S.Refused x → 0 ≡ next T p i
+    unfolding next
+    no-plane x q2 =
+        sym (ap (onward p) (enter-no-plane s t T refl refl refl i r is-r w q (numberOf x) (mapped-refused (λ h. Pl.pointSide h p) (planeIn s t (w .plane)) (numberOf x) (sym is-r2 ∙ ap sidedAnswer q2))))
+
+    module _ (b : Bool) (q2 : r2 ≡ S.Front b) (word : ℕ) (is-word : word ≡ wordOn w b) where
+      on-side : (h : Hyperplane) × (planeIn s t (w .plane) ≡ answer h) × (Pl.pointSide h p ≡ Pl.sideIf b)
+      on-side = mapped-answer (λ h. Pl.pointSide h p) (planeIn s t (w .plane)) (Pl.sideIf b) (sym is-r2 ∙ ap sidedAnswer q2)
+
+      goes : next T p i ≡ nodeOr0 (childOn (nodeOf (t .table) w) (Pl.sideIf b))
+      unfolding next
+      goes =
+          ap (onward p) (enter-is s t T refl refl refl i r is-r w q (on-side .0) (on-side .1))
+          ∙ ap (λ (y : HyperplaneSide). nodeOr0 (childOn (nodeOf (t .table) w) y)) (on-side .2)
+
+      pub to-node : word < 32768 → word ≡ next T p i
+      to-node l = sym (goes ∙ ap nodeOr0 (child-node (t .table) w b word is-word l))
+
+      pub to-end : 32768 ≤ word → 0 ≡ next T p i
+      to-end l = sym (goes ∙ ap nodeOr0 (child-end (t .table) w b word is-word l))

@@ -1,0 +1,2 @@
+-- What the contracts of `entered` cite.
+pub mod Lists

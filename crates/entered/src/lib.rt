@@ -1,0 +1,2 @@
+// The nodes that a walk or a trace enters, in order, written into a lent list.
+pub mod walked;

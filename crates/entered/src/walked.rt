@@ -1,0 +1,89 @@
+// The nodes that the walk of a point enters.
+ghost use mathlib.Core.Path.{_≡_};
+ghost use Prim.Native.Nat.{_<_};
+ghost use lib.ListN.{length};
+ghost use Rattle.walk.specs.Walk.{pointWalk};
+ghost use Rattle.nodes.specs.Fast as Fast;
+ghost use Rattle.hull.specs.Hull.{hullTable};
+ghost use Rattle.entered.specs.Lists as Lists;
+use format::refusal::Refusal;
+use format::section::BspData;
+use hull::collision::BspCollisionHull;
+use hull::point::PointContents;
+use hull::point::contents_at_point;
+use math::Vector3;
+use nodes::read::ReadWords;
+use nodes::read::Sided;
+use nodes::read::read_words;
+use nodes::read::side_at;
+use nodes::table::Tables;
+use nodes::table::tables_of;
+
+// How many nodes were entered.
+pub enum EnteredAnswer {
+    Count(usize),
+    Refused(Refusal),
+}
+
+// The node that a walk goes on to; 0 where it does not.
+fn next_node(s: &[u8], t: Tables, node: usize, point: Vector3) -> u16
+    ensures { λ r. ⌜ r ≡ Lists.next (Fast.table (now (s .entry)) t) point node ⌝ }
+{
+    match read_words(s, t, node) {
+        ReadWords::Refused(_) => 0,
+        ReadWords::Words(w) => match side_at(s, t, w.plane as usize, point) {
+            Sided::Refused(_) => 0,
+            Sided::Front(front) => {
+                let word = w.on(front);
+                if word < 32768 {
+                    return word;
+                }
+                0
+            }
+        },
+    }
+}
+
+// Fills the list with the nodes that a walk goes on to, one after the other.
+fn write_walk(s: &[u8], t: Tables, root: usize, point: Vector3, list: &mut [u32])
+    requires { ⌜ root < 4294967296 ⌝ }
+    ensures { λ r. ⌜ now (list .exit) ≡ Lists.trail (Fast.table (now (s .entry)) t) point (length (now (list .entry))) root ⌝ }
+{
+    let mut node = root;
+    let mut i = 0;
+    while i < list.len() {
+        list[i] = node as u32;
+        node = next_node(s, t, node, point) as usize;
+        i = i + 1;
+    }
+}
+
+// The nodes that the walk to the contents at a point enters: their number, and the nodes in order at the front of the list. Refused as
+// `contents_at_point` is, or where the list is too short (22); a refusal leaves the list as it is.
+pub fn nodes_to_point(
+    s: &[u8],
+    map: BspData,
+    hull: BspCollisionHull,
+    point: Vector3,
+    list: &mut [u32],
+) -> EnteredAnswer
+    ensures { λ r. ⌜ Lists.listedWith (Lists.enteredAnswer r) (now (list .exit)) ≡ Lists.listed (now (list .entry)) (pointWalk (hullTable (now (s .entry)) map hull) (hull .«node_id») point) ⌝ }
+{
+    match contents_at_point(s, map, hull, point) {
+        PointContents::Refused(e) => EnteredAnswer::Refused(e),
+        PointContents::Contents(_, visits) => {
+            if (list.len() as u64) < visits {
+                return EnteredAnswer::Refused(Refusal::ListTooShort);
+            }
+            let count = visits as usize;
+            let table = hull.table;
+            let t = tables_of(map, table, hull.mins, hull.maxs);
+            let nodes = t.nodes;
+            if (nodes.count as usize) <= hull.node_id {
+                return EnteredAnswer::Refused(Refusal::IndexOutsideTable);
+            }
+            write_walk(s, t, hull.node_id, point, &mut list[..count]);
+            EnteredAnswer::Count(count)
+        }
+    }
+}
