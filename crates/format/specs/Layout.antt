@@ -1,6 +1,6 @@
 -- The records of the BSP map file as the Quake Specifications (version 3.4) list them: the size of each, and offset, width and sign of
--- each field. They come from the published document and not from the Rust; where the Rust reads a field with another sign, the laws
--- about the readers say what follows.
+-- each field. They are that document's and not the Rust's, written down from memory, since no copy was at hand (docs/DIFFERENCES.md);
+-- where the Rust reads a field with another sign, the laws about the readers say what follows.
 use Prim.Native.Nat.{ℕ, zero, suc, _+_, _*_, _^_}
 use mathlib.Core.List.{List, [], _∷_}
 use lib.IntN.{ℤ, pos}
