@@ -10,6 +10,7 @@ use borrow.Author.Tests.{lt-ltb, le-ltb}
 use lib.Dec.{ltb}
 use lib.ListN.{length, take, drop, set}
 use lib.Seq.{take-suc-set, take-all, length-take-le}
+use Rattle.format.proofs.Answers.{mapped-answer, mapped-refused}
 use Rattle.format.specs.Answer as Ans
 use Rattle.format.specs.Answer.{Answer, answer}
 use Rattle.format.specs.Refusal.{numberOf}
@@ -34,7 +35,7 @@ use Rattle.nodes.specs.declared.read.ReadWords.{ReadWords}
 use Rattle.nodes.specs.declared.read.ReadWords.the-variants.{Words, Refused}
 use Rattle.nodes.specs.declared.read.Sided.{Sided}
 use Rattle.nodes.specs.declared.read.Sided.the-variants as S
-use Rattle.hull.proofs.Entering.{mapped-answer, mapped-refused, child-node, child-end, enter-not, enter-is, enter-no-plane}
+use Rattle.hull.proofs.Entering.{child-node, child-end, enter-not, enter-is, enter-no-plane}
 use Rattle.entered.specs.Lists.{listedWith, listed, nodeOr0, onward, next, trail}
 
 module _ {E A : Type 0} (T : Table E A) (p : Vector3) where

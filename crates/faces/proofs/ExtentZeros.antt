@@ -11,11 +11,10 @@ use Rattle.float.specs.Whole.{minimum, maximum, times16}
 use Rattle.math.specs.Vector.{dot}
 use Rattle.math.specs.declared.Vector3.{Vector3}
 use Rattle.format.specs.Step.{when}
-use Rattle.format.specs.Answer.{Answer, answer, refused}
+use Rattle.format.specs.Answer.{Answer, answer, refused, thenAnswer}
 use Rattle.format.specs.Section.{recordCount}
 use Rattle.format.specs.declared.section.BspData.{BspData}
 use Rattle.format.specs.declared.section.BspFileSectionId.the-variants.{EdgeList}
-use Rattle.records.specs.Access.{thenAnswer}
 use Rattle.records.specs.Texinfo.{texinfoOf}
 use Rattle.records.specs.declared.texinfo.BspTexInfo.{BspTexInfo}
 use Rattle.faces.specs.Extents.{indexed, cornerOf, unbounded, widened, spanOver, spanOf, textureMin, extent, surfaceIn, surfaceOf}

@@ -10,12 +10,11 @@ use Rattle.float.specs.Whole.{minimum, maximum, floorOf, ceilOf, times16}
 use Rattle.math.specs.Vector.{dot}
 use Rattle.math.specs.declared.Vector3.{Vector3}
 use Rattle.format.specs.Step.{when}
-use Rattle.format.specs.Answer.{Answer, answer, refused}
+use Rattle.format.specs.Answer.{Answer, answer, refused, thenAnswer}
 use Rattle.format.specs.Refusal.{numberOf}
 use Rattle.format.specs.Section.{recordCount}
 use Rattle.format.specs.declared.section.BspData.{BspData}
 use Rattle.format.specs.declared.section.BspFileSectionId.the-variants.{EdgeList}
-use Rattle.records.specs.Access.{thenAnswer}
 use Rattle.records.specs.Plane.{vertexOf}
 use Rattle.records.specs.Texinfo.{texinfoOf}
 use Rattle.records.specs.Edge.{edgeOf, edgelistOf}

@@ -2,8 +2,9 @@
 use Prim.Native.Nat.{ℕ}
 use mathlib.Core.List.{List}
 use lib.Dec.{eqb}
+use Rattle.format.specs.Answer.{mapped}
 use Rattle.format.specs.Step.{when}
-use Rattle.words.specs.Words.{Written, given, inWords, atLeast, Left, left, enough, beside, numberWords, mapWords, mapOf}
+use Rattle.words.specs.Words.{Written, given, atLeast, Left, left, enough, beside, numberWords, mapWords, mapOf}
 use Rattle.load.specs.Load.{loadOf}
 use Rattle.vis.specs.Pvs.{Listed, pvsOf, into}
 use Rattle.walk.specs.TreeCheck.{Checked, treeCheck}
@@ -13,11 +14,11 @@ use Rattle.ffi.specs.declared.TableNumbered.{TableNumbered}
 use Rattle.ffi.specs.declared.TableNumbered.the-variants.{Table, NoTable}
 
 unfoldable pub bspLoad : List ℕ → List ℕ → Written
-bspLoad s map = atLeast 31 map map (given (inWords mapWords (loadOf s)) map)
+bspLoad s map = atLeast 31 map map (given (mapped mapWords (loadOf s)) map)
 
 -- the leaves in the list, and their count in `out`
 abbrev pub listedIn : Listed → List ℕ → Left
-listedIn l out = beside (l .list) (given (inWords numberWords (l .answered)) out)
+listedIn l out = beside (l .list) (given (mapped numberWords (l .answered)) out)
 
 unfoldable pub bspPvs : List ℕ → List ℕ → ℕ → ℕ → List ℕ → List ℕ → Left
 bspPvs s map leaf count list out =
@@ -30,7 +31,7 @@ tableNumbered n = when (eqb n 0) (Table Render) (when (eqb n 1) (Table Clip) (wh
 
 -- the marks as the check leaves them, and the height in `out`
 abbrev pub checkedIn : Checked → List ℕ → Left
-checkedIn k out = beside (k .marks) (given (inWords numberWords (k .answer)) out)
+checkedIn k out = beside (k .marks) (given (mapped numberWords (k .answer)) out)
 
 abbrev pub checkOf : TableNumbered → List ℕ → List ℕ → ℕ → List ℕ → List ℕ → Left
 checkOf (Table t) s map root marks out = checkedIn (treeCheck (nodesOf s (mapOf map) t) marks root) out

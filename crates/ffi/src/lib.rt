@@ -3,7 +3,8 @@
 ghost use mathlib.Core.Path.{_≡_};
 ghost use Prim.Native.Nat.{_≤_};
 ghost use lib.ListN.{length};
-ghost use Rattle.words.specs.Words.{written, left, given, inWords, numberWords};
+ghost use Rattle.format.specs.Answer.{mapped};
+ghost use Rattle.words.specs.Words.{written, left, given, numberWords};
 ghost use Rattle.vis.specs.Pvs.{lengthOf};
 ghost use Rattle.tree.specs.Check.{heightAnswer};
 ghost use Rattle.ffi_records.specs.Calls as Records;
@@ -126,7 +127,7 @@ pub extern "C" fn bsp_trace(
 
 fn give_length(pvs: Pvs, out: &mut [u64]) -> u32
     requires { ⌜ 1 ≤ length (now out) ⌝ }
-    ensures { λ r. ⌜ written r (now (out .exit)) ≡ given (inWords numberWords (lengthOf pvs)) (now (out .entry)) ⌝ }
+    ensures { λ r. ⌜ written r (now (out .exit)) ≡ given (mapped numberWords (lengthOf pvs)) (now (out .entry)) ⌝ }
 {
     match pvs {
         Pvs::Refused(e) => e.number(),
@@ -177,7 +178,7 @@ fn table_numbered(n: u32) -> TableNumbered
 
 fn give_height(checked: TreeChecked, out: &mut [u64]) -> u32
     requires { ⌜ 1 ≤ length (now out) ⌝ }
-    ensures { λ r. ⌜ written r (now (out .exit)) ≡ given (inWords numberWords (heightAnswer checked)) (now (out .entry)) ⌝ }
+    ensures { λ r. ⌜ written r (now (out .exit)) ≡ given (mapped numberWords (heightAnswer checked)) (now (out .entry)) ⌝ }
 {
     match checked {
         TreeChecked::Refused(e) => e.number(),

@@ -2,7 +2,8 @@
 ghost use mathlib.Core.Path.{_≡_};
 ghost use Prim.Native.Nat.{_≤_};
 ghost use lib.ListN.{length};
-ghost use Rattle.words.specs.Words.{written, given, inWords};
+ghost use Rattle.format.specs.Answer.{mapped};
+ghost use Rattle.words.specs.Words.{written, given};
 ghost use Rattle.walk.specs.Walk.{withVisits, pointWalk};
 ghost use Rattle.walk.specs.Trace as Tracing;
 ghost use Rattle.nodes.specs.Tables.{leafTable};
@@ -20,7 +21,7 @@ use words::give;
 
 pub fn give_hull(hull: HullAnswer, out: &mut [u64]) -> u32
     requires { ⌜ 9 ≤ length (now out) ⌝ }
-    ensures { λ r. ⌜ written r (now (out .exit)) ≡ given (inWords Layout.hullWords (hullAnswer hull)) (now (out .entry)) ⌝ }
+    ensures { λ r. ⌜ written r (now (out .exit)) ≡ given (mapped Layout.hullWords (hullAnswer hull)) (now (out .entry)) ⌝ }
 {
     match hull {
         HullAnswer::Refused(e) => e.number(),
@@ -36,7 +37,7 @@ pub fn give_contents(
     out: &mut [u64],
 ) -> u32
     requires { ⌜ 2 ≤ length (now out) ⌝ }
-    ensures { λ r. ⌜ written r (now (out .exit)) ≡ given (inWords Layout.contentsWords (withVisits (pointWalk (hullTable (now (file .entry)) map hull) (hull .«node_id») point))) (now (out .entry)) ⌝ }
+    ensures { λ r. ⌜ written r (now (out .exit)) ≡ given (mapped Layout.contentsWords (withVisits (pointWalk (hullTable (now (file .entry)) map hull) (hull .«node_id») point))) (now (out .entry)) ⌝ }
 {
     match hull::point::contents_at_point(file, map, hull, point) {
         PointContents::Refused(e) => e.number(),
@@ -46,7 +47,7 @@ pub fn give_contents(
 
 pub fn give_leaf(file: &[u8], map: BspData, root: usize, point: Vector3, out: &mut [u64]) -> u32
     requires { ⌜ 2 ≤ length (now out) ⌝ }
-    ensures { λ r. ⌜ written r (now (out .exit)) ≡ given (inWords Layout.leafWords (withVisits (pointWalk (leafTable (now (file .entry)) map) root point))) (now (out .entry)) ⌝ }
+    ensures { λ r. ⌜ written r (now (out .exit)) ≡ given (mapped Layout.leafWords (withVisits (pointWalk (leafTable (now (file .entry)) map) root point))) (now (out .entry)) ⌝ }
 {
     match hull::point::find_leaf_from(file, map, root, point) {
         FoundLeaf::Refused(e) => e.number(),
@@ -63,7 +64,7 @@ pub fn give_trace(
     out: &mut [u64],
 ) -> u32
     requires { ⌜ 17 ≤ length (now out) ⌝ }
-    ensures { λ r. ⌜ written r (now (out .exit)) ≡ given (inWords Layout.traceWords (withVisits (Tracing.trace (hullTable (now (file .entry)) map hull) (hull .«node_id») start end))) (now (out .entry)) ⌝ }
+    ensures { λ r. ⌜ written r (now (out .exit)) ≡ given (mapped Layout.traceWords (withVisits (Tracing.trace (hullTable (now (file .entry)) map hull) (hull .«node_id») start end))) (now (out .entry)) ⌝ }
 {
     match hull::tracing::trace(file, map, hull, start, end) {
         Traced::Refused(e) => e.number(),

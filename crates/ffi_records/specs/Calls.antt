@@ -2,12 +2,12 @@
 use Prim.Native.Nat.{ℕ}
 use mathlib.Core.List.{List}
 use lib.Dec.{eqb}
-use Rattle.format.specs.Answer.{Answer, answer, refused}
+use Rattle.format.specs.Answer.{Answer, answer, refused, mapped}
 use Rattle.format.specs.Step.{when}
 use Rattle.format.specs.Section.{sectionOf, recordCount}
 use Rattle.format.specs.declared.section.BspData.{BspData}
 use Rattle.format.specs.declared.section.BspFileSectionId.the-variants.{Entities, Planes, Textures, Vertices, Visibility, RenderNodes, TextureInfo, Faces, Lightmaps, CollisionNodes, Leaves, FaceList, Edges, EdgeList, Models}
-use Rattle.words.specs.Words.{Written, given, inWords, atLeast, mapOf}
+use Rattle.words.specs.Words.{Written, given, atLeast, mapOf}
 use Rattle.records.specs.Plane.{planeOf, vertexOf}
 use Rattle.records.specs.Node.{renderNodeOf, collisionNodeOf}
 use Rattle.records.specs.Texinfo.{texinfoOf}
@@ -23,17 +23,17 @@ use Rattle.ffi_records.specs.Layout.{planeWords, vectorWords, renderNode
 -- record i of a section, by its number in the file's header; 20 where it is none of these
 unfoldable pub recordIn : ℕ → List ℕ → BspData → ℕ → Answer (List ℕ)
 recordIn section s m i =
-    when (eqb section 1) (inWords planeWords (planeOf s m i))
-    (when (eqb section 3) (inWords vectorWords (vertexOf s m i))
-    (when (eqb section 5) (inWords renderNodeWords (renderNodeOf s m i))
-    (when (eqb section 6) (inWords texinfoWords (texinfoOf s m i))
-    (when (eqb section 7) (inWords faceWords (faceOf s m i))
-    (when (eqb section 9) (inWords collisionNodeWords (collisionNodeOf s m i))
-    (when (eqb section 10) (inWords leafWords (leafOf s m i))
-    (when (eqb section 11) (inWords numberWords (facelistOf s m i))
-    (when (eqb section 12) (inWords edgeWords (edgeOf s m i))
-    (when (eqb section 13) (inWords edgeIndexWords (edgelistOf s m i))
-    (when (eqb section 14) (inWords modelWords (modelOf s m i))
+    when (eqb section 1) (mapped planeWords (planeOf s m i))
+    (when (eqb section 3) (mapped vectorWords (vertexOf s m i))
+    (when (eqb section 5) (mapped renderNodeWords (renderNodeOf s m i))
+    (when (eqb section 6) (mapped texinfoWords (texinfoOf s m i))
+    (when (eqb section 7) (mapped faceWords (faceOf s m i))
+    (when (eqb section 9) (mapped collisionNodeWords (collisionNodeOf s m i))
+    (when (eqb section 10) (mapped leafWords (leafOf s m i))
+    (when (eqb section 11) (mapped numberWords (facelistOf s m i))
+    (when (eqb section 12) (mapped edgeWords (edgeOf s m i))
+    (when (eqb section 13) (mapped edgeIndexWords (edgelistOf s m i))
+    (when (eqb section 14) (mapped modelWords (modelOf s m i))
     (refused 20)))))))))))
 
 unfoldable pub bspRecord : List ℕ → List ℕ → ℕ → ℕ → List ℕ → Written
@@ -65,7 +65,7 @@ countIn (Section id) m = answer (recordCount id (sectionOf id m))
 countIn NoSection m = refused 20
 
 unfoldable pub bspCount : List ℕ → ℕ → List ℕ → Written
-bspCount map section out = atLeast 31 map out (atLeast 1 out out (given (inWords numberWords (countIn (sectionNumbered section) (mapOf map))) out))
+bspCount map section out = atLeast 31 map out (atLeast 1 out out (given (mapped numberWords (countIn (sectionNumbered section) (mapOf map))) out))
 
 unfoldable pub bspEntities : List ℕ → List ℕ → List ℕ → Written
-bspEntities s map out = atLeast 31 map out (atLeast 2 out out (given (inWords partWords (entitiesOf s (mapOf map))) out))
+bspEntities s map out = atLeast 31 map out (atLeast 2 out out (given (mapped partWords (entitiesOf s (mapOf map))) out))

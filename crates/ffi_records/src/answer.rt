@@ -2,7 +2,8 @@
 ghost use mathlib.Core.Path.{_≡_};
 ghost use Prim.Native.Nat.{_≤_};
 ghost use lib.ListN.{length};
-ghost use Rattle.words.specs.Words.{written, given, inWords};
+ghost use Rattle.format.specs.Answer.{mapped};
+ghost use Rattle.words.specs.Words.{written, given};
 ghost use Rattle.faces.specs.Extents.{faceOf};
 ghost use Rattle.records.specs.Edge.{edgeOf, edgelistOf, facelistOf};
 ghost use Rattle.records.specs.Leaf.{leafOf};
@@ -28,7 +29,7 @@ use words::give;
 
 pub fn give_plane(file: &[u8], map: BspData, index: usize, out: &mut [u64]) -> u32
     requires { ⌜ 20 ≤ length (now out) ⌝ }
-    ensures { λ r. ⌜ written r (now (out .exit)) ≡ given (inWords Layout.planeWords (planeOf (now (file .entry)) map index)) (now (out .entry)) ⌝ }
+    ensures { λ r. ⌜ written r (now (out .exit)) ≡ given (mapped Layout.planeWords (planeOf (now (file .entry)) map index)) (now (out .entry)) ⌝ }
 {
     match records::plane::plane(file, map, index) {
         PlaneAnswer::Refused(e) => e.number(),
@@ -38,7 +39,7 @@ pub fn give_plane(file: &[u8], map: BspData, index: usize, out: &mut [u64]) -> u
 
 pub fn give_vertex(file: &[u8], map: BspData, index: usize, out: &mut [u64]) -> u32
     requires { ⌜ 20 ≤ length (now out) ⌝ }
-    ensures { λ r. ⌜ written r (now (out .exit)) ≡ given (inWords Layout.vectorWords (vertexOf (now (file .entry)) map index)) (now (out .entry)) ⌝ }
+    ensures { λ r. ⌜ written r (now (out .exit)) ≡ given (mapped Layout.vectorWords (vertexOf (now (file .entry)) map index)) (now (out .entry)) ⌝ }
 {
     match records::plane::vertex(file, map, index) {
         VertexAnswer::Refused(e) => e.number(),
@@ -48,7 +49,7 @@ pub fn give_vertex(file: &[u8], map: BspData, index: usize, out: &mut [u64]) -> 
 
 pub fn give_render_node(file: &[u8], map: BspData, index: usize, out: &mut [u64]) -> u32
     requires { ⌜ 20 ≤ length (now out) ⌝ }
-    ensures { λ r. ⌜ written r (now (out .exit)) ≡ given (inWords Layout.renderNodeWords (renderNodeOf (now (file .entry)) map index)) (now (out .entry)) ⌝ }
+    ensures { λ r. ⌜ written r (now (out .exit)) ≡ given (mapped Layout.renderNodeWords (renderNodeOf (now (file .entry)) map index)) (now (out .entry)) ⌝ }
 {
     match records::node::render_node(file, map, index) {
         RenderNodeAnswer::Refused(e) => e.number(),
@@ -58,7 +59,7 @@ pub fn give_render_node(file: &[u8], map: BspData, index: usize, out: &mut [u64]
 
 pub fn give_texinfo(file: &[u8], map: BspData, index: usize, out: &mut [u64]) -> u32
     requires { ⌜ 20 ≤ length (now out) ⌝ }
-    ensures { λ r. ⌜ written r (now (out .exit)) ≡ given (inWords Layout.texinfoWords (texinfoOf (now (file .entry)) map index)) (now (out .entry)) ⌝ }
+    ensures { λ r. ⌜ written r (now (out .exit)) ≡ given (mapped Layout.texinfoWords (texinfoOf (now (file .entry)) map index)) (now (out .entry)) ⌝ }
 {
     match records::texinfo::texinfo(file, map, index) {
         TexInfoAnswer::Refused(e) => e.number(),
@@ -68,7 +69,7 @@ pub fn give_texinfo(file: &[u8], map: BspData, index: usize, out: &mut [u64]) ->
 
 pub fn give_face(file: &[u8], map: BspData, index: usize, out: &mut [u64]) -> u32
     requires { ⌜ 20 ≤ length (now out) ⌝ }
-    ensures { λ r. ⌜ written r (now (out .exit)) ≡ given (inWords Layout.faceWords (faceOf (now (file .entry)) map index)) (now (out .entry)) ⌝ }
+    ensures { λ r. ⌜ written r (now (out .exit)) ≡ given (mapped Layout.faceWords (faceOf (now (file .entry)) map index)) (now (out .entry)) ⌝ }
 {
     match faces::extents::face(file, map, index) {
         FaceAnswer::Refused(e) => e.number(),
@@ -78,7 +79,7 @@ pub fn give_face(file: &[u8], map: BspData, index: usize, out: &mut [u64]) -> u3
 
 pub fn give_collision_node(file: &[u8], map: BspData, index: usize, out: &mut [u64]) -> u32
     requires { ⌜ 20 ≤ length (now out) ⌝ }
-    ensures { λ r. ⌜ written r (now (out .exit)) ≡ given (inWords Layout.collisionNodeWords (collisionNodeOf (now (file .entry)) map index)) (now (out .entry)) ⌝ }
+    ensures { λ r. ⌜ written r (now (out .exit)) ≡ given (mapped Layout.collisionNodeWords (collisionNodeOf (now (file .entry)) map index)) (now (out .entry)) ⌝ }
 {
     match records::node::collision_node(file, map, index) {
         CollisionNodeAnswer::Refused(e) => e.number(),
@@ -88,7 +89,7 @@ pub fn give_collision_node(file: &[u8], map: BspData, index: usize, out: &mut [u
 
 pub fn give_leaf(file: &[u8], map: BspData, index: usize, out: &mut [u64]) -> u32
     requires { ⌜ 20 ≤ length (now out) ⌝ }
-    ensures { λ r. ⌜ written r (now (out .exit)) ≡ given (inWords Layout.leafWords (leafOf (now (file .entry)) map index)) (now (out .entry)) ⌝ }
+    ensures { λ r. ⌜ written r (now (out .exit)) ≡ given (mapped Layout.leafWords (leafOf (now (file .entry)) map index)) (now (out .entry)) ⌝ }
 {
     match records::leaf::leaf(file, map, index) {
         LeafAnswer::Refused(e) => e.number(),
@@ -98,7 +99,7 @@ pub fn give_leaf(file: &[u8], map: BspData, index: usize, out: &mut [u64]) -> u3
 
 pub fn give_edge(file: &[u8], map: BspData, index: usize, out: &mut [u64]) -> u32
     requires { ⌜ 20 ≤ length (now out) ⌝ }
-    ensures { λ r. ⌜ written r (now (out .exit)) ≡ given (inWords Layout.edgeWords (edgeOf (now (file .entry)) map index)) (now (out .entry)) ⌝ }
+    ensures { λ r. ⌜ written r (now (out .exit)) ≡ given (mapped Layout.edgeWords (edgeOf (now (file .entry)) map index)) (now (out .entry)) ⌝ }
 {
     match records::edge::edge(file, map, index) {
         EdgeAnswer::Refused(e) => e.number(),
@@ -108,7 +109,7 @@ pub fn give_edge(file: &[u8], map: BspData, index: usize, out: &mut [u64]) -> u3
 
 pub fn give_edge_index(file: &[u8], map: BspData, index: usize, out: &mut [u64]) -> u32
     requires { ⌜ 20 ≤ length (now out) ⌝ }
-    ensures { λ r. ⌜ written r (now (out .exit)) ≡ given (inWords Layout.edgeIndexWords (edgelistOf (now (file .entry)) map index)) (now (out .entry)) ⌝ }
+    ensures { λ r. ⌜ written r (now (out .exit)) ≡ given (mapped Layout.edgeIndexWords (edgelistOf (now (file .entry)) map index)) (now (out .entry)) ⌝ }
 {
     match records::edge::edgelist(file, map, index) {
         EdgeIndexAnswer::Refused(e) => e.number(),
@@ -118,7 +119,7 @@ pub fn give_edge_index(file: &[u8], map: BspData, index: usize, out: &mut [u64])
 
 pub fn give_model(file: &[u8], map: BspData, index: usize, out: &mut [u64]) -> u32
     requires { ⌜ 20 ≤ length (now out) ⌝ }
-    ensures { λ r. ⌜ written r (now (out .exit)) ≡ given (inWords Layout.modelWords (modelOf (now (file .entry)) map index)) (now (out .entry)) ⌝ }
+    ensures { λ r. ⌜ written r (now (out .exit)) ≡ given (mapped Layout.modelWords (modelOf (now (file .entry)) map index)) (now (out .entry)) ⌝ }
 {
     match models::model::model(file, map, index) {
         ModelAnswer::Refused(e) => e.number(),
@@ -128,7 +129,7 @@ pub fn give_model(file: &[u8], map: BspData, index: usize, out: &mut [u64]) -> u
 
 pub fn give_face_index(file: &[u8], map: BspData, index: usize, out: &mut [u64]) -> u32
     requires { ⌜ 20 ≤ length (now out) ⌝ }
-    ensures { λ r. ⌜ written r (now (out .exit)) ≡ given (inWords Layout.numberWords (facelistOf (now (file .entry)) map index)) (now (out .entry)) ⌝ }
+    ensures { λ r. ⌜ written r (now (out .exit)) ≡ given (mapped Layout.numberWords (facelistOf (now (file .entry)) map index)) (now (out .entry)) ⌝ }
 {
     match records::edge::facelist(file, map, index) {
         FaceIndexAnswer::Refused(e) => e.number(),

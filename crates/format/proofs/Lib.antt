@@ -6,3 +6,4 @@ pub mod Places
 pub mod Layouts
 pub mod Steps
 pub mod Chain
+pub mod Answers

@@ -4,3 +4,13 @@ use Prim.Native.Nat.{ℕ}
 pub data Answer (A : Type 0) : Type 0 where
   answer : A → Answer A
   refused : ℕ → Answer A
+
+-- what is made of a value; a refusal stays
+abbrev pub mapped : {A B : Type 0} → (A → B) → Answer A → Answer B
+mapped f (answer a) = answer (f a)
+mapped f (refused n) = refused n
+
+-- the same where what is made of the value may be refused too
+abbrev pub thenAnswer : {A B : Type 0} → Answer A → (A → Answer B) → Answer B
+thenAnswer (answer a) k = k a
+thenAnswer (refused n) k = refused n

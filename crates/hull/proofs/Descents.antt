@@ -8,6 +8,7 @@ use native.Mathlib.Omega.{arith}
 use borrow.Author.Tests.{lt-ltb}
 use lib.Ieee as Ieee
 use lib.Ieee.{Float}
+use Rattle.format.proofs.Answers.{mapped-answer, mapped-refused}
 use Rattle.format.specs.Answer as Ans
 use Rattle.format.specs.Answer.{Answer, answer}
 use Rattle.format.specs.Refusal.{numberOf}
@@ -38,7 +39,7 @@ use Rattle.nodes.specs.declared.read.EndContents.the-variants as E
 use Rattle.hull.specs.Traces.{Met, metNode, metContents, metRefused, metAnswer, metEnd, metChild, metOn, withinLeaf, crossedAt}
 use Rattle.hull.specs.declared.tracing.MetChild.{MetChild}
 use Rattle.hull.specs.declared.tracing.MetChild.the-variants as M
-use Rattle.hull.proofs.Entering.{mapped-answer, mapped-refused, child-node, child-end, enter-not, enter-is, enter-no-plane}
+use Rattle.hull.proofs.Entering.{child-node, child-end, enter-not, enter-is, enter-no-plane}
 
 -- ---- a child that is met
 

@@ -8,7 +8,7 @@ use native.Mathlib.Omega.{arith}
 use borrow.Author.Tests.{lt-ltb, le-ltb}
 use lib.Dec.{ltb}
 use Rattle.format.specs.Answer as Ans
-use Rattle.format.specs.Answer.{Answer, answer}
+use Rattle.format.specs.Answer.{Answer, answer, mapped}
 use Rattle.format.specs.Refusal.{numberOf}
 use Rattle.format.specs.declared.refusal.Refusal.{Refusal}
 use Rattle.math.specs.Plane as Pl
@@ -16,7 +16,7 @@ use Rattle.math.specs.declared.Hyperplane.{Hyperplane}
 use Rattle.walk.specs.Table.{Child, node, end, Node, Table, childOn}
 use Rattle.walk.specs.Walk.{withPlane, enter}
 use Rattle.walk.proofs.Steps.{enter-unread}
-use Rattle.nodes.specs.Tables.{End, mapped}
+use Rattle.nodes.specs.Tables.{End}
 use Rattle.nodes.specs.Fast.{wordsAnswer, nodeOf, childOf, wordOn, endOf, planeIn, planeOfIndex}
 use Rattle.nodes.specs.Fast as Fast
 use Rattle.nodes.specs.declared.table.HullTable.{HullTable}
@@ -24,16 +24,6 @@ use Rattle.nodes.specs.declared.table.Tables.{Tables}
 use Rattle.nodes.specs.declared.read.Words.{Words as WordsT}
 use Rattle.nodes.specs.declared.read.ReadWords.{ReadWords}
 use Rattle.nodes.specs.declared.read.ReadWords.the-variants.{Words, Refused}
-
--- ---- an answer that was mapped
-
-pub mapped-answer : {A B : Type 0} (f : A → B) (a : Answer A) (b : B) → mapped f a ≡ answer b → (x : A) × (a ≡ answer x) × (f x ≡ b)
-mapped-answer {A} {B} f (answer x) b e = (x, refl, let q : f x ≡ b = cc in q)
-mapped-answer f (Ans.refused n) b e = let z : _≡_ {A = ℕ} 0 1 = cc in absurd (omega arith)
-
-pub mapped-refused : {A B : Type 0} (f : A → B) (a : Answer A) (n : ℕ) → mapped f a ≡ Ans.refused n → a ≡ Ans.refused n
-mapped-refused f (answer x) n e = let z : _≡_ {A = ℕ} 0 1 = cc in absurd (omega arith)
-mapped-refused f (Ans.refused m) n e = cc
 
 -- ---- the child that a word stands for
 

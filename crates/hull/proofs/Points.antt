@@ -6,6 +6,7 @@ use mathlib.Core.Path.{_≡_, refl, sym, ap, _∙_}
 use mathlib.Core.Bool.{Bool}
 use mathlib.Core.List.{List}
 use native.Mathlib.Omega.{arith}
+use Rattle.format.proofs.Answers.{mapped-answer, mapped-refused}
 use Rattle.format.specs.Answer as Ans
 use Rattle.format.specs.Answer.{Answer, answer}
 use Rattle.format.specs.Refusal.{numberOf}
@@ -27,7 +28,7 @@ use Rattle.nodes.specs.declared.read.ReadWords.the-variants.{Words, Refused}
 use Rattle.nodes.specs.declared.read.Sided.{Sided}
 use Rattle.nodes.specs.declared.read.Sided.the-variants as S
 use Rattle.hull.specs.Walks.{ends}
-use Rattle.hull.proofs.Entering.{mapped-answer, mapped-refused, child-node, child-end, enter-not, enter-is, enter-no-plane}
+use Rattle.hull.proofs.Entering.{child-node, child-end, enter-not, enter-is, enter-no-plane}
 
 module _ (s : List ℕ) (t : Tables) (p : Vector3) (v k j i : ℕ) (more : k ≡ suc j) (h : i < t .nodes .count) (r : ReadWords) (is-r : wordsAnswer (t .table) r ≡ Fast.nodeAt s t i) where
   abbrev T : Table End End

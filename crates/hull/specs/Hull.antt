@@ -5,14 +5,13 @@ use mathlib.Core.List.{List}
 use lib.Dec.{ltb}
 use lib.Ieee as Ieee
 use lib.Ieee.{Float, binary32, ofBits, neg}
-use Rattle.format.specs.Answer.{Answer, answer, refused}
+use Rattle.format.specs.Answer.{Answer, answer, refused, thenAnswer}
 use Rattle.format.specs.Refusal.{numberOf}
 use Rattle.format.specs.declared.contents.BspLeafContents.{BspLeafContents}
 use Rattle.format.specs.declared.section.BspData.{BspData}
 use Rattle.math.specs.Vector.{vector, zero32}
 use Rattle.math.specs.declared.Vector3.{Vector3}
 use Rattle.walk.specs.Table.{Table}
-use Rattle.records.specs.Access.{thenAnswer}
 use Rattle.models.specs.Model.{modelOf}
 use Rattle.models.specs.declared.model.BspModel.{BspModel}
 use Rattle.nodes.specs.Tables.{End, tableOf}

@@ -7,13 +7,12 @@ use native.Mathlib.Numerals.{add-one}
 use native.Mathlib.Omega.{arith}
 use native.Mathlib.Nat.{suc-mul, mod-eq-of-lt}
 use borrow.Author.Tests.{leb-true}
-use Rattle.format.specs.Answer.{Answer, answer, refused}
+use Rattle.format.specs.Answer.{Answer, answer, refused, thenAnswer}
 use Rattle.format.specs.Step.{Step, ok, refused as stopped, andThen}
 use Rattle.format.specs.Field.{i32At, indexAt}
 use Rattle.format.specs.Section.{recordCount}
 use Rattle.format.specs.declared.section.BspData.{BspData}
 use Rattle.format.specs.declared.section.BspFileSectionId.the-variants.{CollisionNodes, Models}
-use Rattle.records.specs.Access.{thenAnswer}
 use Rattle.models.specs.Model.{boundsAt, rootsAt, fileModelAt, fileModelEndAt, fileModelOf, leafIdOf, wrappingSub, withRest, modelOf, leafRange}
 use Rattle.models.specs.declared.model.PerHull.{PerHull}
 use Rattle.models.specs.declared.model.ModelBounds.{ModelBounds}

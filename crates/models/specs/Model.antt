@@ -7,13 +7,13 @@ use Rattle.math.specs.Vector.{vector, sum, difference}
 use Rattle.math.specs.declared.Vector3.{Vector3}
 use Rattle.format.specs.Step.{Step, ok, refused, andThen}
 use Rattle.format.specs.Answer as Answer
-use Rattle.format.specs.Answer.{Answer}
+use Rattle.format.specs.Answer.{Answer, thenAnswer}
 use Rattle.format.specs.Refusal.{numberOf}
 use Rattle.format.specs.Field.{i32At, indexAt}
 use Rattle.format.specs.Section.{recordCount}
 use Rattle.format.specs.declared.section.BspData.{BspData}
 use Rattle.format.specs.declared.section.BspFileSectionId.the-variants.{CollisionNodes, Models}
-use Rattle.records.specs.Access.{recordOf, thenAnswer}
+use Rattle.records.specs.Access.{recordOf}
 use Rattle.records.specs.Triple.{vectorAt}
 use Rattle.models.specs.declared.model.PerHull.{PerHull}
 use Rattle.models.specs.declared.model.ModelBounds.{ModelBounds}

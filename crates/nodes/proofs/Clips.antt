@@ -10,7 +10,7 @@ use lib.Dec.{ltb}
 use lib.ListN.{length}
 use mir.Syntax.{w16}
 use Rattle.format.specs.Answer as Ans
-use Rattle.format.specs.Answer.{Answer, answer}
+use Rattle.format.specs.Answer.{Answer, answer, mapped}
 use Rattle.format.specs.Step.{Step, ok, refused}
 use Rattle.format.specs.Code.{contentsOf}
 use Rattle.format.proofs.Codes.{high}
@@ -21,7 +21,7 @@ use Rattle.records.specs.Node.{withContents, collisionChildAt, collisionNodeAt}
 use Rattle.records.specs.declared.node.BspCollisionNodeChild.{BspCollisionNodeChild}
 use Rattle.records.specs.declared.node.BspCollisionNodeChild.the-variants as C
 use Rattle.records.specs.declared.node.BspCollisionNode.{BspCollisionNode}
-use Rattle.nodes.specs.Tables.{clipChild, clipNode, mapped}
+use Rattle.nodes.specs.Tables.{clipChild, clipNode}
 use Rattle.nodes.specs.Fast.{u16, u32, isInvalid, invalid, childOf, nodeOf, clipNodeHere}
 use Rattle.nodes.specs.declared.table.HullTable.the-variants.{Clip}
 use Rattle.nodes.specs.declared.read.Words.{Words}

@@ -8,7 +8,7 @@ use native.Mathlib.Omega.{arith}
 use borrow.Author.Tests.{lt-ltb, le-ltb, le-leb, lt-leb, ltb-true, ltb-false}
 use lib.Dec.{ltb, leb}
 use lib.ListN.{length}
-use Rattle.format.specs.Answer.{Answer, answer, refused}
+use Rattle.format.specs.Answer.{Answer, answer, refused, mapped}
 use Rattle.format.specs.Step.{Step}
 use Rattle.format.specs.Section.{elementSize, withinLimit, recordCount, place}
 use Rattle.format.specs.declared.contents.BspLeafContents.{BspLeafContents}
@@ -23,7 +23,7 @@ use Rattle.records.specs.Access.{reading, readAt, recordOf}
 use Rattle.records.specs.Plane.{planeAt}
 use Rattle.records.specs.Node.{collisionNodeAt, renderNodeAt}
 use Rattle.records.specs.Leaf.{leafAt}
-use Rattle.nodes.specs.Tables.{End, contents, leaf, mapped, renderNode, clipNode, leafIn, leafContents, leafOfEnd, nodesOf, contentsOfEnd, contentsInBox, boxPlanes, nth, tableOf, leafTable}
+use Rattle.nodes.specs.Tables.{End, contents, leaf, renderNode, clipNode, leafIn, leafContents, leafOfEnd, nodesOf, contentsOfEnd, contentsInBox, boxPlanes, nth, tableOf, leafTable}
 use Rattle.nodes.specs.Fast as Fast
 use Rattle.nodes.specs.Fast.{partOf, tablesOf, placeIn, hereAt, renderNodeHere, clipNodeHere, planeRead, leafContentsHere}
 use Rattle.nodes.specs.declared.table.HullTable.{HullTable}

@@ -13,7 +13,7 @@ use lib.Signed.{ltZ}
 use mir.Syntax.{w32}
 use mir.Val.{SFits, toZ}
 use Rattle.format.specs.Answer as Ans
-use Rattle.format.specs.Answer.{Answer, answer}
+use Rattle.format.specs.Answer.{Answer, answer, mapped}
 use Rattle.format.specs.Step.{Step, ok, refused}
 use Rattle.format.specs.Code.{contentsOf, negatedContents}
 use Rattle.format.proofs.Codes.{above}
@@ -24,7 +24,7 @@ use Rattle.records.specs.Node.{withContents}
 use Rattle.records.specs.Access.{reading}
 use Rattle.records.specs.Leaf.{contentsAt, leafEndAt, leafAt}
 use Rattle.records.specs.declared.number.OptionalOffset.{OptionalOffset}
-use Rattle.nodes.specs.Tables.{mapped, leafContents}
+use Rattle.nodes.specs.Tables.{leafContents}
 use Rattle.nodes.specs.Fast.{u16, u32, leafContentsHere}
 use Rattle.nodes.proofs.Numbers.{low, high, high-code, i32-is, u16-is}
 use Rattle.nodes.proofs.Renders.{point}

@@ -12,7 +12,7 @@ use lib.ListN.{length}
 use mir.Syntax.{w16}
 use mir.Val.{toZ}
 use Rattle.format.specs.Answer as Ans
-use Rattle.format.specs.Answer.{Answer, answer}
+use Rattle.format.specs.Answer.{Answer, answer, mapped}
 use Rattle.format.specs.Step.{Step, ok, refused}
 use Rattle.records.specs.Triple.{pointAt}
 use Rattle.records.specs.Node as Rec
@@ -22,7 +22,7 @@ use Rattle.records.specs.declared.node.BspRenderNodeChild.{BspRenderNodeChild}
 use Rattle.records.specs.declared.node.BspRenderNodeChild.the-variants as R
 use Rattle.records.specs.declared.node.BspRenderNode.{BspRenderNode}
 use Rattle.walk.specs.Table.{end}
-use Rattle.nodes.specs.Tables.{leaf, renderChild, renderNode, mapped}
+use Rattle.nodes.specs.Tables.{leaf, renderChild, renderNode}
 use Rattle.nodes.specs.Fast.{u16, u32, childOf, nodeOf, renderNodeHere}
 use Rattle.nodes.specs.declared.table.HullTable.the-variants.{Render}
 use Rattle.nodes.specs.declared.read.Words.{Words}

@@ -7,7 +7,7 @@ use mathlib.Core.List.{List}
 use lib.Dec.{ltb, leb, eqb}
 use lib.ListN.{length, getD}
 use lib.Ieee.{Float, binary32, ofBits}
-use Rattle.format.specs.Answer.{Answer, answer, refused}
+use Rattle.format.specs.Answer.{Answer, answer, refused, mapped}
 use Rattle.format.specs.Refusal.{numberOf}
 use Rattle.format.specs.Step.{when}
 use Rattle.format.specs.Code.{contentsOf}
@@ -28,7 +28,7 @@ use Rattle.records.specs.Access.{reading}
 use Rattle.records.specs.Plane.{planeAt}
 use Rattle.records.specs.Node.{collisionNodeAt, renderNodeAt}
 use Rattle.records.specs.Leaf.{leafAt}
-use Rattle.nodes.specs.Tables.{End, contents, leaf, nodeWith, clipNode, renderNode, mapped, nth, boxNodes, boxPlanes, leafIn, leafContents, leafOfEnd}
+use Rattle.nodes.specs.Tables.{End, contents, leaf, nodeWith, clipNode, renderNode, nth, boxNodes, boxPlanes, leafIn, leafContents, leafOfEnd}
 use Rattle.nodes.specs.declared.table.HullTable.{HullTable}
 use Rattle.nodes.specs.declared.table.HullTable.the-variants.{Render, Clip, Box}
 use Rattle.nodes.specs.declared.table.Part.{Part}

@@ -5,7 +5,7 @@ use mathlib.Core.Bool.{Bool, true}
 use mathlib.Core.List.{List, [], _∷_}
 use lib.Dec.{ltb}
 use lib.ListN.{length}
-use Rattle.format.specs.Answer.{Answer, answer, refused}
+use Rattle.format.specs.Answer.{Answer, answer, refused, mapped}
 use Rattle.format.specs.Section.{recordCount}
 use Rattle.format.specs.declared.contents.BspLeafContents.{BspLeafContents}
 use Rattle.format.specs.declared.contents.BspLeafContents.the-variants.{Empty, Solid}
@@ -49,11 +49,6 @@ clipNode n = nodeWith (n .«plane_id») (clipChild (n .front)) (clipChild (n .ba
 
 abbrev pub renderNode : BspRenderNode → Node End
 renderNode n = nodeWith (n .«plane_id») (renderChild (n .front)) (renderChild (n .back))
-
--- an answer's value, turned into another
-abbrev pub mapped : {A B : Type 0} → (A → B) → Answer A → Answer B
-mapped f (answer a) = answer (f a)
-mapped f (refused n) = refused n
 
 -- the element i of a list
 abbrev pub nth : {A : Type 0} → List A → ℕ → Answer A

@@ -24,7 +24,3 @@ readAt (refused n) one = refused n
 unfoldable pub recordOf : {A : Type 0} → BspFileSectionId → (List ℕ → ℕ → Step A) → List ℕ → BspData → ℕ → Answer A
 recordOf id one s m i = readAt (place id (sectionOf id m) (length s) i) (λ p. one s p)
 
--- one answer and, where it is a value, the next
-abbrev pub thenAnswer : {A B : Type 0} → Answer A → (A → Answer B) → Answer B
-thenAnswer (answer v) k = k v
-thenAnswer (refused n) k = refused n

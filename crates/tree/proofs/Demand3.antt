@@ -8,7 +8,7 @@ use mathlib.Core.Logic.{_↔_}
 use native.Mathlib.Omega.{arith}
 use borrow.Author.Tests.{ltb-true}
 use lib.ListN.{length}
-use Rattle.format.specs.Answer.{answer, refused}
+use Rattle.format.specs.Answer.{answer, refused, mapped}
 use Rattle.format.specs.declared.contents.BspLeafContents.{BspLeafContents}
 use Rattle.format.specs.declared.section.BspData.{BspData}
 use Rattle.math.specs.declared.Vector3.{Vector3}
@@ -26,7 +26,7 @@ use Rattle.walk.proofs.Refused.{refused-for}
 use Rattle.walk.proofs.Answered.{walk-answered, trace-answered}
 use Rattle.records.specs.Leaf.{leafOf}
 use Rattle.records.specs.declared.leaf.BspLeaf.{BspLeaf}
-use Rattle.nodes.specs.Tables.{End, contents, leaf, leafIn, mapped, leafContents, contentsOfEnd, contentsInBox, nth, boxPlanes, nodesOf, tableOf, leafTable}
+use Rattle.nodes.specs.Tables.{End, contents, leaf, leafIn, leafContents, contentsOfEnd, contentsInBox, nth, boxPlanes, nodesOf, tableOf, leafTable}
 use Rattle.nodes.specs.declared.table.HullTable.{HullTable}
 use Rattle.nodes.specs.declared.table.HullTable.the-variants.{Render, Clip, Box}
 use Rattle.tree.specs.Demand3.{Readable, Passed, Floats, Demand3}

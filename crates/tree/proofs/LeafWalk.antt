@@ -6,7 +6,7 @@ use mathlib.Core.Bool.{Bool, true, false, cond}
 use mathlib.Core.List.{List}
 use lib.Dec.{ltb}
 use Rattle.format.specs.Answer as Ans
-use Rattle.format.specs.Answer.{Answer, answer}
+use Rattle.format.specs.Answer.{Answer, answer, mapped}
 use Rattle.format.specs.declared.section.BspData.{BspData}
 use Rattle.math.specs.Plane as Pl
 use Rattle.math.specs.declared.Vector3.{Vector3}
@@ -20,7 +20,7 @@ use Rattle.records.specs.Node.{renderNodeOf}
 use Rattle.records.specs.declared.node.BspRenderNodeChild.{BspRenderNodeChild}
 use Rattle.records.specs.declared.node.BspRenderNodeChild.the-variants as R
 use Rattle.records.specs.declared.node.BspRenderNode.{BspRenderNode}
-use Rattle.nodes.specs.Tables.{End, contents, leaf, renderChild, renderNode, mapped, nodesOf, leafTable}
+use Rattle.nodes.specs.Tables.{End, contents, leaf, renderChild, renderNode, nodesOf, leafTable}
 use Rattle.nodes.specs.declared.table.HullTable.the-variants.{Render}
 
 -- every end has a number

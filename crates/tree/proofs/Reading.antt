@@ -10,8 +10,9 @@ use lib.Dec.{T, eqb}
 use lib.Ieee.{Float, binary32, fits, ofBits}
 use lib.Ieee.Bits.{ofBits-fits}
 use lib.IntN.{ℤ, pos, negsuc}
+use Rattle.format.proofs.Answers.{mapped-answer}
 use Rattle.format.specs.Answer as Ans
-use Rattle.format.specs.Answer.{Answer, answer}
+use Rattle.format.specs.Answer.{Answer, answer, mapped}
 use Rattle.format.specs.Step.{Step, ok, refused, andThen, when}
 use Rattle.format.specs.Field.{u32At, i32At, f32At}
 use Rattle.format.specs.Section.{sectionOf, recordCount, withinLimit}
@@ -30,7 +31,7 @@ use Rattle.records.specs.Triple.{vectorAt}
 use Rattle.records.specs.Plane.{filePlane, planeAt, planeOf}
 use Rattle.records.specs.Node.{renderNodeAt, collisionNodeAt}
 use Rattle.records.proofs.Readable.{WasRead, was-read, limited}
-use Rattle.nodes.specs.Tables.{End, renderNode, clipNode, mapped, nth, boxPlanes, nodesOf, tableOf}
+use Rattle.nodes.specs.Tables.{End, renderNode, clipNode, nth, boxPlanes, nodesOf, tableOf}
 use Rattle.nodes.specs.declared.table.HullTable.{HullTable}
 use Rattle.nodes.specs.declared.table.HullTable.the-variants.{Render, Clip, Box}
 use Rattle.tree.specs.Demand3.{Floats}
@@ -96,14 +97,10 @@ planes-fit s m Box mins maxs F G = box-plane-fits mins maxs F G
 
 -- ---- limits
 
-was-mapped : {A B : Type 0} (f : A → B) (a : Answer A) (b : B) → mapped f a ≡ answer b → (v : A) × (a ≡ answer v)
-was-mapped f (answer v) b e = (v, refl)
-was-mapped f (Ans.refused n) b e = none n b e
-
 read-within : {A B : Type 0} (id : BspFileSectionId) (one : List ℕ → ℕ → Step A) (f : A → B) (s : List ℕ) (m : BspData) (i : ℕ) (b : B)
     → mapped f (recordOf id one s m i) ≡ answer b → withinLimit id (recordCount id (sectionOf id m)) ≡ true
 read-within {A} id one f s m i b e =
-    let v : (v : A) × (recordOf id one s m i ≡ answer v) = was-mapped f (recordOf id one s m i) b e in
+    let v : (v : A) × (recordOf id one s m i ≡ answer v) × (f v ≡ b) = mapped-answer f (recordOf id one s m i) b e in
     limited id one s m i (v .0) (v .1)
 
 -- a table of which some node can be read holds at most 32,767

@@ -5,8 +5,8 @@ use mathlib.Core.List.{List, [], _++_}
 use Prim.Native.Nat.{ℕ, _<_, _≤_}
 use native.Mathlib.Omega.{arith}
 use lib.ListN.{length, drop}
-use Rattle.format.specs.Answer.{Answer, answer, refused}
-use Rattle.vis.specs.Row.{mapped, rowFrom, rowAt}
+use Rattle.format.specs.Answer.{Answer, answer, refused, mapped}
+use Rattle.vis.specs.Row.{rowFrom, rowAt}
 use Rattle.vis.specs.Pvs.{listed, into}
 use Rattle.vis.proofs.Rows.{done}
 

@@ -10,8 +10,8 @@ use lib.Count.{ones, ones-le}
 use lib.Dec.{leb}
 use lib.ListN.{length, take, drop, getD, length-append}
 use lib.Seq.{length-take-le, take-all}
-use Rattle.format.specs.Answer.{Answer, answer, refused}
-use Rattle.vis.specs.Row.{bits, before, visible, mapped, rowFrom}
+use Rattle.format.specs.Answer.{Answer, answer, refused, mapped}
+use Rattle.vis.specs.Row.{bits, before, visible, rowFrom}
 use Rattle.vis.proofs.SetBits.{length-visible, ones-in}
 use Rattle.vis.proofs.Rows.{before-none, before-before, done, ended, cut, skipped, byte}
 

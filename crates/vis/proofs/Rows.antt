@@ -9,8 +9,8 @@ use native.Mathlib.Numerals.{add-one}
 use native.Mathlib.Omega.{arith}
 use lib.ListN.{length, drop, getD, replicate, length-replicate, drop-of-length-le}
 use lib.Seq.{drop-cons}
-use Rattle.format.specs.Answer.{Answer, answer, refused}
-use Rattle.vis.specs.Row.{bits, before, rowBits, visible, mapped, rowFrom}
+use Rattle.format.specs.Answer.{Answer, answer, refused, mapped}
+use Rattle.vis.specs.Row.{bits, before, rowBits, visible, rowFrom}
 use Rattle.vis.proofs.SetBits.{length-bits}
 
 visible-append : (leaf n : ℕ) (xs ys : List Bool) → length xs ≡ n → visible leaf (xs ++ ys) ≡ visible leaf xs ++ visible (leaf + n) ys

@@ -10,7 +10,7 @@ use lib.Bits.{bitAnd, and-high}
 use lib.Dec.{eqb, ltb}
 use lib.ListN.{drop}
 use lib.Pow.{pow-pos, shr-shr}
-use Rattle.format.specs.Answer.{Answer, answer, refused}
+use Rattle.format.specs.Answer.{Answer, answer, refused, mapped}
 use Rattle.format.specs.Step.{when}
 use Rattle.format.specs.declared.section.BspData.{BspData}
 use Rattle.records.specs.Leaf.{leafOf}
@@ -19,7 +19,7 @@ use Rattle.records.specs.declared.number.OptionalOffset.{OptionalOffset}
 use Rattle.records.specs.declared.number.OptionalOffset.the-variants.{None, Some}
 use Rattle.vis.specs.Loop.{forShift, whileBelow, matchOffset, getPvs}
 use Rattle.vis.specs.Pvs.{visibilityOf, sectionRow, rowOf, pvsOf}
-use Rattle.vis.specs.Row.{bits, before, rowBits, visible, mapped, rowFrom, rowAt}
+use Rattle.vis.specs.Row.{bits, before, rowBits, visible, rowFrom, rowAt}
 use Rattle.vis.proofs.Rows.{before-none, before-before, after-byte, after-zeros}
 
 -- the bit that the Rust's mask picks

@@ -3,7 +3,7 @@ use Prim.Native.Nat.{ℕ, _+_}
 use mathlib.Core.List.{List, [], _++_}
 use lib.Dec.{eqb, leb, ltb}
 use lib.ListN.{length, take, drop}
-use Rattle.format.specs.Answer.{Answer, answer, refused}
+use Rattle.format.specs.Answer.{Answer, answer, refused, thenAnswer}
 use Rattle.format.specs.Refusal.{numberOf}
 use Rattle.format.specs.Section.{withinLimit}
 use Rattle.format.specs.Step.{when}
@@ -17,11 +17,6 @@ use Rattle.vis.specs.Row.{rowAt}
 use Rattle.vis.specs.declared.Pvs.{Pvs}
 use Rattle.vis.specs.declared.Pvs.the-variants.{Length, Refused}
 
--- an answer and, where it is a value, what is made of it
-abbrev pub andThen : {A B : Type 0} → Answer A → (A → Answer B) → Answer B
-andThen (answer a) k = k a
-andThen (refused n) k = refused n
-
 -- The bytes of the visibility section: 23 where it is above its limit or runs past the file's end. An empty one is never outside.
 unfoldable pub visibilityOf : List ℕ → BspFileSection → Answer (List ℕ)
 visibilityOf file z =
@@ -32,7 +27,7 @@ visibilityOf file z =
 
 -- the leaves of the row at an offset of that section
 unfoldable pub sectionRow : List ℕ → BspFileSection → ℕ → ℕ → Answer (List ℕ)
-sectionRow file z offset count = andThen (visibilityOf file z) (λ visibility. rowAt visibility offset count)
+sectionRow file z offset count = thenAnswer (visibilityOf file z) (λ visibility. rowAt visibility offset count)
 
 -- a leaf with no offset has no row
 abbrev pub rowOf : List ℕ → BspData → ℕ → OptionalOffset → Answer (List ℕ)
@@ -41,7 +36,7 @@ rowOf file map count (Some offset) = sectionRow file (map .visibility) offset co
 
 -- The leaves that are visible from a leaf, with `count` leaves in all. Leaf 0 is outside the map.
 unfoldable pub pvsOf : List ℕ → BspData → ℕ → ℕ → Answer (List ℕ)
-pvsOf file map leaf count = when (eqb leaf 0) (answer []) (andThen (leafOf file map leaf) (λ l. rowOf file map count (l .«vis_offset»)))
+pvsOf file map leaf count = when (eqb leaf 0) (answer []) (thenAnswer (leafOf file map leaf) (λ l. rowOf file map count (l .«vis_offset»)))
 
 -- the length of a visibility list or the number of a refusal
 abbrev pub lengthOf : Pvs → Answer ℕ

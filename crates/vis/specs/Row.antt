@@ -6,7 +6,7 @@ use mathlib.Core.Bool.{Bool, true, false}
 use mathlib.Core.List.{List, [], _∷_, _++_}
 use lib.Dec.{eqb, ltb}
 use lib.ListN.{length, drop, replicate}
-use Rattle.format.specs.Answer.{Answer, answer, refused}
+use Rattle.format.specs.Answer.{Answer, answer, refused, mapped}
 use Rattle.format.specs.Step.{when}
 
 -- the n lowest bits of a number, lowest first
@@ -37,11 +37,6 @@ visible leaf (false ∷ more) = visible (leaf + 1) more
 -- the leaves that a byte lists, its lowest bit being that of `leaf`
 abbrev pub byteLeaves : ℕ → ℕ → List ℕ
 byteLeaves leaf byte = visible leaf (bits 8 byte)
-
--- what is made of a value; a refusal stays
-abbrev pub mapped : {A B : Type 0} → (A → B) → Answer A → Answer B
-mapped f (answer a) = answer (f a)
-mapped f (refused n) = refused n
 
 -- the leaves that the bytes of a row list, from `leaf` on
 abbrev pub rowFrom : ℕ → ℕ → List ℕ → Answer (List ℕ)

@@ -4,8 +4,8 @@ use mathlib.Core.Path.{_≡_, sym, ap, _∙_}
 use mathlib.Core.List.{List}
 use borrow.Author.Tests.{le-ltb}
 use lib.ListN.{length}
-use Rattle.format.specs.Answer.{Answer, answer, refused}
-use Rattle.words.specs.Words.{Written, written, put, give, given, inWords}
+use Rattle.format.specs.Answer.{Answer, answer, refused, mapped}
+use Rattle.words.specs.Words.{Written, written, put, give, given}
 
 fits : (ws out : List ℕ) → length ws ≤ length out → give ws out ≡ written 0 (put ws out)
 fits ws out h = simp (le-ltb (length out) (length ws) h)
@@ -13,10 +13,10 @@ fits ws out h = simp (le-ltb (length out) (length ws) h)
 -- an answer x that stands for a: its refusal was told, or its value's words were given
 module _ {R A : Type 0} (reading : R → Answer A) (words : A → List ℕ) where
   pub refuses : {a : Answer A} {out : List ℕ} {x y : R} {k n : ℕ} → reading x ≡ a → x ≡ y → reading y ≡ refused n → k ≡ n
-      → written k out ≡ given (inWords words a) out
-  refuses {out = out} e q n k = ap (λ j. written j out) k ∙ ap (λ b. given (inWords words b) out) (sym n ∙ sym (ap reading q) ∙ e)
+      → written k out ≡ given (mapped words a) out
+  refuses {out = out} e q n k = ap (λ j. written j out) k ∙ ap (λ b. given (mapped words b) out) (sym n ∙ sym (ap reading q) ∙ e)
 
   pub gives : (out : List ℕ) {a : Answer A} {ws : List ℕ} {x y : R} {v : A} {w : Written} → reading x ≡ a → x ≡ y → reading y ≡ answer v → ws ≡ words v
-      → length (words v) ≤ length out → w ≡ give ws out → w ≡ given (inWords words a) out
+      → length (words v) ≤ length out → w ≡ give ws out → w ≡ given (mapped words a) out
   gives out {v = v} e q n k h g =
-      g ∙ ap (λ l. give l out) k ∙ fits (words v) out h ∙ ap (λ b. given (inWords words b) out) (sym n ∙ sym (ap reading q) ∙ e)
+      g ∙ ap (λ l. give l out) k ∙ fits (words v) out h ∙ ap (λ b. given (mapped words b) out) (sym n ∙ sym (ap reading q) ∙ e)

@@ -39,11 +39,6 @@ abbrev pub given : Answer (List ℕ) → List ℕ → Written
 given (answer ws) out = written 0 (put ws out)
 given (refused n) out = written n out
 
--- the words of an answer's value
-abbrev pub inWords : {A : Type 0} → (A → List ℕ) → Answer A → Answer (List ℕ)
-inWords words (answer x) = answer (words x)
-inWords words (refused n) = refused n
-
 -- 22 where a list has fewer than n words (or floats), before anything else is looked at
 abbrev pub atLeast : {A : Type 0} → ℕ → List A → List ℕ → Written → Written
 atLeast n ws out rest = cond (ltb (length ws) n) (written 22 out) rest

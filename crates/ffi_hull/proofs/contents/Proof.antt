@@ -4,10 +4,10 @@ use Prim.Native.Nat.{ℕ}
 use mathlib.Core.List.{List}
 use mathlib.Core.Path.{_≡_, ap₂, _∙_}
 use borrow.Author.Tests.{lt-ltb, le-ltb}
-use Rattle.format.specs.Answer.{Answer}
+use Rattle.format.specs.Answer.{Answer, mapped}
 use Rattle.format.specs.declared.section.BspData.{BspData}
 use Rattle.math.specs.declared.Vector3.{Vector3}
-use Rattle.words.specs.Words.{Written, given, inWords, mapOf}
+use Rattle.words.specs.Words.{Written, given, mapOf}
 use Rattle.hull.specs.Hull.{hullTable, hullAnswer}
 use Rattle.hull.specs.declared.collision.BspCollisionHull.{BspCollisionHull}
 use Rattle.ffi_hull.proofs.Asking.{no-hull, the-hull}
@@ -24,7 +24,7 @@ asked s m p h = withVisits (pointWalk (hullTable s m h) (h .«node_id») p)
 
 -- where the lists are long enough
 at-hull : (c : tie.After-hull-of) (w : Written) → let s = c .before .before .before .before .before .before .before .before .before .before .args in
-    w ≡ given (inWords contentsWords (ofHull (hullAnswer (c .hull-of .result)) (asked (s .file .now) (mapOf (s .map .now)) (pointAt (s .point .now) 0)))) (s .out .now)
+    w ≡ given (mapped contentsWords (ofHull (hullAnswer (c .hull-of .result)) (asked (s .file .now) (mapOf (s .map .now)) (pointAt (s .point .now) 0)))) (s .out .now)
     → w ≡ bspContents (s .file .now) (s .map .now) (s .hull .now) (s .point .now) (s .out .now)
 unfolding bspContents
 at-hull c w g =
@@ -81,7 +81,7 @@ returns-6 c =
     let s = c .before .before .before .before .before .before .before .before .before .before .before .before .before .before .before .before .before .before .before .args in
     at-hull (c .before .before .before .before .before .before .before .before .before) _
     (the-hull contentsWords (asked (s .file .now) (mapOf (s .map .now)) (pointAt (s .point .now) 0)) (s .out .now) (c .before .before .before .before .before .before .before .h .given .1)
-    (c .before .before .give-contents .ensures ∙ ap₂ (λ m p. given (inWords contentsWords (asked (s .file .now) m p (c .before .before .before .before .before .before .before .h .given .0 .0))) (s .out .now)) (c .before .before .before .before .before .map-of .ensures) (c .before .before .before .before .first-point .ensures)))
+    (c .before .before .give-contents .ensures ∙ ap₂ (λ m p. given (mapped contentsWords (asked (s .file .now) m p (c .before .before .before .before .before .before .before .h .given .0 .0))) (s .out .now)) (c .before .before .before .before .before .map-of .ensures) (c .before .before .before .before .first-point .ensures)))
 
 pub contents-spec : {M : Type 1} → statement M
 contents-spec =

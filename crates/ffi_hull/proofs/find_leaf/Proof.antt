@@ -2,7 +2,8 @@
 use borrow.Author.Needs.{needs}
 use mathlib.Core.Path.{_≡_, ap₂, _∙_}
 use borrow.Author.Tests.{lt-ltb, le-ltb}
-use Rattle.words.specs.Words.{given, inWords}
+use Rattle.format.specs.Answer.{mapped}
+use Rattle.words.specs.Words.{given}
 use Rattle.walk.specs.Walk.{withVisits, pointWalk}
 use Rattle.nodes.specs.Tables.{leafTable}
 use Rattle.ffi_hull.specs.Layout.{leafWords}
@@ -40,7 +41,7 @@ returns-4 c =
     let s = c .before .before .before .before .before .before .before .before .before .before .before .before .before .args in
     simp (le-ltb _ _ (c .before .before .before .before .before .before .before .before .if1 .left), le-ltb _ _ (c .before .before .before .before .before .before .before .if2 .left), le-ltb _ _ (c .before .before .before .before .before .before .if3 .left))
     (c .before .before .give-leaf .ensures
-    ∙ ap₂ (λ m p. given (inWords leafWords (withVisits (pointWalk (leafTable (s .file .now) m) (s .root) p))) (s .out .now)) (c .before .before .before .before .before .map-of .ensures) (c .before .before .before .before .first-point .ensures))
+    ∙ ap₂ (λ m p. given (mapped leafWords (withVisits (pointWalk (leafTable (s .file .now) m) (s .root) p))) (s .out .now)) (c .before .before .before .before .before .map-of .ensures) (c .before .before .before .before .first-point .ensures))
 
 pub find-leaf-spec : {M : Type 1} → statement M
 find-leaf-spec =

@@ -2,7 +2,8 @@
 use borrow.Author.Needs.{needs}
 use mathlib.Core.Path.{_≡_, ap, ap₂, _∙_}
 use borrow.Author.Tests.{lt-ltb, le-ltb}
-use Rattle.words.specs.Words.{given, inWords}
+use Rattle.format.specs.Answer.{mapped}
+use Rattle.words.specs.Words.{given}
 use Rattle.hull.specs.Hull.{forBounds}
 use Rattle.ffi_hull.specs.Layout.{hullWords}
 use Rattle.ffi_hull.specs.Calls.{bspBox}
@@ -36,7 +37,7 @@ returns-3 : tie.Need-returns-3
 unfolding bspBox
 returns-3 c =
     simp (le-ltb _ _ (c .before .before .before .before .before .before .before .before .if1 .left), le-ltb _ _ (c .before .before .before .before .before .before .before .if2 .left))
-    (c .before .before .give-hull .ensures ∙ ap (λ a. given (inWords hullWords a) (c .before .before .before .before .before .before .before .before .before .before .before .args .hull .now)) (c .before .before .before .before .for-bounds .ensures ∙ ap₂ forBounds (c .before .before .before .before .before .before .first-point .ensures) (c .before .before .before .before .before .second-point .ensures)))
+    (c .before .before .give-hull .ensures ∙ ap (λ a. given (mapped hullWords a) (c .before .before .before .before .before .before .before .before .before .before .before .args .hull .now)) (c .before .before .before .before .for-bounds .ensures ∙ ap₂ forBounds (c .before .before .before .before .before .before .first-point .ensures) (c .before .before .before .before .before .second-point .ensures)))
 
 pub hull-of-box-spec : {M : Type 1} → statement M
 hull-of-box-spec =

@@ -2,7 +2,8 @@
 use borrow.Author.Needs.{needs}
 use mathlib.Core.Path.{_≡_, ap, _∙_}
 use borrow.Author.Tests.{lt-ltb, le-ltb}
-use Rattle.words.specs.Words.{given, inWords}
+use Rattle.format.specs.Answer.{mapped}
+use Rattle.words.specs.Words.{given}
 use Rattle.hull.specs.Hull as Hull
 use Rattle.ffi_hull.specs.Layout.{hullWords}
 use Rattle.ffi_hull.specs.Calls.{bspHull}
@@ -34,7 +35,7 @@ unfolding bspHull
 returns-3 c =
     let s = c .before .before .before .before .before .before .before .before .before .before .before .args in
     simp (le-ltb _ _ (c .before .before .before .before .before .before .before .if1 .left), le-ltb _ _ (c .before .before .before .before .before .before .if2 .left))
-    (c .before .before .give-hull .ensures ∙ ap (λ a. given (inWords hullWords a) (s .hull .now)) (c .before .before .before .before .hull .ensures ∙ ap (λ m. Hull.hull (s .file .now) m (s .model) (s .index)) (c .before .before .before .before .before .map-of .ensures)))
+    (c .before .before .give-hull .ensures ∙ ap (λ a. given (mapped hullWords a) (s .hull .now)) (c .before .before .before .before .hull .ensures ∙ ap (λ m. Hull.hull (s .file .now) m (s .model) (s .index)) (c .before .before .before .before .before .map-of .ensures)))
 
 pub hull-of-model-spec : {M : Type 1} → statement M
 hull-of-model-spec =

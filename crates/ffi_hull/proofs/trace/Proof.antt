@@ -4,10 +4,10 @@ use Prim.Native.Nat.{ℕ}
 use mathlib.Core.List.{List}
 use mathlib.Core.Path.{_≡_, ap, ap₂, _∙_}
 use borrow.Author.Tests.{lt-ltb, le-ltb}
-use Rattle.format.specs.Answer.{Answer}
+use Rattle.format.specs.Answer.{Answer, mapped}
 use Rattle.format.specs.declared.section.BspData.{BspData}
 use Rattle.math.specs.declared.Vector3.{Vector3}
-use Rattle.words.specs.Words.{Written, given, inWords, mapOf}
+use Rattle.words.specs.Words.{Written, given, mapOf}
 use Rattle.hull.specs.Hull.{hullTable, hullAnswer}
 use Rattle.hull.specs.declared.collision.BspCollisionHull.{BspCollisionHull}
 use Rattle.ffi_hull.proofs.Asking.{no-hull, the-hull}
@@ -25,7 +25,7 @@ asked s m p q h = withVisits (Tracing.trace (hullTable s m h) (h .«node_id») p
 
 -- where the lists are long enough
 at-hull : (c : tie.After-hull-of) (w : Written) → let s = c .before .before .before .before .before .before .before .before .before .before .args in
-    w ≡ given (inWords traceWords (ofHull (hullAnswer (c .hull-of .result)) (asked (s .file .now) (mapOf (s .map .now)) (pointAt (s .segment .now) 0) (pointAt (s .segment .now) 3)))) (s .out .now)
+    w ≡ given (mapped traceWords (ofHull (hullAnswer (c .hull-of .result)) (asked (s .file .now) (mapOf (s .map .now)) (pointAt (s .segment .now) 0) (pointAt (s .segment .now) 3)))) (s .out .now)
     → w ≡ bspTrace (s .file .now) (s .map .now) (s .hull .now) (s .segment .now) (s .out .now)
 unfolding bspTrace
 at-hull c w g =
@@ -86,8 +86,8 @@ returns-6 c =
     at-hull (c .before .before .before .before .before .before .before .before .before .before) _
     (the-hull traceWords (asked (s .file .now) (mapOf (s .map .now)) (pointAt (s .segment .now) 0) (pointAt (s .segment .now) 3)) (s .out .now) (c .before .before .before .before .before .before .before .before .h .given .1)
     (c .before .before .give-trace .ensures
-    ∙ ap (λ m. given (inWords traceWords (asked (s .file .now) m (c .before .before .before .before .before .first-point .result) (c .before .before .before .before .second-point .result) (c .before .before .before .before .before .before .before .before .h .given .0 .0))) (s .out .now)) (c .before .before .before .before .before .before .map-of .ensures)
-    ∙ ap₂ (λ p q. given (inWords traceWords (asked (s .file .now) (mapOf (s .map .now)) p q (c .before .before .before .before .before .before .before .before .h .given .0 .0))) (s .out .now)) (c .before .before .before .before .before .first-point .ensures) (c .before .before .before .before .second-point .ensures)))
+    ∙ ap (λ m. given (mapped traceWords (asked (s .file .now) m (c .before .before .before .before .before .first-point .result) (c .before .before .before .before .second-point .result) (c .before .before .before .before .before .before .before .before .h .given .0 .0))) (s .out .now)) (c .before .before .before .before .before .before .map-of .ensures)
+    ∙ ap₂ (λ p q. given (mapped traceWords (asked (s .file .now) (mapOf (s .map .now)) p q (c .before .before .before .before .before .before .before .before .h .given .0 .0))) (s .out .now)) (c .before .before .before .before .before .first-point .ensures) (c .before .before .before .before .second-point .ensures)))
 
 pub trace-spec : {M : Type 1} → statement M
 trace-spec =

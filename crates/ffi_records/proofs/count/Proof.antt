@@ -3,8 +3,9 @@ use borrow.Author.Needs.{needs}
 use mathlib.Core.Path.{_≡_, refl, ap, _∙_}
 use native.Mathlib.Omega.{arith}
 use borrow.Author.Tests.{lt-ltb, le-ltb}
+use Rattle.format.specs.Answer.{mapped}
 use Rattle.format.specs.Section.{recordCount}
-use Rattle.words.specs.Words.{Written, given, inWords}
+use Rattle.words.specs.Words.{Written, given}
 use Rattle.words.proofs.Giving.{gives}
 use Rattle.ffi_records.specs.Layout.{numberWords}
 use Rattle.ffi_records.specs.Calls.{countIn, sectionNumbered, bspCount}
@@ -13,7 +14,7 @@ use Rattle.ffi_records.proofs.count.Tie as tie
 
 -- where the lists are long enough
 long-enough : (c : tie.After-section-numbered) (w : Written)
-    → w ≡ given (inWords numberWords (countIn (c .section-numbered .result) (c .before .map-of .result))) (c .before .before .before .before .before .before .args .out .now)
+    → w ≡ given (mapped numberWords (countIn (c .section-numbered .result) (c .before .map-of .result))) (c .before .before .before .before .before .before .args .out .now)
     → w ≡ bspCount (c .before .before .before .before .before .before .args .map .now) (c .before .before .before .before .before .before .args .section) (c .before .before .before .before .before .before .args .out .now)
 unfolding bspCount
 long-enough c w g = simp (le-ltb _ _ (c .before .before .before .if1 .left), le-ltb _ _ (c .before .before .if2 .left)) (rw (← c .section-numbered .ensures, ← c .before .map-of .ensures) g)

@@ -3,7 +3,8 @@ use borrow.Author.Needs.{needs}
 use mathlib.Core.Path.{_≡_, refl}
 use native.Mathlib.Omega.{arith}
 use borrow.Author.Tests.{lt-ltb, le-ltb}
-use Rattle.words.specs.Words.{Written, given, inWords}
+use Rattle.format.specs.Answer.{mapped}
+use Rattle.words.specs.Words.{Written, given}
 use Rattle.words.proofs.Giving.{refuses, gives}
 use Rattle.models.specs.Text.{entitiesOf, entitiesAnswer}
 use Rattle.ffi_records.specs.Layout.{partWords}
@@ -13,7 +14,7 @@ use Rattle.ffi_records.proofs.entities.Tie as tie
 
 -- where the lists are long enough
 long-enough : (c : tie.After-map-of) (w : Written)
-    → w ≡ given (inWords partWords (entitiesOf (c .before .before .before .before .before .before .args .file .now) (c .map-of .result))) (c .before .before .before .before .before .before .args .out .now)
+    → w ≡ given (mapped partWords (entitiesOf (c .before .before .before .before .before .before .args .file .now) (c .map-of .result))) (c .before .before .before .before .before .before .args .out .now)
     → w ≡ bspEntities (c .before .before .before .before .before .before .args .file .now) (c .before .before .before .before .before .before .args .map .now) (c .before .before .before .before .before .before .args .out .now)
 unfolding bspEntities
 long-enough c w g = simp (le-ltb _ _ (c .before .before .if1 .left), le-ltb _ _ (c .before .if2 .left)) (rw (← c .map-of .ensures) g)

@@ -1,23 +1,20 @@
--- `words::put` meets its contract. The loop's invariant: the first i words stand at the front, and the rest of the list is kept.
--- Assumes nothing.
+-- `words::put` meets its contract. Assumes nothing.
 use borrow.Author.Needs.{needs}
-use mathlib.Core.Path.{_≡_, refl, _∙_}
-use mathlib.Core.List.{_++_}
-use Prim.Native.Nat.{_-_, _≤_}
+use Prim.Native.Nat.{_-_}
 use native.Mathlib.Omega.{arith}
-use lib.ListN.{length, drop, take, length-set}
-use Rattle.words.proofs.Putting.{put-more, take-all}
+use lib.ListN.{length}
+use Rattle.words.proofs.Putting.{Put, put-none, put-next, put-all}
 use Rattle.words.proofs.put.Statement.{statement}
 use Rattle.words.proofs.put.Tie as tie
 
 abbrev Inv-loop : tie.InvT-loop
-Inv-loop words out₀ i₀ out i = (i ≤ length words) × (length out ≡ length out₀) × (out ≡ take i words ++ drop i out₀)
+Inv-loop words out₀ i₀ out i = Put words out₀ out i
 
 abbrev μ-loop : tie.MeasureT-loop
 μ-loop words out₀ i₀ out i = length words - i
 
 loop-holds : tie.Need-loop-holds Inv-loop μ-loop
-loop-holds c = (omega arith, refl, refl)
+loop-holds c = put-none (c .args .words .now) (c .args .out .now)
 
 mul-out : tie.Need-mul-out Inv-loop μ-loop
 mul-out c = search needs
@@ -40,16 +37,13 @@ loop-less c = omega arith
 loop-again : tie.Need-loop-again Inv-loop μ-loop
 loop-again c =
     let l = c .before .before .loop in
-    let s = c .before .before .before in
-    (omega arith, length-set (l .out) (l .i) _ ∙ l .inv .1, rw (l .inv .2) (put-more (l .i) (s .args .words .now) (s .args .out .now) (omega arith) (omega (arith, s .pre))))
+    put-next (c .before .before .before .args .words .now) (c .before .before .before .args .out .now) (l .out) (l .i) (c .before .before .before .pre) (omega arith) (l .inv)
 
 same-length : tie.Need-same-length Inv-loop μ-loop
 same-length c = c .before .loop .inv .1
 
 returns : tie.Need-returns Inv-loop μ-loop
-returns c =
-    let h : c .before .loop .i ≡ length (c .before .before .args .words .now) = omega arith in
-    c .before .loop .inv .2 ∙ rw (h, take-all)
+returns c = put-all (c .before .before .args .words .now) (c .before .before .args .out .now) (c .before .loop .out) (c .before .loop .i) (omega arith) (c .before .loop .inv)
 
 pub put-spec : {M : Type 1} → statement M
 put-spec =
