@@ -6,7 +6,7 @@ use mathlib.Core.Bool.{Bool, true, false, cond}
 use mathlib.Core.List.{List, [], _∷_, _++_, append-assoc, append-nil}
 use native.Mathlib.Omega.{arith}
 use native.Mathlib.Numerals.{add-one}
-use borrow.Author.Tests.{lt-ltb, le-ltb}
+use borrow.Author.Tests.{lt-ltb, le-ltb, ltb-true, ltb-false}
 use lib.Dec.{ltb}
 use lib.ListN.{length, take, drop, set}
 use lib.Seq.{take-suc-set, take-all, length-take-le}
@@ -18,14 +18,16 @@ use Rattle.format.specs.declared.refusal.Refusal.{Refusal}
 use Rattle.math.specs.Plane as Pl
 use Rattle.math.specs.declared.Vector3.{Vector3}
 use Rattle.walk.specs.Table.{Child, node, end, Table, childOn}
-use Rattle.walk.specs.Walk.{Outcome, done, refused, entered, held, withVisits, Entered, enter, meet, ended, onto, walkAt, walk, pointWalk}
+use Rattle.walk.specs.Walk.{Outcome, done, refused, entered, withVisits, Entered, enter, meet, ended, onto, walkAt, walk, pointWalk}
 use Rattle.walk.proofs.Steps.{walk-outside}
 use Rattle.format.specs.declared.contents.BspLeafContents.{BspLeafContents}
 use Rattle.math.specs.declared.Hyperplane.{Hyperplane}
 use Rattle.math.specs.declared.HyperplaneSide.{HyperplaneSide}
 use Rattle.format.specs.declared.section.BspData.{BspData}
-use Rattle.nodes.specs.Tables.{End, tableOf}
+use Rattle.nodes.specs.Tables.{End, tableOf, leafTable}
 use Rattle.nodes.specs.declared.table.HullTable.{HullTable}
+use Rattle.nodes.specs.declared.table.HullTable.the-variants.{Render}
+use Rattle.nodes.proofs.Equal.{leaves-are}
 use Rattle.hull.proofs.Founds.{table-same}
 use Rattle.nodes.specs.Fast.{tablesOf, wordsAnswer, nodeOf, wordOn, planeIn, sideFrom, sidedAnswer}
 use Rattle.nodes.specs.Fast as Fast
@@ -36,7 +38,9 @@ use Rattle.nodes.specs.declared.read.ReadWords.the-variants.{Words, Refused}
 use Rattle.nodes.specs.declared.read.Sided.{Sided}
 use Rattle.nodes.specs.declared.read.Sided.the-variants as S
 use Rattle.hull.proofs.Entering.{child-node, child-end, enter-not, enter-is, enter-no-plane}
-use Rattle.entered.specs.Lists.{listedWith, listed, nodeOr0, onward, next, trail}
+use Rattle.entered.specs.Onward.{nodesOf, Fills}
+use Rattle.entered.proofs.Listing.{too-short, filled}
+use Rattle.entered.specs.Lists.{listedWith, listed, nodeOr0, onward, next, trail, trailed}
 
 module _ {E A : Type 0} (T : Table E A) (p : Vector3) where
   -- the nodes of an outcome are the trail from i
@@ -84,28 +88,26 @@ module _ {E A : Type 0} (T : Table E A) (p : Vector3) where
   length-trail (suc n) i = ap suc (length-trail n (next T p i))
 
   module _ (l : List ℕ) (root : ℕ) where
-    by-outcome : (o : Outcome A) (a : A) (v : ℕ) → Along root o → answer (a, v) ≡ withVisits o → length l < 2 ^ 63
-        → (v ≤ length l → listedWith (answer v) (trail T p v root ++ drop v l) ≡ listed l o) × (length l < v → listedWith (Ans.refused 22) l ≡ listed l o)
-    unfolding listed
-    by-outcome (done b ns) a v h e f =
-        let d : _≡_ {A = A × ℕ} (a, v) (b, held (length ns)) = cc in
-        let q : v ≡ held (length ns) = ap (λ (x : A × ℕ). x .1) d in
-        ((λ g. let r : v ≡ length ns = omega arith in rw r (simp (le-ltb (length l) (length ns) (omega arith)) (ap (λ (x : List ℕ). listedWith (answer (length ns)) (x ++ drop (length ns) l)) (sym h)))), (λ g. simp (lt-ltb (length l) (length ns) (omega arith))))
-    by-outcome (refused n) a v h e f = let z : _≡_ {A = ℕ} 0 1 = cc in absurd (omega arith)
+    fills-trail : (o : Outcome A) → Along root o → (v : ℕ) → length (take v l) ≡ v → Fills (nodesOf o) (take v l) (trail T p v root)
+    fills-trail (done a ns) h v q = λ g. sym (h ∙ ap (λ (n : ℕ). trail T p n root) (g ∙ q))
+    fills-trail (refused n) h v q = tt
 
-    pub fits : (a : A) (v : ℕ) → answer (a, v) ≡ withVisits (pointWalk T root p) → length l < 2 ^ 63 → v ≤ length l → listedWith (answer v) (trail T p v root ++ drop v l) ≡ listed l (pointWalk T root p)
-    fits a v e f g = by-outcome (pointWalk T root p) a v (along-walk (T .nodes .count) root) e f .0 g
+    by-visits : (o : Outcome A) → Along root o → (a : A) (v : ℕ) → answer (a, v) ≡ withVisits o → length l < 2 ^ 63 → root < T .nodes .count → (b : Bool) → ltb (length l) v ≡ b → trailed T p v root l ≡ listed l o
+    unfolding trailed
+    by-visits o h a v e f i true t = rw t (too-short l a v f o e (ltb-true (length l) v t))
+    by-visits o h a v e f i false t =
+        let g = ltb-false (length l) v t in
+        rw (t, lt-ltb root (T .nodes .count) i) (filled l a v f o e g (trail T p v root) (fills-trail o h v (length-take-le v l g)))
 
-    pub too-short : (a : A) (v : ℕ) → answer (a, v) ≡ withVisits (pointWalk T root p) → length l < 2 ^ 63 → length l < v → listedWith (Ans.refused 22) l ≡ listed l (pointWalk T root p)
-    too-short a v e f g = by-outcome (pointWalk T root p) a v (along-walk (T .nodes .count) root) e f .1 g
-
-    declines : (o : Outcome A) (n : ℕ) → Ans.refused n ≡ withVisits o → listedWith (Ans.refused n) l ≡ listed l o
-    unfolding listed
-    declines (done b ns) n e = let z : _≡_ {A = ℕ} 0 1 = cc in absurd (omega arith)
-    declines (refused m) n e = let z : n ≡ m = cc in rw z
-
-    pub declined : (n : ℕ) → Ans.refused n ≡ withVisits (pointWalk T root p) → listedWith (Ans.refused n) l ≡ listed l (pointWalk T root p)
-    declined n e = declines (pointWalk T root p) n e
+    pub listed-trail : (a : A) (v : ℕ) → answer (a, v) ≡ withVisits (pointWalk T root p) → length l < 2 ^ 63 → trailed T p v root l ≡ listed l (pointWalk T root p)
+    listed-trail a v e f = by-root (ltb root (T .nodes .count)) refl
+      where
+        by-root : (b : Bool) → ltb root (T .nodes .count) ≡ b → trailed T p v root l ≡ listed l (pointWalk T root p)
+        by-root true i = by-visits (pointWalk T root p) (along-walk (T .nodes .count) root) a v e f (ltb-true root (T .nodes .count) i) (ltb (length l) v) refl
+        by-root false i =
+            let n : _≡_ {A = Answer (A × ℕ)} (answer (a, v)) (Ans.refused 30) = e ∙ ap withVisits (walk-outside T p (T .nodes .count) root (ltb-false root (T .nodes .count) i)) in
+            let z : _≡_ {A = ℕ} 0 1 = cc in
+            absurd (omega arith)
 
   -- ---- writing a trail
 
@@ -128,19 +130,49 @@ module _ {E A : Type 0} (T : Table E A) (p : Vector3) where
         let q : n - i ≡ 0 = omega arith in
         sym (append-nil l) ∙ ap (λ (x : List ℕ). x ++ []) (sym (take-all i l (omega arith))) ∙ sym (ap (λ (k : ℕ). take i l ++ trail T p k v) q) ∙ e
 
--- ---- the list of a hull's walk, with the tables that the readers go by
+-- ---- the list of a walk, with the tables that the readers go by
 
-module _ (s : List ℕ) (m : BspData) (tab : HullTable) (mins maxs : Vector3) (t : Tables) (is-t : t ≡ tablesOf m tab mins maxs) (root : ℕ) (p : Vector3) (l : List ℕ) where
-  pub root-outside : t .nodes .count ≤ root → listedWith (Ans.refused 30) l ≡ listed l (pointWalk (tableOf s m tab mins maxs) root p)
-  unfolding listed
-  root-outside h =
-      sym (ap (listed l) (ap (λ (T : Table End BspLeafContents). pointWalk T root p) (sym (table-same s m tab mins maxs t is-t)) ∙ walk-outside (Fast.table s t) p (t .nodes .count) root h))
+module _ (s : List ℕ) (t : Tables) (p : Vector3) where
+  -- the two tables differ only in what an end says
+  trail-same : (n i : ℕ) → trail (Fast.table s t) p n i ≡ trail (Fast.leaves s t) p n i
+  unfolding trail next enter
+  trail-same zero i = refl
+  trail-same (suc n) i = ap (λ (l : List ℕ). i ∷ l) (trail-same n (next (Fast.table s t) p i))
 
-  pub written : (c : BspLeafContents) (v : ℕ) (x : List ℕ) → answer (c, v) ≡ withVisits (pointWalk (tableOf s m tab mins maxs) root p) → length l < 2 ^ 63 → v ≤ length l
-      → x ≡ trail (Fast.table s t) p (length (take v l)) root → listedWith (answer v) (x ++ drop v l) ≡ listed l (pointWalk (tableOf s m tab mins maxs) root p)
-  written c v x e f g is-x =
-      ap (λ (y : List ℕ). listedWith (answer v) (y ++ drop v l)) (is-x ∙ ap (λ (k : ℕ). trail (Fast.table s t) p k root) (length-take-le v l g) ∙ ap (λ (T : Table End BspLeafContents). trail T p v root) (table-same s m tab mins maxs t is-t))
-      ∙ fits (tableOf s m tab mins maxs) p l root c v e f g
+  trailed-same : (v root : ℕ) (l : List ℕ) → trailed (Fast.table s t) p v root l ≡ trailed (Fast.leaves s t) p v root l
+  unfolding trailed
+  trailed-same v root l = rw (trail-same v root)
+
+module _ (s : List ℕ) (m : BspData) (root : ℕ) (p : Vector3) (l : List ℕ) (short : length l < 2 ^ 63) where
+  pub point-listed : (tab : HullTable) (mins maxs : Vector3) (t : Tables) → t ≡ tablesOf m tab mins maxs
+      → (c : BspLeafContents) (v : ℕ) → answer (c, v) ≡ withVisits (pointWalk (tableOf s m tab mins maxs) root p)
+      → trailed (Fast.table s t) p v root l ≡ listed l (pointWalk (tableOf s m tab mins maxs) root p)
+  point-listed tab mins maxs t is-t c v e =
+      ap (λ (T : Table End BspLeafContents). trailed T p v root l) (table-same s m tab mins maxs t is-t) ∙ listed-trail (tableOf s m tab mins maxs) p l root c v e short
+
+  pub leaf-listed : (mins maxs : Vector3) (t : Tables) → t ≡ tablesOf m Render mins maxs
+      → (n v : ℕ) → answer (n, v) ≡ withVisits (pointWalk (leafTable s m) root p)
+      → trailed (Fast.table s t) p v root l ≡ listed l (pointWalk (leafTable s m) root p)
+  leaf-listed mins maxs t is-t n v e =
+      trailed-same s t p v root l ∙ ap (λ (T : Table End ℕ). trailed T p v root l) (ap (Fast.leaves s) is-t ∙ leaves-are s m mins maxs) ∙ listed-trail (leafTable s m) p l root n v e short
+
+-- what `list_walk` answers
+module _ (s : List ℕ) (t : Tables) (p : Vector3) (v root : ℕ) (l : List ℕ) where
+  pub lacks-room : length l < v → listedWith (Ans.refused 22) l ≡ trailed (Fast.table s t) p v root l
+  unfolding trailed
+  lacks-room h = simp (lt-ltb (length l) v h)
+
+  module _ (h : v ≤ length l) where
+    pub root-outside : t .nodes .count ≤ root → listedWith (Ans.refused 30) l ≡ trailed (Fast.table s t) p v root l
+    unfolding trailed
+    root-outside g = simp (le-ltb (length l) v h, le-ltb root (t .nodes .count) g)
+
+    pub written : root < t .nodes .count → (x : List ℕ) → x ≡ trail (Fast.table s t) p (length (take v l)) root
+        → listedWith (answer v) (x ++ drop v l) ≡ trailed (Fast.table s t) p v root l
+    unfolding trailed
+    written g x is-x =
+        simp (le-ltb (length l) v h, lt-ltb root (t .nodes .count) g)
+        (ap (λ (y : List ℕ). listedWith (answer v) (y ++ drop v l)) (is-x ∙ ap (λ (k : ℕ). trail (Fast.table s t) p k root) (length-take-le v l h)))
 
 -- ---- the node that a walk goes on to, by what the readers answer
 

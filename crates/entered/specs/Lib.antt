@@ -1,2 +1,3 @@
 -- What the contracts of `entered` cite.
 pub mod Lists
+pub mod Onward

@@ -48,3 +48,9 @@ next T p i = onward p (enter T i)
 unfoldable pub trail : {E A : Type 0} → Table E A → Vector3 → ℕ → ℕ → List ℕ
 trail T p zero i = []
 trail T p (suc n) i = i ∷ trail T p n (next T p i)
+
+-- the trail of a walk of v visits from a root, as `listed` writes it: 22 where the list is too short, then 30 where the root is outside
+unfoldable pub trailed : {E A : Type 0} → Table E A → Vector3 → ℕ → ℕ → List ℕ → Listed
+trailed T p v root l =
+    cond (ltb (length l) v) (listedWith (Ans.refused 22) l)
+    (cond (ltb root (T .nodes .count)) (listedWith (answer v) (trail T p v root ++ drop v l)) (listedWith (Ans.refused 30) l))

@@ -1,21 +1,25 @@
-// The nodes that the walk of a point enters.
+// The nodes that the walk of a point enters: to the contents at it, and to the leaf that it is in.
 ghost use mathlib.Core.Path.{_≡_};
 ghost use Prim.Native.Nat.{_<_};
 ghost use lib.ListN.{length};
 ghost use Rattle.walk.specs.Walk.{pointWalk};
+ghost use Rattle.nodes.specs.Tables.{leafTable};
 ghost use Rattle.nodes.specs.Fast as Fast;
 ghost use Rattle.hull.specs.Hull.{hullTable};
 ghost use Rattle.entered.specs.Lists as Lists;
 use format::refusal::Refusal;
 use format::section::BspData;
 use hull::collision::BspCollisionHull;
+use hull::point::FoundLeaf;
 use hull::point::PointContents;
 use hull::point::contents_at_point;
+use hull::point::find_leaf_from;
 use math::Vector3;
 use nodes::read::ReadWords;
 use nodes::read::Sided;
 use nodes::read::read_words;
 use nodes::read::side_at;
+use nodes::table::HullTable;
 use nodes::table::Tables;
 use nodes::table::tables_of;
 
@@ -58,6 +62,29 @@ fn write_walk(s: &[u8], t: Tables, root: usize, point: Vector3, list: &mut [u32]
     }
 }
 
+// The nodes of a walk of so many visits: 22 where the list is too short, 30 where the root is outside its table.
+fn list_walk(
+    s: &[u8],
+    t: Tables,
+    root: usize,
+    point: Vector3,
+    visits: u64,
+    list: &mut [u32],
+) -> EnteredAnswer
+    ensures { λ r. ⌜ Lists.listedWith (Lists.enteredAnswer r) (now (list .exit)) ≡ Lists.trailed (Fast.table (now (s .entry)) t) point visits root (now (list .entry)) ⌝ }
+{
+    if (list.len() as u64) < visits {
+        return EnteredAnswer::Refused(Refusal::ListTooShort);
+    }
+    let nodes = t.nodes;
+    if (nodes.count as usize) <= root {
+        return EnteredAnswer::Refused(Refusal::IndexOutsideTable);
+    }
+    let count = visits as usize;
+    write_walk(s, t, root, point, &mut list[..count]);
+    EnteredAnswer::Count(count)
+}
+
 // The nodes that the walk to the contents at a point enters: their number, and the nodes in order at the front of the list. Refused as
 // `contents_at_point` is, or where the list is too short (22); a refusal leaves the list as it is.
 pub fn nodes_to_point(
@@ -72,18 +99,28 @@ pub fn nodes_to_point(
     match contents_at_point(s, map, hull, point) {
         PointContents::Refused(e) => EnteredAnswer::Refused(e),
         PointContents::Contents(_, visits) => {
-            if (list.len() as u64) < visits {
-                return EnteredAnswer::Refused(Refusal::ListTooShort);
-            }
-            let count = visits as usize;
             let table = hull.table;
             let t = tables_of(map, table, hull.mins, hull.maxs);
-            let nodes = t.nodes;
-            if (nodes.count as usize) <= hull.node_id {
-                return EnteredAnswer::Refused(Refusal::IndexOutsideTable);
-            }
-            write_walk(s, t, hull.node_id, point, &mut list[..count]);
-            EnteredAnswer::Count(count)
+            list_walk(s, t, hull.node_id, point, visits, list)
+        }
+    }
+}
+
+// The same for the walk to the leaf that a point is in, from a render node on, refused as `find_leaf_from` is.
+pub fn nodes_to_leaf(
+    s: &[u8],
+    map: BspData,
+    root: usize,
+    point: Vector3,
+    list: &mut [u32],
+) -> EnteredAnswer
+    ensures { λ r. ⌜ Lists.listedWith (Lists.enteredAnswer r) (now (list .exit)) ≡ Lists.listed (now (list .entry)) (pointWalk (leafTable (now (s .entry)) map) root point) ⌝ }
+{
+    match find_leaf_from(s, map, root, point) {
+        FoundLeaf::Refused(e) => EnteredAnswer::Refused(e),
+        FoundLeaf::Leaf(_, visits) => {
+            let t = tables_of(map, HullTable::Render, point, point);
+            list_walk(s, t, root, point, visits, list)
         }
     }
 }

@@ -9,6 +9,7 @@ ghost use Rattle.vis.specs.Pvs.{lengthOf};
 ghost use Rattle.tree.specs.Check.{heightAnswer};
 ghost use Rattle.ffi_records.specs.Calls as Records;
 ghost use Rattle.ffi_hull.specs.Calls as Hulls;
+ghost use Rattle.ffi_entered.specs.Calls as Listing;
 ghost use Rattle.ffi.specs.Calls as Calls;
 use load::Loaded;
 use nodes::table::HullTable;
@@ -123,6 +124,51 @@ pub extern "C" fn bsp_trace(
     ensures { λ r. ⌜ written r (now (out .exit)) ≡ Hulls.bspTrace (now (file .entry)) (now (map .entry)) (now (hull .entry)) (now (segment .entry)) (now (out .entry)) ⌝ }
 {
     ffi_hull::trace(file, map, hull, segment, out)
+}
+
+// The nodes that a call of `bsp_contents` enters, in order, at the front of `list`, and their count.
+#[no_mangle]
+pub extern "C" fn bsp_contents_nodes(
+    file: &[u8],
+    map: &[u32],
+    hull: &[u64],
+    point: &[f32],
+    list: &mut [u32],
+    out: &mut [u64],
+) -> u32
+    ensures { λ r. ⌜ left r (now (list .exit)) (now (out .exit)) ≡ Listing.bspContentsNodes (now (file .entry)) (now (map .entry)) (now (hull .entry)) (now (point .entry)) (now (list .entry)) (now (out .entry)) ⌝ }
+{
+    ffi_entered::contents_nodes(file, map, hull, point, list, out)
+}
+
+// The same for `bsp_find_leaf`.
+#[no_mangle]
+pub extern "C" fn bsp_find_leaf_nodes(
+    file: &[u8],
+    map: &[u32],
+    root: u64,
+    point: &[f32],
+    list: &mut [u32],
+    out: &mut [u64],
+) -> u32
+    ensures { λ r. ⌜ left r (now (list .exit)) (now (out .exit)) ≡ Listing.bspFindLeafNodes (now (file .entry)) (now (map .entry)) root (now (point .entry)) (now (list .entry)) (now (out .entry)) ⌝ }
+{
+    ffi_entered::find_leaf_nodes(file, map, root, point, list, out)
+}
+
+// The same for `bsp_trace`.
+#[no_mangle]
+pub extern "C" fn bsp_trace_nodes(
+    file: &[u8],
+    map: &[u32],
+    hull: &[u64],
+    segment: &[f32],
+    list: &mut [u32],
+    out: &mut [u64],
+) -> u32
+    ensures { λ r. ⌜ left r (now (list .exit)) (now (out .exit)) ≡ Listing.bspTraceNodes (now (file .entry)) (now (map .entry)) (now (hull .entry)) (now (segment .entry)) (now (list .entry)) (now (out .entry)) ⌝ }
+{
+    ffi_entered::trace_nodes(file, map, hull, segment, list, out)
 }
 
 fn give_length(pvs: Pvs, out: &mut [u64]) -> u32

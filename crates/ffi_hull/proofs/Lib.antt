@@ -1,2 +1,3 @@
 -- What the proofs of `ffi_hull` share.
 pub mod Asking
+mod Walked

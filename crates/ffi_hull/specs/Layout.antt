@@ -1,23 +1,27 @@
 -- Hulls and traces as words, and hulls and points from words.
 use Prim.Native.Nat.{ℕ, _+_, _%_}
+use mathlib.Core.Bool.{Bool}
 use mathlib.Core.List.{List, [], _∷_, _++_}
-use lib.Dec.{eqb}
+use lib.Dec.{eqb, ltb}
 use lib.ListN.{getD}
 use lib.Ieee.{Float, nan, binary32, ofBits}
-use Rattle.math.specs.Vector.{vector}
+use Rattle.math.specs.Vector.{vector, zero32}
 use Rattle.math.specs.declared.Vector3.{Vector3}
 use Rattle.format.specs.Answer.{Answer, answer, refused}
 use Rattle.format.specs.Step.{when}
 use Rattle.format.specs.Contents.{codeOf}
 use Rattle.format.specs.declared.contents.BspLeafContents.{BspLeafContents}
+use Rattle.format.specs.declared.section.BspData.{BspData}
+use Rattle.format.specs.declared.section.BspFileSection.{BspFileSection}
 use Rattle.phys.specs.declared.TraceEndBoundary.{TraceEndBoundary}
 use Rattle.phys.specs.declared.TraceEndKind.{TraceEndKind}
 use Rattle.phys.specs.declared.TraceEndKind.the-variants.{Terminal, Boundary}
 use Rattle.phys.specs.declared.Trace.{Trace}
+use Rattle.nodes.specs.Fast.{fileTable}
 use Rattle.nodes.specs.declared.table.HullTable.{HullTable}
 use Rattle.nodes.specs.declared.table.HullTable.the-variants.{Render, Clip, Box}
 use Rattle.hull.specs.declared.collision.BspCollisionHull.{BspCollisionHull}
-use Rattle.words.specs.Words.{flagWord, floatWord, vectorWords, planeWords}
+use Rattle.words.specs.Words.{sectionAt, flagWord, floatWord, vectorWords, planeWords}
 
 -- ---- points and hulls from lists
 
@@ -50,6 +54,42 @@ hullFrom ws =
     (when (eqb (getD ws 0 0) 1) (answer (hullIn Clip ws))
     (when (eqb (getD ws 0 0) 2) (answer (hullIn Box ws))
     (refused 20)))
+
+-- for private contracts: the same hull as a walk or a trace goes by it, its bounds read where it is a box
+abbrev pub flatHull : Bool → List ℕ → BspCollisionHull
+flatHull render ws =
+    record { table = fileTable render; «node_id» = getD ws 1 0; «node_count» = 0; mins = vector zero32 zero32 zero32; maxs = vector zero32 zero32 zero32 }
+
+unfoldable pub walkedFrom : List ℕ → Answer BspCollisionHull
+walkedFrom ws =
+    when (ltb (getD ws 0 0) 2) (answer (flatHull (eqb (getD ws 0 0) 0) ws))
+    (when (eqb (getD ws 0 0) 2) (answer (hullIn Box ws))
+    (refused 20))
+
+abbrev pub noSection : BspFileSection
+noSection = record { offset = 0; size = 0 }
+
+-- and the map record with the sections that it goes by
+abbrev pub walkedMap : List ℕ → BspData
+walkedMap ws =
+    record {
+      entities = noSection;
+      planes = sectionAt ws 2;
+      textures = noSection;
+      vertices = noSection;
+      visibility = noSection;
+      «render_nodes» = sectionAt ws 10;
+      texinfo = noSection;
+      faces = noSection;
+      lightmaps = noSection;
+      «collision_nodes» = sectionAt ws 18;
+      leaves = sectionAt ws 20;
+      facelist = noSection;
+      edges = noSection;
+      edgelist = noSection;
+      models = noSection;
+      «texture_count» = 0;
+    }
 
 -- ---- words of answers
 

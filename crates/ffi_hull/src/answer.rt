@@ -7,6 +7,7 @@ ghost use Rattle.words.specs.Words.{written, given};
 ghost use Rattle.walk.specs.Walk.{withVisits, pointWalk};
 ghost use Rattle.walk.specs.Trace as Tracing;
 ghost use Rattle.nodes.specs.Tables.{leafTable};
+ghost use Rattle.nodes.specs.Fast as Fast;
 ghost use Rattle.hull.specs.Hull.{hullAnswer, hullTable};
 ghost use Rattle.ffi_hull.specs.Layout as Layout;
 use crate::layout;
@@ -17,6 +18,7 @@ use hull::point::FoundLeaf;
 use hull::point::PointContents;
 use hull::tracing::Traced;
 use math::Vector3;
+use nodes::table::Tables;
 use words::give;
 
 pub fn give_hull(hull: HullAnswer, out: &mut [u64]) -> u32
@@ -29,17 +31,11 @@ pub fn give_hull(hull: HullAnswer, out: &mut [u64]) -> u32
     }
 }
 
-pub fn give_contents(
-    file: &[u8],
-    map: BspData,
-    hull: BspCollisionHull,
-    point: Vector3,
-    out: &mut [u64],
-) -> u32
+pub fn give_contents(file: &[u8], t: Tables, root: usize, point: Vector3, out: &mut [u64]) -> u32
     requires { ⌜ 2 ≤ length (now out) ⌝ }
-    ensures { λ r. ⌜ written r (now (out .exit)) ≡ given (mapped Layout.contentsWords (withVisits (pointWalk (hullTable (now (file .entry)) map hull) (hull .«node_id») point))) (now (out .entry)) ⌝ }
+    ensures { λ r. ⌜ written r (now (out .exit)) ≡ given (mapped Layout.contentsWords (withVisits (pointWalk (Fast.table (now (file .entry)) t) root point))) (now (out .entry)) ⌝ }
 {
-    match hull::point::contents_at_point(file, map, hull, point) {
+    match hull::point::contents_in(file, t, root, point) {
         PointContents::Refused(e) => e.number(),
         PointContents::Contents(contents, visits) => give(&[contents.code() as u64, visits], out),
     }

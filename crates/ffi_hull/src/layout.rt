@@ -1,9 +1,12 @@
 // Hulls and traces as words, and hulls and points from words.
 ghost use mathlib.Core.Path.{_≡_};
 ghost use lib.ListN.{getD};
+ghost use Rattle.nodes.specs.Fast.{fileTable};
 ghost use Rattle.hull.specs.Hull.{hullAnswer};
 ghost use Rattle.ffi_hull.specs.Layout as Layout;
 use format::refusal::Refusal;
+use format::section::BspData;
+use format::section::BspFileSection;
 use hull::collision::BspCollisionHull;
 use hull::collision::HullAnswer;
 use math::Vector3;
@@ -14,6 +17,7 @@ use phys::TraceEndKind;
 use words::flag_word;
 use words::float_at;
 use words::float_word;
+use words::word_at;
 use words::word_at_u64;
 
 // The first point of a list of floats.
@@ -35,6 +39,49 @@ pub fn second_point(floats: &[f32]) -> Vector3
         x: float_at(floats, 3),
         y: float_at(floats, 4),
         z: float_at(floats, 5),
+    }
+}
+
+fn no_section() -> BspFileSection
+    ensures { λ r. ⌜ r ≡ Layout.noSection ⌝ }
+{
+    BspFileSection { offset: 0, size: 0 }
+}
+
+// The sections that a walk or a trace goes by, from a map record's words; the others are left empty.
+pub fn walked_map(words: &[u32]) -> BspData
+    ensures { λ r. ⌜ r ≡ Layout.walkedMap (now (words .entry)) ⌝ }
+{
+    let none = no_section();
+    BspData {
+        entities: none,
+        planes: BspFileSection {
+            offset: word_at(words, 2),
+            size: word_at(words, 3),
+        },
+        textures: none,
+        vertices: none,
+        visibility: none,
+        render_nodes: BspFileSection {
+            offset: word_at(words, 10),
+            size: word_at(words, 11),
+        },
+        texinfo: none,
+        faces: none,
+        lightmaps: none,
+        collision_nodes: BspFileSection {
+            offset: word_at(words, 18),
+            size: word_at(words, 19),
+        },
+        leaves: BspFileSection {
+            offset: word_at(words, 20),
+            size: word_at(words, 21),
+        },
+        facelist: none,
+        edges: none,
+        edgelist: none,
+        models: none,
+        texture_count: 0,
     }
 }
 
@@ -76,6 +123,36 @@ pub fn hull_of(words: &[u64]) -> HullAnswer
     }
     if table == 1 {
         return HullAnswer::Hull(hull_in(HullTable::Clip, words));
+    }
+    if table == 2 {
+        return HullAnswer::Hull(hull_in(HullTable::Box, words));
+    }
+    HullAnswer::Refused(Refusal::NoSuchRecord)
+}
+
+fn node_table(render: bool) -> HullTable
+    ensures { λ r. ⌜ r ≡ fileTable render ⌝ }
+{
+    if render {
+        HullTable::Render
+    } else {
+        HullTable::Clip
+    }
+}
+
+// The hull of nine words for a walk or a trace: a node table goes by no bounds, so they are read for a box alone. 20: its table is above 2.
+pub fn walked_hull(words: &[u64]) -> HullAnswer
+    ensures { λ r. ⌜ hullAnswer r ≡ Layout.walkedFrom (now (words .entry)) ⌝ }
+{
+    let table = word_at_u64(words, 0);
+    if table < 2 {
+        return HullAnswer::Hull(BspCollisionHull {
+            table: node_table(table == 0),
+            node_id: word_at_u64(words, 1) as usize,
+            node_count: 0,
+            mins: Vector3::new(0.0, 0.0, 0.0),
+            maxs: Vector3::new(0.0, 0.0, 0.0),
+        });
     }
     if table == 2 {
         return HullAnswer::Hull(hull_in(HullTable::Box, words));

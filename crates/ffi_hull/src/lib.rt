@@ -3,6 +3,7 @@ ghost use mathlib.Core.Path.{_≡_};
 ghost use Rattle.words.specs.Words.{written};
 ghost use Rattle.ffi_hull.specs.Calls as Calls;
 use hull::collision::HullAnswer;
+use nodes::table::tables_of;
 use words::map_of;
 
 mod answer;
@@ -59,10 +60,12 @@ pub fn contents(file: &[u8], map: &[u32], hull: &[u64], point: &[f32], out: &mut
     if out.len() < 2 {
         return 22;
     }
-    match layout::hull_of(hull) {
+    match layout::walked_hull(hull) {
         HullAnswer::Refused(e) => e.number(),
         HullAnswer::Hull(h) => {
-            answer::give_contents(file, map_of(map), h, layout::first_point(point), out)
+            let table = h.table;
+            let t = tables_of(layout::walked_map(map), table, h.mins, h.maxs);
+            answer::give_contents(file, t, h.node_id, layout::first_point(point), out)
         }
     }
 }
@@ -83,7 +86,7 @@ pub fn find_leaf(file: &[u8], map: &[u32], root: u64, point: &[f32], out: &mut [
     }
     answer::give_leaf(
         file,
-        map_of(map),
+        layout::walked_map(map),
         root as usize,
         layout::first_point(point),
         out,
@@ -107,11 +110,11 @@ pub fn trace(file: &[u8], map: &[u32], hull: &[u64], segment: &[f32], out: &mut 
     if out.len() < 17 {
         return 22;
     }
-    match layout::hull_of(hull) {
+    match layout::walked_hull(hull) {
         HullAnswer::Refused(e) => e.number(),
         HullAnswer::Hull(h) => answer::give_trace(
             file,
-            map_of(map),
+            layout::walked_map(map),
             h,
             layout::first_point(segment),
             layout::second_point(segment),

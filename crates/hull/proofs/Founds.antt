@@ -41,23 +41,24 @@ module _ (s : List ℕ) (m : BspData) (tab : HullTable) (mins maxs : Vector3) (t
       e ∙ sym (after-none (recursiveTrace (Fast.table s t) 512 root a b))
       ∙ ap (λ (T : Table End BspLeafContents). withVisits (recursiveTrace T 512 root a b)) table-same
 
-  module _ (root : ℕ) (p : Vector3) (r : WalkEnd) (is-r : endAnswer (t .table) r ≡ withVisits (pointWalk (ends (Fast.table s t)) root p)) where
-    in-table : withVisits (pointWalk (Fast.table s t) root p) ≡ withVisits (pointWalk (tableOf s m tab mins maxs) root p)
-    in-table = ap (λ (T : Table End BspLeafContents). withVisits (pointWalk T root p)) table-same
+  -- the contents at a point
+  pub contents-are : (root : ℕ) (p : Vector3) {r : Answer (BspLeafContents × ℕ)} → r ≡ withVisits (pointWalk (Fast.table s t) root p)
+      → r ≡ withVisits (pointWalk (tableOf s m tab mins maxs) root p)
+  contents-are root p e = e ∙ ap (λ (T : Table End BspLeafContents). withVisits (pointWalk T root p)) table-same
 
-    pub contents-refused : (x : Refusal) → r ≡ Refused x → Ans.refused (numberOf x) ≡ withVisits (pointWalk (tableOf s m tab mins maxs) root p)
-    contents-refused x q = point-refused (Fast.table s t) p root (numberOf x) (sym (ap (endAnswer (t .table)) q) ∙ is-r) ∙ in-table
+module _ (s : List ℕ) (t : Tables) (root : ℕ) (p : Vector3) (r : WalkEnd) (is-r : endAnswer (t .table) r ≡ withVisits (pointWalk (ends (Fast.table s t)) root p)) where
+  pub contents-refused : (x : Refusal) → r ≡ Refused x → Ans.refused (numberOf x) ≡ withVisits (pointWalk (Fast.table s t) root p)
+  contents-refused x q = point-refused (Fast.table s t) p root (numberOf x) (sym (ap (endAnswer (t .table)) q) ∙ is-r)
 
-    module _ (word v : ℕ) (q : r ≡ Word word v) (x : EndContents) (is-x : Fast.endAnswer x ≡ contentsMet s t word) where
-      pub contents-met : (c : BspLeafContents) → x ≡ E.Contents c → answer (c, v) ≡ withVisits (pointWalk (tableOf s m tab mins maxs) root p)
-      unfolding contentsMet
-      contents-met c q2 =
-          point-met (Fast.table s t) p root (endOf (t .table) word) v c (sym (ap (endAnswer (t .table)) q) ∙ is-r) (sym is-x ∙ ap Fast.endAnswer q2) ∙ in-table
+  module _ (word v : ℕ) (q : r ≡ Word word v) (x : EndContents) (is-x : Fast.endAnswer x ≡ contentsMet s t word) where
+    pub contents-met : (c : BspLeafContents) → x ≡ E.Contents c → answer (c, v) ≡ withVisits (pointWalk (Fast.table s t) root p)
+    unfolding contentsMet
+    contents-met c q2 = point-met (Fast.table s t) p root (endOf (t .table) word) v c (sym (ap (endAnswer (t .table)) q) ∙ is-r) (sym is-x ∙ ap Fast.endAnswer q2)
 
-      pub contents-unmet : (y : Refusal) → x ≡ E.Refused y → Ans.refused (numberOf y) ≡ withVisits (pointWalk (tableOf s m tab mins maxs) root p)
-      unfolding contentsMet
-      contents-unmet y q2 =
-          point-unmet (Fast.table s t) p root (endOf (t .table) word) v (numberOf y) (sym (ap (endAnswer (t .table)) q) ∙ is-r) (sym is-x ∙ ap Fast.endAnswer q2) ∙ in-table
+    pub contents-unmet : (y : Refusal) → x ≡ E.Refused y → Ans.refused (numberOf y) ≡ withVisits (pointWalk (Fast.table s t) root p)
+    unfolding contentsMet
+    contents-unmet y q2 =
+        point-unmet (Fast.table s t) p root (endOf (t .table) word) v (numberOf y) (sym (ap (endAnswer (t .table)) q) ∙ is-r) (sym is-x ∙ ap Fast.endAnswer q2)
 
 module _ (s : List ℕ) (m : BspData) (mins maxs : Vector3) (t : Tables) (is-t : t ≡ tablesOf m Render mins maxs) (root : ℕ) (p : Vector3) (r : WalkEnd) (is-r : endAnswer (t .table) r ≡ withVisits (pointWalk (ends (Fast.table s t)) root p)) where
   in-leaves : withVisits (pointWalk (Fast.leaves s t) root p) ≡ withVisits (pointWalk (leafTable s m) root p)

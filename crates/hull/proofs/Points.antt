@@ -3,9 +3,10 @@
 use Prim.Native.Nat.{ℕ, suc, _+_, _-_, _^_, _<_, _≤_}
 use native.Mathlib.Nat.{sub-zero}
 use mathlib.Core.Path.{_≡_, refl, sym, ap, _∙_}
-use mathlib.Core.Bool.{Bool}
+use mathlib.Core.Bool.{Bool, true, false, not, cond}
 use mathlib.Core.List.{List}
 use native.Mathlib.Omega.{arith}
+use lib.Dec.{ltb}
 use Rattle.format.proofs.Answers.{mapped-answer, mapped-refused}
 use Rattle.format.specs.Answer as Ans
 use Rattle.format.specs.Answer.{Answer, answer}
@@ -21,6 +22,8 @@ use Rattle.walk.proofs.Steps.{after-none, walk-unread, walk-node, walk-end}
 use Rattle.nodes.specs.Tables.{End}
 use Rattle.nodes.specs.Fast.{wordsAnswer, nodeOf, wordOn, endOf, planeIn, sideFrom, sidedAnswer}
 use Rattle.nodes.specs.Fast as Fast
+use Rattle.nodes.specs.declared.table.HullTable.{HullTable}
+use Rattle.nodes.specs.declared.table.HullTable.the-variants.{Render, Clip, Box}
 use Rattle.nodes.specs.declared.table.Tables.{Tables}
 use Rattle.nodes.specs.declared.read.Words.{Words as WordsT}
 use Rattle.nodes.specs.declared.read.ReadWords.{ReadWords}
@@ -29,6 +32,32 @@ use Rattle.nodes.specs.declared.read.Sided.{Sided}
 use Rattle.nodes.specs.declared.read.Sided.the-variants as S
 use Rattle.hull.specs.Walks.{ends}
 use Rattle.hull.proofs.Entering.{child-node, child-end, enter-not, enter-is, enter-no-plane}
+
+-- a table that is not a box's is the file's
+pub is-file : (tab : HullTable) (b k : Bool) → b ≡ Fast.isBox tab → not b ≡ true → k ≡ Fast.isRender tab → tab ≡ Fast.fileTable k
+is-file Render b k is-b e is-k = rw is-k
+is-file Clip b k is-b e is-k = rw is-k
+is-file Box b k is-b e is-k =
+    let q : not true ≡ true = rw is-b at e in
+    let z : _≡_ {A = ℕ} 0 1 = cc in
+    absurd (omega arith)
+
+-- what the readers of the file's nodes and planes say of a table that is the file's
+module _ (s : List ℕ) (t : Tables) (b : Bool) (e : t .table ≡ Fast.fileTable b) where
+  pub of-file : (i : ℕ) (r : ReadWords) → wordsAnswer (Fast.fileTable b) r ≡ Fast.nodeIn (Fast.fileTable b) s (t .nodes) i → wordsAnswer (t .table) r ≡ Fast.nodeAt s t i
+  unfolding Fast.nodeAt
+  of-file i r a = rw e a
+
+  plane-of-file : (i : ℕ) → Fast.planeOfFile s (t .planes) i ≡ planeIn s t i
+  unfolding planeIn Fast.planeOfIndex Fast.planeOfFile
+  plane-of-file i = by b ∙ sym (ap (λ (x : HullTable). cond (ltb i (t .planes .count)) (Fast.planeFor x s t i) (Ans.refused 30)) e)
+    where
+      by : (c : Bool) → Fast.planeOfFile s (t .planes) i ≡ cond (ltb i (t .planes .count)) (Fast.planeFor (Fast.fileTable c) s t i) (Ans.refused 30)
+      by true = refl
+      by false = refl
+
+  pub side-of-file : (p : Vector3) (i : ℕ) (r : Sided) → sidedAnswer r ≡ sideFrom p (Fast.planeOfFile s (t .planes) i) → sidedAnswer r ≡ sideFrom p (planeIn s t i)
+  side-of-file p i r a = a ∙ ap (sideFrom p) (plane-of-file i)
 
 module _ (s : List ℕ) (t : Tables) (p : Vector3) (v k j i : ℕ) (more : k ≡ suc j) (h : i < t .nodes .count) (r : ReadWords) (is-r : wordsAnswer (t .table) r ≡ Fast.nodeAt s t i) where
   abbrev T : Table End End

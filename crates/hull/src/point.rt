@@ -14,6 +14,8 @@ use nodes::read::EndContents;
 use nodes::read::ReadWords;
 use nodes::read::Sided;
 use nodes::read::end_contents;
+use nodes::read::file_side;
+use nodes::read::file_words;
 use nodes::read::read_words;
 use nodes::read::side_at;
 use nodes::table::HullTable;
@@ -38,9 +40,10 @@ pub enum FoundLeaf {
     Refused(Refusal),
 }
 
-// 30: the node is outside its table; 31: as many nodes as the table holds were entered; then its record (23), its plane's number (30) and
-// its plane (23).
-fn walk_to_end(s: &[u8], t: Tables, root: usize, point: Vector3) -> WalkEnd
+// The walk down the file's nodes, render nodes or clip nodes. 30: the node is outside its table; 31: as many nodes as the table holds were
+// entered; then its record (23), its plane's number (30) and its plane (23).
+fn walk_file(s: &[u8], t: Tables, render: bool, root: usize, point: Vector3) -> WalkEnd
+    requires { ⌜ t .table ≡ Fast.fileTable render ⌝ }
     ensures { λ r. ⌜ Walks.endAnswer (t .table) r ≡ withVisits (pointWalk (Walks.ends (Fast.table (now (s .entry)) t)) root point) ⌝ }
 {
     let nodes = t.nodes;
@@ -52,6 +55,42 @@ fn walk_to_end(s: &[u8], t: Tables, root: usize, point: Vector3) -> WalkEnd
             return WalkEnd::Refused(Refusal::IndexOutsideTable);
         }
         if count <= visits {
+            return WalkEnd::Refused(Refusal::WalkTooLong);
+        }
+        match file_words(s, nodes, render, node) {
+            ReadWords::Refused(e) => return WalkEnd::Refused(e),
+            ReadWords::Words(w) => match file_side(s, t.planes, w.plane as usize, point) {
+                Sided::Refused(e) => return WalkEnd::Refused(e),
+                Sided::Front(front) => {
+                    visits += 1;
+                    let word = w.on(front);
+                    if 32768 <= word {
+                        return WalkEnd::Word(word, visits);
+                    }
+                    node = word as usize;
+                }
+            },
+        }
+    }
+}
+
+// The walk down any table; here the loop is over a box's nodes, and refuses as the file's does.
+fn walk_to_end(s: &[u8], t: Tables, root: usize, point: Vector3) -> WalkEnd
+    ensures { λ r. ⌜ Walks.endAnswer (t .table) r ≡ withVisits (pointWalk (Walks.ends (Fast.table (now (s .entry)) t)) root point) ⌝ }
+{
+    let table = t.table;
+    if !table.is_box() {
+        return walk_file(s, t, table.is_render(), root, point);
+    }
+    let nodes = t.nodes;
+    let limit = nodes.count as u64;
+    let mut node = root;
+    let mut visits: u64 = 0;
+    loop {
+        if (nodes.count as usize) <= node {
+            return WalkEnd::Refused(Refusal::IndexOutsideTable);
+        }
+        if limit <= visits {
             return WalkEnd::Refused(Refusal::WalkTooLong);
         }
         match read_words(s, t, node) {
@@ -71,6 +110,19 @@ fn walk_to_end(s: &[u8], t: Tables, root: usize, point: Vector3) -> WalkEnd
     }
 }
 
+// The contents at a point, from a node of a table on.
+pub fn contents_in(s: &[u8], t: Tables, root: usize, point: Vector3) -> PointContents
+    ensures { λ r. ⌜ Walks.contentsAnswer r ≡ withVisits (pointWalk (Fast.table (now (s .entry)) t) root point) ⌝ }
+{
+    match walk_to_end(s, t, root, point) {
+        WalkEnd::Refused(e) => PointContents::Refused(e),
+        WalkEnd::Word(word, visits) => match end_contents(s, t, word) {
+            EndContents::Contents(c) => PointContents::Contents(c, visits),
+            EndContents::Refused(e) => PointContents::Refused(e),
+        },
+    }
+}
+
 // The contents at a point of a hull, `contents_at_point`.
 pub fn contents_at_point(
     s: &[u8],
@@ -81,14 +133,12 @@ pub fn contents_at_point(
     ensures { λ r. ⌜ Walks.contentsAnswer r ≡ withVisits (pointWalk (Hull.hullTable (now (s .entry)) map hull) (hull .«node_id») point) ⌝ }
 {
     let table = hull.table;
-    let t = tables_of(map, table, hull.mins, hull.maxs);
-    match walk_to_end(s, t, hull.node_id, point) {
-        WalkEnd::Refused(e) => PointContents::Refused(e),
-        WalkEnd::Word(word, visits) => match end_contents(s, t, word) {
-            EndContents::Contents(c) => PointContents::Contents(c, visits),
-            EndContents::Refused(e) => PointContents::Refused(e),
-        },
-    }
+    contents_in(
+        s,
+        tables_of(map, table, hull.mins, hull.maxs),
+        hull.node_id,
+        point,
+    )
 }
 
 // The leaf that a point is in, from a render node on.

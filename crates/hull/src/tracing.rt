@@ -110,11 +110,14 @@ fn descend(
                     if front != (b >= 0.0) {
                         return Descent::Crossing(w, a, b, left, visits);
                     }
-                    match meet_on(s, t, w, front) {
-                        MetChild::Node(n) => node = n,
-                        MetChild::Contents(c) => return Descent::Leaf(c, visits),
-                        MetChild::Refused(e) => return Descent::Refused(e),
+                    let word = w.on(front);
+                    if 32768 <= word {
+                        return match end_contents(s, t, word) {
+                            EndContents::Contents(c) => Descent::Leaf(c, visits),
+                            EndContents::Refused(e) => Descent::Refused(e),
+                        };
                     }
+                    node = word as usize;
                 }
             },
         }
@@ -150,7 +153,7 @@ fn out_of_leaf(
 }
 
 // Whether a trace ends with its near part.
-fn stops(near: Trace, mid: Vector3) -> bool
+pub fn stops(near: Trace, mid: Vector3) -> bool
     ensures { λ r. ⌜ r ≡ Traces.stopsAt near mid ⌝ }
 {
     if near.is_terminal() {
@@ -173,7 +176,7 @@ fn join_far(near: Trace, far: Traced) -> Traced
 }
 
 // The trace from start to end below a node, with the calls left and the nodes entered before, and how many nodes were entered in all.
-fn recursive_trace(
+pub fn recursive_trace(
     s: &[u8],
     t: Tables,
     node: usize,

@@ -19,11 +19,19 @@ use Rattle.format.specs.declared.section.Place.{Place}
 use Rattle.format.specs.declared.section.Place.the-variants.{At, Refused}
 use Rattle.walk.specs.Walk.{meet}
 use Rattle.nodes.specs.Tables.{nth}
-use Rattle.nodes.specs.Fast.{isRender, placeIn, hereAt, coded, wordsAnswer, renderNodeHere, clipNodeHere, boxNode, nodeIn, nodeAt, leafContentsHere, endOf, table, contentsMet}
+use Rattle.nodes.specs.Fast.{isRender, isBox, fileTable, placeIn, hereAt, coded, wordsAnswer, renderNodeHere, clipNodeHere, boxNode, nodeIn, nodeAt, leafContentsHere, endOf, table, contentsMet}
 use Rattle.nodes.specs.declared.table.HullTable.{HullTable}
 use Rattle.nodes.specs.declared.table.HullTable.the-variants.{Render, Clip, Box}
+use Rattle.nodes.specs.declared.table.Part.{Part}
 use Rattle.nodes.specs.declared.table.Tables.{Tables}
 use Rattle.nodes.specs.declared.read.ReadWords.{ReadWords}
+use Rattle.nodes.proofs.Places.{none}
+
+-- a table that is not a box's is the file's
+pub in-file : (tab : HullTable) → isBox tab ≡ false → fileTable (isRender tab) ≡ tab
+in-file Render e = refl
+in-file Clip e = refl
+in-file Box e = let z : _≡_ {A = ℕ} 0 1 = cc in absurd (omega arith)
 
 -- past the end of a list
 pub nth-past : {A : Type 0} (l : List A) (i : ℕ) → length l ≤ i → nth l i ≡ Ans.refused 20
@@ -33,28 +41,43 @@ nth-past (x ∷ xs) (suc i) h = nth-past xs i (omega arith)
 
 -- ---- the words of a node
 
-module _ (s : List ℕ) (t : Tables) (i : ℕ) where
-  module _ (e : t .table ≡ Render) (r : Place) (is-r : placeAnswer r ≡ placeIn (t .nodes) 24 (length s) i) where
-    pub render-at : (w : ReadWords) (at : ℕ) → r ≡ At at → wordsAnswer Render w ≡ renderNodeHere s at → wordsAnswer (t .table) w ≡ nodeAt s t i
-    unfolding nodeAt
+-- of the file: by which table it is of
+module _ (s : List ℕ) (p : Part) (i : ℕ) (b : Bool) where
+  pub no-node : p .count ≤ i → Ans.refused 20 ≡ nodeIn (fileTable b) s p i
+  no-node h = by b
+    where
+      by : (c : Bool) → Ans.refused 20 ≡ nodeIn (fileTable c) s p i
+      by true = ap (λ x. hereAt x (renderNodeHere s)) (none p 24 (length s) i h)
+      by false = ap (λ x. hereAt x (clipNodeHere s)) (none p 8 (length s) i h)
+
+  module _ (e : b ≡ true) (r : Place) (is-r : placeAnswer r ≡ placeIn p 24 (length s) i) where
+    pub render-at : (w : ReadWords) (at : ℕ) → r ≡ At at → wordsAnswer Render w ≡ renderNodeHere s at → wordsAnswer (fileTable b) w ≡ nodeIn (fileTable b) s p i
     render-at w at q a = rw e (a ∙ sym (ap (λ x. hereAt x (renderNodeHere s)) (sym is-r ∙ ap placeAnswer q)))
 
-    pub render-not : (x : Refusal) → r ≡ Refused x → Ans.refused (numberOf x) ≡ nodeAt s t i
-    unfolding nodeAt
+    pub render-not : (x : Refusal) → r ≡ Refused x → Ans.refused (numberOf x) ≡ nodeIn (fileTable b) s p i
     render-not x q = rw e (sym (ap (λ y. hereAt y (renderNodeHere s)) (sym is-r ∙ ap placeAnswer q)))
 
-  module _ (e : t .table ≡ Clip) (r : Place) (is-r : placeAnswer r ≡ placeIn (t .nodes) 8 (length s) i) where
-    pub clip-at : (w : ReadWords) (at : ℕ) → r ≡ At at → wordsAnswer Clip w ≡ clipNodeHere s at → wordsAnswer (t .table) w ≡ nodeAt s t i
-    unfolding nodeAt
+  module _ (e : b ≡ false) (r : Place) (is-r : placeAnswer r ≡ placeIn p 8 (length s) i) where
+    pub clip-at : (w : ReadWords) (at : ℕ) → r ≡ At at → wordsAnswer Clip w ≡ clipNodeHere s at → wordsAnswer (fileTable b) w ≡ nodeIn (fileTable b) s p i
     clip-at w at q a = rw e (a ∙ sym (ap (λ x. hereAt x (clipNodeHere s)) (sym is-r ∙ ap placeAnswer q)))
 
-    pub clip-not : (x : Refusal) → r ≡ Refused x → Ans.refused (numberOf x) ≡ nodeAt s t i
-    unfolding nodeAt
+    pub clip-not : (x : Refusal) → r ≡ Refused x → Ans.refused (numberOf x) ≡ nodeIn (fileTable b) s p i
     clip-not x q = rw e (sym (ap (λ y. hereAt y (clipNodeHere s)) (sym is-r ∙ ap placeAnswer q)))
 
-  pub box-at : (w : ReadWords) → t .table ≡ Box → wordsAnswer Box w ≡ boxNode i → wordsAnswer (t .table) w ≡ nodeAt s t i
+-- of a box or of the file
+module _ (s : List ℕ) (t : Tables) (i : ℕ) (w : ReadWords) (b : Bool) (is-b : b ≡ isBox (t .table)) where
+  a-box : (tab : HullTable) → isBox tab ≡ true → tab ≡ Box
+  a-box Render e = let z : _≡_ {A = ℕ} 0 1 = cc in absurd (omega arith)
+  a-box Clip e = let z : _≡_ {A = ℕ} 0 1 = cc in absurd (omega arith)
+  a-box Box e = refl
+
+  pub box-at : b ≡ true → wordsAnswer Box w ≡ boxNode i → wordsAnswer (t .table) w ≡ nodeAt s t i
   unfolding nodeAt
-  box-at w e a = rw e a
+  box-at e a = rw (a-box (t .table) (sym is-b ∙ e)) a
+
+  pub file-at : b ≡ false → (k : Bool) → k ≡ isRender (t .table) → wordsAnswer (fileTable k) w ≡ nodeIn (fileTable k) s (t .nodes) i → wordsAnswer (t .table) w ≡ nodeAt s t i
+  unfolding nodeAt
+  file-at e k is-k a = rw (← in-file (t .table) (sym is-b ∙ e), ← is-k) a
 
 -- ---- the contents at an end
 

@@ -55,6 +55,11 @@ isBox Render = false
 isBox Clip = false
 isBox Box = true
 
+-- the table of the file's nodes, render nodes or clip nodes
+abbrev pub fileTable : Bool → HullTable
+fileTable true = Render
+fileTable false = Clip
+
 -- ---- bytes
 
 abbrev pub Positive : ℕ → Type 0
@@ -200,6 +205,10 @@ planeFor Box s t i = boxPlane (t .mins) (t .maxs) i
 
 unfoldable pub planeOfIndex : List ℕ → Tables → ℕ → Answer Hyperplane
 planeOfIndex s t i = planeFor (t .table) s t i
+
+-- the file's plane of an index: its number (30), then its record
+unfoldable pub planeOfFile : List ℕ → Part → ℕ → Answer Hyperplane
+planeOfFile s p i = cond (ltb i (p .count)) (hereAt (placeIn p 20 (length s) i) (planeRead s)) (refused 30)
 
 -- the plane's number (30), then the plane
 unfoldable pub planeIn : List ℕ → Tables → ℕ → Answer Hyperplane

@@ -10,6 +10,7 @@ use crate::bytes::f32_at;
 use crate::bytes::u16_at;
 use crate::bytes::u32_at;
 use crate::table::HullTable;
+use crate::table::Part;
 use crate::table::Tables;
 use format::code::CodedContents;
 use format::code::contents_of;
@@ -152,23 +153,34 @@ fn box_words(index: usize) -> ReadWords
     }
 }
 
+// The words of a node of the file: a render node or a clip node.
+pub fn file_words(s: &[u8], nodes: Part, render: bool, index: usize) -> ReadWords
+    ensures { λ r. ⌜ Fast.wordsAnswer (Fast.fileTable render) r ≡ Fast.nodeIn (Fast.fileTable render) (now (s .entry)) nodes index ⌝ }
+{
+    if (nodes.count as usize) <= index {
+        return ReadWords::Refused(Refusal::NoSuchRecord);
+    }
+    if render {
+        return match nodes.place(24, s.len(), index) {
+            Place::At(at) => render_words(s, at),
+            Place::Refused(e) => ReadWords::Refused(e),
+        };
+    }
+    match nodes.place(8, s.len(), index) {
+        Place::At(at) => clip_words(s, at),
+        Place::Refused(e) => ReadWords::Refused(e),
+    }
+}
+
 // The words of a node.
 pub fn read_words(s: &[u8], t: Tables, index: usize) -> ReadWords
     ensures { λ r. ⌜ Fast.wordsAnswer (t .table) r ≡ Fast.nodeAt (now (s .entry)) t index ⌝ }
 {
     let table = t.table;
-    let nodes = t.nodes;
-    match table {
-        HullTable::Render => match nodes.place(24, s.len(), index) {
-            Place::At(at) => render_words(s, at),
-            Place::Refused(e) => ReadWords::Refused(e),
-        },
-        HullTable::Clip => match nodes.place(8, s.len(), index) {
-            Place::At(at) => clip_words(s, at),
-            Place::Refused(e) => ReadWords::Refused(e),
-        },
-        HullTable::Box => box_words(index),
+    if table.is_box() {
+        return box_words(index);
     }
+    file_words(s, t.nodes, table.is_render(), index)
 }
 
 // The coordinate along the axis 0, 1 or 2.
@@ -254,15 +266,6 @@ fn box_plane(mins: Vector3, maxs: Vector3, index: usize) -> PlaneAnswer
     }
 }
 
-fn box_side(mins: Vector3, maxs: Vector3, index: usize, p: Vector3) -> Sided
-    ensures { λ r. ⌜ Fast.sidedAnswer r ≡ Fast.sideFrom p (Fast.boxPlane mins maxs index) ⌝ }
-{
-    match box_plane(mins, maxs, index) {
-        PlaneAnswer::Value(h) => Sided::Front(is_front(h.point_side(p))),
-        PlaneAnswer::Refused(e) => Sided::Refused(e),
-    }
-}
-
 fn box_dists(mins: Vector3, maxs: Vector3, index: usize, p: Vector3, q: Vector3) -> Dists
     ensures { λ r. ⌜ Fast.distsAnswer r ≡ Fast.distsFrom p q (Fast.boxPlane mins maxs index) ⌝ }
 {
@@ -272,17 +275,12 @@ fn box_dists(mins: Vector3, maxs: Vector3, index: usize, p: Vector3, q: Vector3)
     }
 }
 
-// On which side of the plane of an index a point lies.
-pub fn side_at(s: &[u8], t: Tables, index: usize, p: Vector3) -> Sided
-    ensures { λ r. ⌜ Fast.sidedAnswer r ≡ Fast.sideFrom p (Fast.planeIn (now (s .entry)) t index) ⌝ }
+// On which side of the file's plane of an index a point lies. What a walk needs of the plane's record is read, and no more.
+pub fn file_side(s: &[u8], planes: Part, index: usize, p: Vector3) -> Sided
+    ensures { λ r. ⌜ Fast.sidedAnswer r ≡ Fast.sideFrom p (Fast.planeOfFile (now (s .entry)) planes index) ⌝ }
 {
-    let table = t.table;
-    let planes = t.planes;
     if (planes.count as usize) <= index {
         return Sided::Refused(Refusal::IndexOutsideTable);
-    }
-    if table.is_box() {
-        return box_side(t.mins, t.maxs, index, p);
     }
     match planes.place(20, s.len(), index) {
         Place::At(at) => Sided::Front(side_here(s, at, p)),
@@ -323,6 +321,16 @@ pub fn plane_at(s: &[u8], t: Tables, index: usize) -> PlaneAnswer
     match planes.place(20, s.len(), index) {
         Place::At(at) => PlaneAnswer::Value(plane_here(s, at)),
         Place::Refused(e) => PlaneAnswer::Refused(e),
+    }
+}
+
+// On which side of the plane of an index a point lies.
+pub fn side_at(s: &[u8], t: Tables, index: usize, p: Vector3) -> Sided
+    ensures { λ r. ⌜ Fast.sidedAnswer r ≡ Fast.sideFrom p (Fast.planeIn (now (s .entry)) t index) ⌝ }
+{
+    match plane_at(s, t, index) {
+        PlaneAnswer::Value(h) => Sided::Front(is_front(h.point_side(p))),
+        PlaneAnswer::Refused(e) => Sided::Refused(e),
     }
 }
 

@@ -23,4 +23,3 @@ readAt (refused n) one = refused n
 -- record i of a section, whose records `one` reads
 unfoldable pub recordOf : {A : Type 0} → BspFileSectionId → (List ℕ → ℕ → Step A) → List ℕ → BspData → ℕ → Answer A
 recordOf id one s m i = readAt (place id (sectionOf id m) (length s) i) (λ p. one s p)
-

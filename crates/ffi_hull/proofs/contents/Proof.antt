@@ -2,7 +2,7 @@
 use borrow.Author.Needs.{needs}
 use Prim.Native.Nat.{ℕ}
 use mathlib.Core.List.{List}
-use mathlib.Core.Path.{_≡_, ap₂, _∙_}
+use mathlib.Core.Path.{_≡_, ap, ap₂, _∙_}
 use borrow.Author.Tests.{lt-ltb, le-ltb}
 use Rattle.format.specs.Answer.{Answer, mapped}
 use Rattle.format.specs.declared.section.BspData.{BspData}
@@ -11,6 +11,9 @@ use Rattle.words.specs.Words.{Written, given, mapOf}
 use Rattle.hull.specs.Hull.{hullTable, hullAnswer}
 use Rattle.hull.specs.declared.collision.BspCollisionHull.{BspCollisionHull}
 use Rattle.ffi_hull.proofs.Asking.{no-hull, the-hull}
+use Rattle.ffi_hull.proofs.Walked.{in-tables, as-walked, contents-flat}
+use Rattle.walk.specs.Table.{Table}
+use Rattle.nodes.specs.Tables.{End}
 use Rattle.walk.specs.Walk.{withVisits, pointWalk}
 use Rattle.format.specs.declared.contents.BspLeafContents.{BspLeafContents}
 use Rattle.ffi_hull.specs.Layout.{pointAt, contentsWords}
@@ -23,13 +26,16 @@ abbrev asked : List ℕ → BspData → Vector3 → BspCollisionHull → Answer 
 asked s m p h = withVisits (pointWalk (hullTable s m h) (h .«node_id») p)
 
 -- where the lists are long enough
-at-hull : (c : tie.After-hull-of) (w : Written) → let s = c .before .before .before .before .before .before .before .before .before .before .args in
-    w ≡ given (mapped contentsWords (ofHull (hullAnswer (c .hull-of .result)) (asked (s .file .now) (mapOf (s .map .now)) (pointAt (s .point .now) 0)))) (s .out .now)
+at-hull : (c : tie.After-walked-hull) (w : Written) → let s = c .before .before .before .before .before .before .before .before .before .before .args in
+    w ≡ given (mapped contentsWords (ofHull (hullAnswer (c .walked-hull .result)) (asked (s .file .now) (mapOf (s .map .now)) (pointAt (s .point .now) 0)))) (s .out .now)
     → w ≡ bspContents (s .file .now) (s .map .now) (s .hull .now) (s .point .now) (s .out .now)
 unfolding bspContents
 at-hull c w g =
     simp (le-ltb _ _ (c .before .before .before .before .if1 .left), le-ltb _ _ (c .before .before .before .if2 .left), le-ltb _ _ (c .before .before .if3 .left), le-ltb _ _ (c .before .if4 .left))
-    (rw (← c .hull-of .ensures) g)
+    (g
+    ∙ ap (λ (a : Answer (BspLeafContents × ℕ)). given (mapped contentsWords a) (c .before .before .before .before .before .before .before .before .before .before .args .out .now))
+    (ap (λ (x : Answer BspCollisionHull). ofHull x (asked (c .before .before .before .before .before .before .before .before .before .before .args .file .now) (mapOf (c .before .before .before .before .before .before .before .before .before .before .args .map .now)) (pointAt (c .before .before .before .before .before .before .before .before .before .before .args .point .now) 0))) (c .walked-hull .ensures)
+    ∙ as-walked (c .before .before .before .before .before .before .before .before .before .before .args .hull .now) (asked (c .before .before .before .before .before .before .before .before .before .before .args .file .now) (mapOf (c .before .before .before .before .before .before .before .before .before .before .args .map .now)) (pointAt (c .before .before .before .before .before .before .before .before .before .before .args .point .now) 0)) (contents-flat (c .before .before .before .before .before .before .before .before .before .before .args .file .now) (c .before .before .before .before .before .before .before .before .before .before .args .hull .now) (mapOf (c .before .before .before .before .before .before .before .before .before .before .args .map .now)) (pointAt (c .before .before .before .before .before .before .before .before .before .before .args .point .now) 0))))
 
 returns : tie.Need-returns
 unfolding bspContents
@@ -47,8 +53,8 @@ returns-4 : tie.Need-returns-4
 unfolding bspContents
 returns-4 c = simp (le-ltb _ _ (c .before .before .before .if1 .left), le-ltb _ _ (c .before .before .if2 .left), le-ltb _ _ (c .before .if3 .left), lt-ltb _ _ (c .if4 .taken))
 
-hull-of-requires : tie.Need-hull-of-requires
-hull-of-requires c κs = search needs
+walked-hull-requires : tie.Need-walked-hull-requires
+walked-hull-requires c κs = search needs
 
 enum-known-e : tie.Need-enum-known-e
 enum-known-e c = search needs
@@ -59,8 +65,11 @@ number-requires c κs = search needs
 enum-known-h : tie.Need-enum-known-h
 enum-known-h c = search needs
 
-map-of-requires : tie.Need-map-of-requires
-map-of-requires c κs = search needs
+walked-map-requires : tie.Need-walked-map-requires
+walked-map-requires c κs = search needs
+
+tables-of-requires : tie.Need-tables-of-requires
+tables-of-requires c κs = search needs
 
 first-point-requires : tie.Need-first-point-requires
 first-point-requires c κs = search needs
@@ -78,10 +87,12 @@ same-length c = search needs
 
 returns-6 : tie.Need-returns-6
 returns-6 c =
-    let s = c .before .before .before .before .before .before .before .before .before .before .before .before .before .before .before .before .before .before .before .args in
-    at-hull (c .before .before .before .before .before .before .before .before .before) _
-    (the-hull contentsWords (asked (s .file .now) (mapOf (s .map .now)) (pointAt (s .point .now) 0)) (s .out .now) (c .before .before .before .before .before .before .before .h .given .1)
-    (c .before .before .give-contents .ensures ∙ ap₂ (λ m p. given (mapped contentsWords (asked (s .file .now) m p (c .before .before .before .before .before .before .before .h .given .0 .0))) (s .out .now)) (c .before .before .before .before .before .map-of .ensures) (c .before .before .before .before .first-point .ensures)))
+    let s = c .before .before .before .before .before .before .before .before .before .before .before .before .before .before .before .before .before .before .before .before .args in
+    let h = c .before .before .before .before .before .before .before .before .h .given .0 .0 in
+    at-hull (c .before .before .before .before .before .before .before .before .before .before) _
+    (the-hull contentsWords (asked (s .file .now) (mapOf (s .map .now)) (pointAt (s .point .now) 0)) (s .out .now) (c .before .before .before .before .before .before .before .before .h .given .1)
+    (c .before .before .give-contents .ensures
+    ∙ ap₂ (λ (T : Table End BspLeafContents) (p : Vector3). given (mapped contentsWords (withVisits (pointWalk T (h .«node_id») p))) (s .out .now)) (in-tables (s .file .now) (s .map .now) h _ _ (c .before .before .before .before .before .tables-of .ensures) (c .before .before .before .before .before .before .walked-map .ensures)) (c .before .before .before .before .first-point .ensures)))
 
 pub contents-spec : {M : Type 1} → statement M
 contents-spec =
@@ -91,11 +102,12 @@ contents-spec =
     returns-2
     returns-3
     returns-4
-    hull-of-requires
+    walked-hull-requires
     enum-known-e
     number-requires
     enum-known-h
-    map-of-requires
+    walked-map-requires
+    tables-of-requires
     first-point-requires
     give-contents-requires
     returns-5

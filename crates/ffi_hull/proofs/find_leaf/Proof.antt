@@ -1,12 +1,15 @@
 -- `ffi_hull::find_leaf` meets its contract. Assumes nothing.
 use borrow.Author.Needs.{needs}
-use mathlib.Core.Path.{_≡_, ap₂, _∙_}
+use Prim.Native.Nat.{ℕ}
+use mathlib.Core.Path.{_≡_, ap, ap₂, _∙_}
 use borrow.Author.Tests.{lt-ltb, le-ltb}
 use Rattle.format.specs.Answer.{mapped}
 use Rattle.words.specs.Words.{given}
 use Rattle.walk.specs.Walk.{withVisits, pointWalk}
-use Rattle.nodes.specs.Tables.{leafTable}
-use Rattle.ffi_hull.specs.Layout.{leafWords}
+use Rattle.walk.specs.Table.{Table}
+use Rattle.nodes.specs.Tables.{End, leafTable}
+use Rattle.ffi_hull.proofs.Walked.{same-leaf-table}
+use Rattle.ffi_hull.specs.Layout.{pointAt, leafWords}
 use Rattle.ffi_hull.specs.Calls.{bspFindLeaf}
 use Rattle.ffi_hull.proofs.find_leaf.Statement.{statement}
 use Rattle.ffi_hull.proofs.find_leaf.Tie as tie
@@ -23,8 +26,8 @@ returns-3 : tie.Need-returns-3
 unfolding bspFindLeaf
 returns-3 c = simp (le-ltb _ _ (c .before .before .if1 .left), le-ltb _ _ (c .before .if2 .left), lt-ltb _ _ (c .if3 .taken))
 
-map-of-requires : tie.Need-map-of-requires
-map-of-requires c κs = search needs
+walked-map-requires : tie.Need-walked-map-requires
+walked-map-requires c κs = search needs
 
 first-point-requires : tie.Need-first-point-requires
 first-point-requires c κs = search needs
@@ -41,7 +44,8 @@ returns-4 c =
     let s = c .before .before .before .before .before .before .before .before .before .before .before .before .before .args in
     simp (le-ltb _ _ (c .before .before .before .before .before .before .before .before .if1 .left), le-ltb _ _ (c .before .before .before .before .before .before .before .if2 .left), le-ltb _ _ (c .before .before .before .before .before .before .if3 .left))
     (c .before .before .give-leaf .ensures
-    ∙ ap₂ (λ m p. given (mapped leafWords (withVisits (pointWalk (leafTable (s .file .now) m) (s .root) p))) (s .out .now)) (c .before .before .before .before .before .map-of .ensures) (c .before .before .before .before .first-point .ensures))
+    ∙ ap₂ (λ m p. given (mapped leafWords (withVisits (pointWalk (leafTable (s .file .now) m) (s .root) p))) (s .out .now)) (c .before .before .before .before .before .walked-map .ensures) (c .before .before .before .before .first-point .ensures)
+    ∙ ap (λ (T : Table End ℕ). given (mapped leafWords (withVisits (pointWalk T (s .root) (pointAt (s .point .now) 0)))) (s .out .now)) (same-leaf-table (s .file .now) (s .map .now) (pointAt (s .point .now) 0)))
 
 pub find-leaf-spec : {M : Type 1} → statement M
 find-leaf-spec =
@@ -50,7 +54,7 @@ find-leaf-spec =
     returns
     returns-2
     returns-3
-    map-of-requires
+    walked-map-requires
     first-point-requires
     give-leaf-requires
     same-length

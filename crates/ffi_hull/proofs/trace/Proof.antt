@@ -11,6 +11,10 @@ use Rattle.words.specs.Words.{Written, given, mapOf}
 use Rattle.hull.specs.Hull.{hullTable, hullAnswer}
 use Rattle.hull.specs.declared.collision.BspCollisionHull.{BspCollisionHull}
 use Rattle.ffi_hull.proofs.Asking.{no-hull, the-hull}
+use Rattle.ffi_hull.proofs.Walked.{same-hull-table, as-walked, trace-flat}
+use Rattle.format.specs.declared.contents.BspLeafContents.{BspLeafContents}
+use Rattle.walk.specs.Table.{Table}
+use Rattle.nodes.specs.Tables.{End}
 use Rattle.walk.specs.Walk.{withVisits}
 use Rattle.walk.specs.Trace as Tracing
 use Rattle.phys.specs.declared.Trace.{Trace}
@@ -24,13 +28,16 @@ abbrev asked : List ℕ → BspData → Vector3 → Vector3 → BspCollisionHull
 asked s m p q h = withVisits (Tracing.trace (hullTable s m h) (h .«node_id») p q)
 
 -- where the lists are long enough
-at-hull : (c : tie.After-hull-of) (w : Written) → let s = c .before .before .before .before .before .before .before .before .before .before .args in
-    w ≡ given (mapped traceWords (ofHull (hullAnswer (c .hull-of .result)) (asked (s .file .now) (mapOf (s .map .now)) (pointAt (s .segment .now) 0) (pointAt (s .segment .now) 3)))) (s .out .now)
+at-hull : (c : tie.After-walked-hull) (w : Written) → let s = c .before .before .before .before .before .before .before .before .before .before .args in
+    w ≡ given (mapped traceWords (ofHull (hullAnswer (c .walked-hull .result)) (asked (s .file .now) (mapOf (s .map .now)) (pointAt (s .segment .now) 0) (pointAt (s .segment .now) 3)))) (s .out .now)
     → w ≡ bspTrace (s .file .now) (s .map .now) (s .hull .now) (s .segment .now) (s .out .now)
 unfolding bspTrace
 at-hull c w g =
     simp (le-ltb _ _ (c .before .before .before .before .if1 .left), le-ltb _ _ (c .before .before .before .if2 .left), le-ltb _ _ (c .before .before .if3 .left), le-ltb _ _ (c .before .if4 .left))
-    (rw (← c .hull-of .ensures) g)
+    (g
+    ∙ ap (λ (a : Answer (Trace × ℕ)). given (mapped traceWords a) (c .before .before .before .before .before .before .before .before .before .before .args .out .now))
+    (ap (λ (x : Answer BspCollisionHull). ofHull x (asked (c .before .before .before .before .before .before .before .before .before .before .args .file .now) (mapOf (c .before .before .before .before .before .before .before .before .before .before .args .map .now)) (pointAt (c .before .before .before .before .before .before .before .before .before .before .args .segment .now) 0) (pointAt (c .before .before .before .before .before .before .before .before .before .before .args .segment .now) 3))) (c .walked-hull .ensures)
+    ∙ as-walked (c .before .before .before .before .before .before .before .before .before .before .args .hull .now) (asked (c .before .before .before .before .before .before .before .before .before .before .args .file .now) (mapOf (c .before .before .before .before .before .before .before .before .before .before .args .map .now)) (pointAt (c .before .before .before .before .before .before .before .before .before .before .args .segment .now) 0) (pointAt (c .before .before .before .before .before .before .before .before .before .before .args .segment .now) 3)) (trace-flat (c .before .before .before .before .before .before .before .before .before .before .args .file .now) (c .before .before .before .before .before .before .before .before .before .before .args .hull .now) (mapOf (c .before .before .before .before .before .before .before .before .before .before .args .map .now)) (pointAt (c .before .before .before .before .before .before .before .before .before .before .args .segment .now) 0) (pointAt (c .before .before .before .before .before .before .before .before .before .before .args .segment .now) 3))))
 
 returns : tie.Need-returns
 unfolding bspTrace
@@ -48,8 +55,8 @@ returns-4 : tie.Need-returns-4
 unfolding bspTrace
 returns-4 c = simp (le-ltb _ _ (c .before .before .before .if1 .left), le-ltb _ _ (c .before .before .if2 .left), le-ltb _ _ (c .before .if3 .left), lt-ltb _ _ (c .if4 .taken))
 
-hull-of-requires : tie.Need-hull-of-requires
-hull-of-requires c κs = search needs
+walked-hull-requires : tie.Need-walked-hull-requires
+walked-hull-requires c κs = search needs
 
 enum-known-e : tie.Need-enum-known-e
 enum-known-e c = search needs
@@ -60,8 +67,8 @@ number-requires c κs = search needs
 enum-known-h : tie.Need-enum-known-h
 enum-known-h c = search needs
 
-map-of-requires : tie.Need-map-of-requires
-map-of-requires c κs = search needs
+walked-map-requires : tie.Need-walked-map-requires
+walked-map-requires c κs = search needs
 
 first-point-requires : tie.Need-first-point-requires
 first-point-requires c κs = search needs
@@ -86,7 +93,8 @@ returns-6 c =
     at-hull (c .before .before .before .before .before .before .before .before .before .before) _
     (the-hull traceWords (asked (s .file .now) (mapOf (s .map .now)) (pointAt (s .segment .now) 0) (pointAt (s .segment .now) 3)) (s .out .now) (c .before .before .before .before .before .before .before .before .h .given .1)
     (c .before .before .give-trace .ensures
-    ∙ ap (λ m. given (mapped traceWords (asked (s .file .now) m (c .before .before .before .before .before .first-point .result) (c .before .before .before .before .second-point .result) (c .before .before .before .before .before .before .before .before .h .given .0 .0))) (s .out .now)) (c .before .before .before .before .before .before .map-of .ensures)
+    ∙ ap (λ m. given (mapped traceWords (asked (s .file .now) m (c .before .before .before .before .before .first-point .result) (c .before .before .before .before .second-point .result) (c .before .before .before .before .before .before .before .before .h .given .0 .0))) (s .out .now)) (c .before .before .before .before .before .before .walked-map .ensures)
+    ∙ ap (λ (T : Table End BspLeafContents). given (mapped traceWords (withVisits (Tracing.trace T (c .before .before .before .before .before .before .before .before .h .given .0 .0 .«node_id») (c .before .before .before .before .before .first-point .result) (c .before .before .before .before .second-point .result)))) (s .out .now)) (same-hull-table (s .file .now) (s .map .now) (c .before .before .before .before .before .before .before .before .h .given .0 .0))
     ∙ ap₂ (λ p q. given (mapped traceWords (asked (s .file .now) (mapOf (s .map .now)) p q (c .before .before .before .before .before .before .before .before .h .given .0 .0))) (s .out .now)) (c .before .before .before .before .before .first-point .ensures) (c .before .before .before .before .second-point .ensures)))
 
 pub trace-spec : {M : Type 1} → statement M
@@ -97,11 +105,11 @@ trace-spec =
     returns-2
     returns-3
     returns-4
-    hull-of-requires
+    walked-hull-requires
     enum-known-e
     number-requires
     enum-known-h
-    map-of-requires
+    walked-map-requires
     first-point-requires
     second-point-requires
     give-trace-requires

@@ -9,8 +9,8 @@ use Rattle.ffi_hull.specs.Layout.{contentsWords}
 use Rattle.ffi_hull.proofs.answer.give_contents.Statement.{statement}
 use Rattle.ffi_hull.proofs.answer.give_contents.Tie as tie
 
-contents-at-point-requires : tie.Need-contents-at-point-requires
-contents-at-point-requires c κs = search needs
+contents-in-requires : tie.Need-contents-in-requires
+contents-in-requires c κs = search needs
 
 enum-known-e : tie.Need-enum-known-e
 enum-known-e c = search needs
@@ -34,19 +34,19 @@ give-requires : tie.Need-give-requires
 give-requires c κs = search needs
 
 returns : tie.Need-returns
-returns c = refuses contentsAnswer contentsWords (c .before .before .before .before .contents-at-point .ensures) (c .before .before .e .given .1) refl (c .number .ensures)
+returns c = refuses contentsAnswer contentsWords (c .before .before .before .before .contents-in .ensures) (c .before .before .e .given .1) refl (c .number .ensures)
 
 same-length : tie.Need-same-length
 same-length c = search needs
 
 returns-2 : tie.Need-returns-2
-returns-2 c = gives contentsAnswer contentsWords (c .before .before .before .before .before .before .before .before .before .before .before .before .args .out .now) (c .before .before .before .before .before .before .before .before .before .contents-at-point .ensures) (c .before .before .before .before .before .before .before .contents .given .1) refl (ap (λ n. n ∷ c .before .before .before .before .before .before .before .contents .given .0 .1 .0 ∷ []) (c .before .before .before .before .before .code .ensures)) (omega (arith, c .before .before .before .before .before .before .before .before .before .before .before .before .pre)) (c .before .before .give .ensures)
+returns-2 c = gives contentsAnswer contentsWords (c .before .before .before .before .before .before .before .before .before .before .before .before .args .out .now) (c .before .before .before .before .before .before .before .before .before .contents-in .ensures) (c .before .before .before .before .before .before .before .contents .given .1) refl (ap (λ n. n ∷ c .before .before .before .before .before .before .before .contents .given .0 .1 .0 ∷ []) (c .before .before .before .before .before .code .ensures)) (omega (arith, c .before .before .before .before .before .before .before .before .before .before .before .before .pre)) (c .before .before .give .ensures)
 
 pub give-contents-spec : {M : Type 1} → statement M
 give-contents-spec =
     tie.close
     (tie.spec
-    contents-at-point-requires
+    contents-in-requires
     enum-known-e
     number-requires
     enum-known-contents

@@ -1,6 +1,6 @@
--- `contents_at_point` meets its contract: the walk to an end, and the end met.
+-- `contents_at_point` meets its contract: over the hull's tables.
 -- Assumes nothing.
-use Rattle.hull.proofs.Founds.{contents-refused, contents-met, contents-unmet}
+use Rattle.hull.proofs.Founds.{contents-are}
 use borrow.Author.Needs.{needs}
 use Rattle.hull.proofs.point.contents_at_point.Statement.{statement}
 use Rattle.hull.proofs.point.contents_at_point.Tie as tie
@@ -8,44 +8,11 @@ use Rattle.hull.proofs.point.contents_at_point.Tie as tie
 tables-of-requires : tie.Need-tables-of-requires
 tables-of-requires c κs = search needs
 
-walk-to-end-requires : tie.Need-walk-to-end-requires
-walk-to-end-requires c κs = search needs
-
-enum-known-e : tie.Need-enum-known-e
-enum-known-e c = search needs
-
-enum-known-word : tie.Need-enum-known-word
-enum-known-word c = search needs
-
-end-contents-requires : tie.Need-end-contents-requires
-end-contents-requires c κs = search needs
-
-enum-known-c : tie.Need-enum-known-c
-enum-known-c c = search needs
-
-enum-known-e-2 : tie.Need-enum-known-e-2
-enum-known-e-2 c = search needs
+contents-in-requires : tie.Need-contents-in-requires
+contents-in-requires c κs = search needs
 
 returns : tie.Need-returns
-returns c = contents-refused _ _ _ _ _ _ (c .before .before .before .before .tables-of .ensures) _ _ _ (c .before .before .before .walk-to-end .ensures) _ (c .before .e .given .1)
-
-returns-2 : tie.Need-returns-2
-returns-2 c = contents-met _ _ _ _ _ _ (c .before .before .before .before .before .before .before .before .tables-of .ensures) _ _ _ (c .before .before .before .before .before .before .before .walk-to-end .ensures) _ _ (c .before .before .before .before .before .word .given .1) _ (c .before .before .before .end-contents .ensures) _ (c .before .c .given .1)
-
-returns-3 : tie.Need-returns-3
-returns-3 c = contents-unmet _ _ _ _ _ _ (c .before .before .before .before .before .before .before .before .tables-of .ensures) _ _ _ (c .before .before .before .before .before .before .before .walk-to-end .ensures) _ _ (c .before .before .before .before .before .word .given .1) _ (c .before .before .before .end-contents .ensures) _ (c .before .e2 .given .1)
+returns c = contents-are _ _ _ _ _ _ (c .before .tables-of .ensures) _ _ (c .contents-in .ensures)
 
 pub contents-at-point-spec : {M : Type 1} → statement M
-contents-at-point-spec =
-    tie.close
-    (tie.spec
-    tables-of-requires
-    walk-to-end-requires
-    enum-known-e
-    enum-known-word
-    end-contents-requires
-    enum-known-c
-    enum-known-e-2
-    returns
-    returns-2
-    returns-3)
+contents-at-point-spec = tie.close (tie.spec tables-of-requires contents-in-requires returns)

@@ -8,7 +8,8 @@ use Rattle.walk.specs.Walk.{after}
 use Rattle.walk.specs.Trace.{recursiveTrace}
 use Rattle.walk.proofs.Steps.{trace-outside, trace-spent}
 use Rattle.nodes.specs.Fast as Fast
-use Rattle.hull.proofs.Descents.{unread, no-plane, crosses, to-node, in-leaf, no-leaf}
+use Rattle.hull.proofs.Descents.{meets-node, meets-end, unread, no-plane, crosses, to-node, in-leaf, no-leaf}
+use Rattle.hull.specs.declared.tracing.MetChild.the-variants as M
 use borrow.Author.Needs.{needs}
 use Rattle.hull.proofs.tracing.descend.Statement.{statement}
 use Rattle.hull.proofs.tracing.descend.Tie as tie
@@ -69,29 +70,32 @@ sub-left c = omega (arith, c .before .before .before .before .before .before .be
 returns-5 : tie.Need-returns-5 Inv-loop μ-loop
 returns-5 c = record { says = crosses _ _ _ _ _ _ _ (c .before .before .before .before .before .before .before .before .before .before .before .if2 .left) (c .before .before .before .before .before .before .before .before .before .before .before .before .if1 .left) _ (c .before .before .before .before .before .before .before .before .before .before .read-words .ensures) _ (c .before .before .before .before .before .before .before .before .w .given .1) _ (c .before .before .before .before .before .dists-at .ensures) _ _ (c .before .before .before .a .given .1) (c .if3 .taken) _ (c .before .one-more .ensures) ∙ c .before .before .before .before .before .before .before .before .before .before .before .before .before .before .loop .inv .1; falls = omega (arith, c .before .before .before .before .before .before .before .before .before .before .before .if2 .left, c .before .before .before .before .before .before .before .before .before .before .before .before .before .before .loop .inv .0) }
 
-meet-on-requires : tie.Need-meet-on-requires Inv-loop μ-loop
-meet-on-requires c κs = search needs
+on-requires : tie.Need-on-requires Inv-loop μ-loop
+on-requires c κs = search needs
 
-enum-known-n : tie.Need-enum-known-n Inv-loop μ-loop
-enum-known-n c = search needs
-
-loop-less : tie.Need-loop-less Inv-loop μ-loop
-loop-less c = omega (arith, c .before .before .before .before .before .before .before .before .before .before .before .before .before .before .before .if2 .left)
-
-loop-again : tie.Need-loop-again Inv-loop μ-loop
-loop-again c = (omega (arith, c .before .before .before .before .before .before .before .before .before .before .before .before .before .before .before .before .before .before .loop .inv .0), sym (to-node _ _ _ _ _ _ _ (c .before .before .before .before .before .before .before .before .before .before .before .before .before .before .before .if2 .left) (c .before .before .before .before .before .before .before .before .before .before .before .before .before .before .before .before .if1 .left) _ (c .before .before .before .before .before .before .before .before .before .before .before .before .before .before .read-words .ensures) _ (c .before .before .before .before .before .before .before .before .before .before .before .before .w .given .1) _ (c .before .before .before .before .before .before .before .before .before .dists-at .ensures) _ _ (c .before .before .before .before .before .before .before .a .given .1) (c .before .before .before .before .if3 .left) _ (c .before .before .before .meet-on .ensures) _ (c .before .before .before .before .before .one-more .ensures) _ (c .before .n .given .1)) ∙ c .before .before .before .before .before .before .before .before .before .before .before .before .before .before .before .before .before .before .loop .inv .1)
+end-contents-requires : tie.Need-end-contents-requires Inv-loop μ-loop
+end-contents-requires c κs = search needs
 
 enum-known-c : tie.Need-enum-known-c Inv-loop μ-loop
 enum-known-c c = search needs
 
-returns-6 : tie.Need-returns-6 Inv-loop μ-loop
-returns-6 c = record { says = in-leaf _ _ _ _ _ _ _ (c .before .before .before .before .before .before .before .before .before .before .before .before .before .before .before .if2 .left) (c .before .before .before .before .before .before .before .before .before .before .before .before .before .before .before .before .if1 .left) _ (c .before .before .before .before .before .before .before .before .before .before .before .before .before .before .read-words .ensures) _ (c .before .before .before .before .before .before .before .before .before .before .before .before .w .given .1) _ (c .before .before .before .before .before .before .before .before .before .dists-at .ensures) _ _ (c .before .before .before .before .before .before .before .a .given .1) (c .before .before .before .before .if3 .left) _ (c .before .before .before .meet-on .ensures) _ (c .before .before .before .before .before .one-more .ensures) _ (c .before .c .given .1) ∙ c .before .before .before .before .before .before .before .before .before .before .before .before .before .before .before .before .before .before .loop .inv .1; falls = search needs }
-
 enum-known-e-3 : tie.Need-enum-known-e-3 Inv-loop μ-loop
 enum-known-e-3 c = search needs
 
+returns-6 : tie.Need-returns-6 Inv-loop μ-loop
+returns-6 c = record { says = in-leaf _ _ _ _ _ _ _ (c .before .before .before .before .before .before .before .before .before .before .before .before .before .before .before .before .before .if2 .left) (c .before .before .before .before .before .before .before .before .before .before .before .before .before .before .before .before .before .before .if1 .left) _ (c .before .before .before .before .before .before .before .before .before .before .before .before .before .before .before .before .read-words .ensures) _ (c .before .before .before .before .before .before .before .before .before .before .before .before .before .before .w .given .1) _ (c .before .before .before .before .before .before .before .before .before .before .before .dists-at .ensures) _ _ (c .before .before .before .before .before .before .before .before .before .a .given .1) (c .before .before .before .before .before .before .if3 .left) (M.Contents _) (meets-end _ _ _ _ _ (c .before .before .before .before .before .on .ensures) (c .before .before .before .before .if4 .taken) _ _ (c .before .before .before .end-contents .ensures) (c .before .c .given .1)) _ (c .before .before .before .before .before .before .before .one-more .ensures) _ refl ∙ c .before .before .before .before .before .before .before .before .before .before .before .before .before .before .before .before .before .before .before .before .loop .inv .1; falls = search needs }
+
 returns-7 : tie.Need-returns-7 Inv-loop μ-loop
-returns-7 c = record { says = no-leaf _ _ _ _ _ _ _ (c .before .before .before .before .before .before .before .before .before .before .before .before .before .before .before .if2 .left) (c .before .before .before .before .before .before .before .before .before .before .before .before .before .before .before .before .if1 .left) _ (c .before .before .before .before .before .before .before .before .before .before .before .before .before .before .read-words .ensures) _ (c .before .before .before .before .before .before .before .before .before .before .before .before .w .given .1) _ (c .before .before .before .before .before .before .before .before .before .dists-at .ensures) _ _ (c .before .before .before .before .before .before .before .a .given .1) (c .before .before .before .before .if3 .left) _ (c .before .before .before .meet-on .ensures) _ (c .before .before .before .before .before .one-more .ensures) _ (c .before .e3 .given .1) ∙ c .before .before .before .before .before .before .before .before .before .before .before .before .before .before .before .before .before .before .loop .inv .1; falls = search needs }
+returns-7 c = record { says = no-leaf _ _ _ _ _ _ _ (c .before .before .before .before .before .before .before .before .before .before .before .before .before .before .before .before .before .if2 .left) (c .before .before .before .before .before .before .before .before .before .before .before .before .before .before .before .before .before .before .if1 .left) _ (c .before .before .before .before .before .before .before .before .before .before .before .before .before .before .before .before .read-words .ensures) _ (c .before .before .before .before .before .before .before .before .before .before .before .before .before .before .w .given .1) _ (c .before .before .before .before .before .before .before .before .before .before .before .dists-at .ensures) _ _ (c .before .before .before .before .before .before .before .before .before .a .given .1) (c .before .before .before .before .before .before .if3 .left) (M.Refused (c .before .e3 .given .0 .0)) (meets-end _ _ _ _ _ (c .before .before .before .before .before .on .ensures) (c .before .before .before .before .if4 .taken) _ _ (c .before .before .before .end-contents .ensures) (c .before .e3 .given .1)) _ (c .before .before .before .before .before .before .before .one-more .ensures) _ refl ∙ c .before .before .before .before .before .before .before .before .before .before .before .before .before .before .before .before .before .before .before .before .loop .inv .1; falls = search needs }
+
+cast-node : tie.Need-cast-node Inv-loop μ-loop
+cast-node c = search needs
+
+loop-less : tie.Need-loop-less Inv-loop μ-loop
+loop-less c = omega (arith, c .before .before .before .before .before .before .before .before .before .before .before .before .before .if2 .left)
+
+loop-again : tie.Need-loop-again Inv-loop μ-loop
+loop-again c = (omega (arith, c .before .before .before .before .before .before .before .before .before .before .before .before .before .before .before .before .loop .inv .0), sym (to-node _ _ _ _ _ _ _ (c .before .before .before .before .before .before .before .before .before .before .before .before .before .if2 .left) (c .before .before .before .before .before .before .before .before .before .before .before .before .before .before .if1 .left) _ (c .before .before .before .before .before .before .before .before .before .before .before .before .read-words .ensures) _ (c .before .before .before .before .before .before .before .before .before .before .w .given .1) _ (c .before .before .before .before .before .before .before .dists-at .ensures) _ _ (c .before .before .before .before .before .a .given .1) (c .before .before .if3 .left) (M.Node _) (meets-node _ _ _ _ _ (c .before .on .ensures) (c .if4 .left)) _ (c .before .before .before .one-more .ensures) _ refl) ∙ c .before .before .before .before .before .before .before .before .before .before .before .before .before .before .before .before .loop .inv .1)
 
 pub descend-spec : {M : Type 1} → statement M
 descend-spec =
@@ -115,11 +119,12 @@ descend-spec =
     one-more-requires
     sub-left
     returns-5
-    meet-on-requires
-    enum-known-n
-    loop-less
-    loop-again
+    on-requires
+    end-contents-requires
     enum-known-c
-    returns-6
     enum-known-e-3
-    returns-7)
+    returns-6
+    returns-7
+    cast-node
+    loop-less
+    loop-again)

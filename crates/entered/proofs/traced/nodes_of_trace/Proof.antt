@@ -1,0 +1,66 @@
+-- `nodes_of_trace` meets its contract: first the trace for its answer and its length, then the trace that writes.
+-- Assumes nothing.
+use Prim.Native.Nat.{_^_, _<_}
+use native.Mathlib.Omega.{arith}
+use mathlib.Core.Path.{sym, ap, _∙_}
+use lib.ListN.{length}
+use lib.Seq.{length-take-le}
+use Rattle.hull.specs.Traces.{tracedAnswer}
+use Rattle.entered.proofs.Listing.{declined, too-short, filled}
+use Rattle.entered.proofs.Parts.{in-hull}
+use borrow.Author.Needs.{needs}
+use Rattle.entered.proofs.traced.nodes_of_trace.Statement.{statement}
+use Rattle.entered.proofs.traced.nodes_of_trace.Tie as tie
+
+-- a slice is shorter than 2^63
+short : (c : tie.After-slice-known) → length (c .before .before .args .list .now) < 2 ^ 63
+short c = omega arith
+
+trace-requires : tie.Need-trace-requires
+trace-requires c κs = search needs
+
+enum-known-e : tie.Need-enum-known-e
+enum-known-e c = search needs
+
+enum-known-visits : tie.Need-enum-known-visits
+enum-known-visits c = search needs
+
+returns : tie.Need-returns
+returns c = too-short _ _ _ (short (c .before .before .before .before .before)) _ (sym (ap tracedAnswer (c .before .before .visits .given .1)) ∙ c .before .before .before .before .trace .ensures) (c .if1 .taken)
+
+tables-of-requires : tie.Need-tables-of-requires
+tables-of-requires c κs = search needs
+
+slice-relend-prefix-write-onward : tie.Need-slice-relend-prefix-write-onward
+slice-relend-prefix-write-onward c = search needs
+
+slice-aggregate-write-onward : tie.Need-slice-aggregate-write-onward
+slice-aggregate-write-onward c = sym (length-take-le _ _ (c .before .before .if1 .left))
+
+write-onward-requires : tie.Need-write-onward-requires
+write-onward-requires c κs = search needs
+
+returns-2 : tie.Need-returns-2
+returns-2 c = declined _ _ _ (sym (ap tracedAnswer (c .before .e .given .1)) ∙ c .before .before .before .trace .ensures)
+
+same-length : tie.Need-same-length
+same-length c = search needs
+
+returns-3 : tie.Need-returns-3
+returns-3 c = filled _ _ _ (short (c .before .before .before .before .before .before .before .before .before .before)) _ (sym (ap tracedAnswer (c .before .before .before .before .before .before .before .visits .given .1)) ∙ c .before .before .before .before .before .before .before .before .before .trace .ensures) (c .before .before .before .before .before .if1 .left) _ (in-hull _ _ _ _ _ _ (c .before .before .before .before .tables-of .ensures) _ _ _ _ _ (c .before .before .write-onward .ensures))
+
+pub nodes-of-trace-spec : {M : Type 1} → statement M
+nodes-of-trace-spec =
+    tie.close
+    (tie.spec
+    trace-requires
+    enum-known-e
+    enum-known-visits
+    returns
+    tables-of-requires
+    slice-relend-prefix-write-onward
+    slice-aggregate-write-onward
+    write-onward-requires
+    returns-2
+    same-length
+    returns-3)

@@ -1,0 +1,53 @@
+-- `nodes_to_leaf` meets its contract: first the walk for its answer and its length, then the walk that writes.
+-- Assumes nothing.
+use Prim.Native.Nat.{_^_, _<_}
+use native.Mathlib.Omega.{arith}
+use lib.ListN.{length}
+use mathlib.Core.Path.{sym, ap, _∙_}
+use Rattle.hull.specs.Walks.{leafAnswer}
+use Rattle.entered.proofs.Listing.{declined}
+use Rattle.entered.proofs.Trails.{leaf-listed}
+use borrow.Author.Needs.{needs}
+use Rattle.entered.proofs.walked.nodes_to_leaf.Statement.{statement}
+use Rattle.entered.proofs.walked.nodes_to_leaf.Tie as tie
+
+-- a slice is shorter than 2^63
+short : (c : tie.After-slice-known) → length (c .before .before .args .list .now) < 2 ^ 63
+short c = omega arith
+
+find-leaf-from-requires : tie.Need-find-leaf-from-requires
+find-leaf-from-requires c κs = search needs
+
+enum-known-e : tie.Need-enum-known-e
+enum-known-e c = search needs
+
+enum-known-visits : tie.Need-enum-known-visits
+enum-known-visits c = search needs
+
+tables-of-requires : tie.Need-tables-of-requires
+tables-of-requires c κs = search needs
+
+list-walk-requires : tie.Need-list-walk-requires
+list-walk-requires c κs = search needs
+
+returns : tie.Need-returns
+returns c = declined _ _ _ (sym (ap leafAnswer (c .before .e .given .1)) ∙ c .before .before .before .find-leaf-from .ensures)
+
+same-length : tie.Need-same-length
+same-length c = search needs
+
+returns-2 : tie.Need-returns-2
+returns-2 c = c .before .before .list-walk .ensures ∙ leaf-listed _ _ _ _ _ (short (c .before .before .before .before .before .before .before .before .before)) _ _ _ (c .before .before .before .before .tables-of .ensures) _ _ (sym (ap leafAnswer (c .before .before .before .before .before .before .visits .given .1)) ∙ c .before .before .before .before .before .before .before .before .find-leaf-from .ensures)
+
+pub nodes-to-leaf-spec : {M : Type 1} → statement M
+nodes-to-leaf-spec =
+    tie.close
+    (tie.spec
+    find-leaf-from-requires
+    enum-known-e
+    enum-known-visits
+    tables-of-requires
+    list-walk-requires
+    returns
+    same-length
+    returns-2)

@@ -1,0 +1,2 @@
+-- Laws for the calls that list nodes.
+mod Asking

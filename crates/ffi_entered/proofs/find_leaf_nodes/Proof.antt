@@ -1,0 +1,64 @@
+-- `ffi_entered::find_leaf_nodes` meets its contract. Assumes nothing.
+use borrow.Author.Tests.{lt-ltb, le-ltb}
+use mathlib.Core.Path.{ap₂, _∙_}
+use Rattle.walk.specs.Walk.{pointWalk}
+use Rattle.nodes.specs.Tables.{leafTable}
+use Rattle.entered.specs.Lists.{listed}
+use Rattle.ffi_entered.specs.Calls.{bspFindLeafNodes}
+use Rattle.ffi_entered.proofs.Asking.{counted}
+use borrow.Author.Needs.{needs}
+use Rattle.ffi_entered.proofs.find_leaf_nodes.Statement.{statement}
+use Rattle.ffi_entered.proofs.find_leaf_nodes.Tie as tie
+
+returns : tie.Need-returns
+unfolding bspFindLeafNodes
+returns c = simp (lt-ltb _ _ (c .if1 .taken))
+
+returns-2 : tie.Need-returns-2
+unfolding bspFindLeafNodes
+returns-2 c = simp (le-ltb _ _ (c .before .if1 .left), lt-ltb _ _ (c .if2 .taken))
+
+returns-3 : tie.Need-returns-3
+unfolding bspFindLeafNodes
+returns-3 c = simp (le-ltb _ _ (c .before .before .if1 .left), le-ltb _ _ (c .before .if2 .left), lt-ltb _ _ (c .if3 .taken))
+
+first-point-requires : tie.Need-first-point-requires
+first-point-requires c κs = search needs
+
+map-of-requires : tie.Need-map-of-requires
+map-of-requires c κs = search needs
+
+nodes-to-leaf-requires : tie.Need-nodes-to-leaf-requires
+nodes-to-leaf-requires c κs = search needs
+
+give-count-requires : tie.Need-give-count-requires
+give-count-requires c κs = search needs
+
+same-length : tie.Need-same-length
+same-length c = search needs
+
+same-length-2 : tie.Need-same-length-2
+same-length-2 c = search needs
+
+returns-4 : tie.Need-returns-4
+unfolding bspFindLeafNodes
+returns-4 c =
+    let s = c .before .before .before .before .before .before .before .before .before .before .before .before .before .before .before .before .before .before .args in
+    simp (le-ltb _ _ (c .before .before .before .before .before .before .before .before .before .before .before .before .if1 .left), le-ltb _ _ (c .before .before .before .before .before .before .before .before .before .before .before .if2 .left), le-ltb _ _ (c .before .before .before .before .before .before .before .before .before .before .if3 .left))
+    (counted (c .before .before .before .before .before .before .nodes-to-leaf .last .1 .1 .1 .1 .0) (s .out .now) (c .before .before .before .before .before .before .nodes-to-leaf .result) (c .before .before .give-count .ensures)
+    (c .before .before .before .before .before .before .nodes-to-leaf .ensures ∙ ap₂ (λ m p. listed (s .list .now) (pointWalk (leafTable (s .file .now) m) (s .root) p)) (c .before .before .before .before .before .before .before .before .map-of .ensures) (c .before .before .before .before .before .before .before .before .before .first-point .ensures)))
+
+pub find-leaf-nodes-spec : {M : Type 1} → statement M
+find-leaf-nodes-spec =
+    tie.close
+    (tie.spec
+    returns
+    returns-2
+    returns-3
+    first-point-requires
+    map-of-requires
+    nodes-to-leaf-requires
+    give-count-requires
+    same-length
+    same-length-2
+    returns-4)

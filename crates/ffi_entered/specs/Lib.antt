@@ -1,0 +1,2 @@
+-- What the contracts of `ffi_entered` cite.
+pub mod Calls
