@@ -1,0 +1,100 @@
+/* What the example programs share: reading a file, stopping with a sentence, printing floats. */
+#ifndef SHARED_H
+#define SHARED_H
+
+#include "bsp29.h"
+
+#include <errno.h>
+#include <stdio.h>
+#include <stdlib.h>
+
+/* A file and its map record: what the calls are lent. */
+struct map {
+    uint8_t *file;
+    size_t length;
+    uint32_t words[BSP_MAP_WORDS];
+};
+
+/* Goes on where a call was answered; else says why it was not, and ends with status 1. */
+static inline void answered(uint32_t refusal)
+{
+    if (refusal != BSP_OK) {
+        fprintf(stderr, "refused %u: %s\n", (unsigned)refusal, bsp_sentence(refusal));
+        exit(1);
+    }
+}
+
+/* Says what the system refused, and ends with status 1. */
+static inline void stop(const char *what)
+{
+    fprintf(stderr, "%s: %s\n", what, strerror(errno));
+    exit(1);
+}
+
+/* The bytes of a file. A buffer of no bytes is still no null pointer. */
+static inline void read_file(const char *path, struct map *map)
+{
+    FILE *in = fopen(path, "rb");
+    size_t room = 65536, got;
+    if (in == NULL)
+        stop(path);
+    map->file = (uint8_t *)malloc(room);
+    map->length = 0;
+    while (map->file != NULL && (got = fread(map->file + map->length, 1, room - map->length, in)) > 0) {
+        map->length += got;
+        if (map->length == room)
+            map->file = (uint8_t *)realloc(map->file, room *= 2);
+    }
+    if (map->file == NULL || ferror(in))
+        stop(path);
+    fclose(in);
+}
+
+static inline void load(const char *path, struct map *map)
+{
+    read_file(path, map);
+    answered(bsp_load(map->file, map->length, map->words, BSP_MAP_WORDS));
+}
+
+static inline uint64_t count(const struct map *map, uint32_t section)
+{
+    uint64_t n;
+    answered(bsp_count(map->words, BSP_MAP_WORDS, section, &n, 1));
+    return n;
+}
+
+/* The same digits as the program in Rust prints. */
+static inline void print_float(float x)
+{
+    if (x != x)
+        printf(" nan");
+    else
+        printf(" %.6f", (double)x);
+}
+
+static inline void print_floats(const uint64_t *words, int n)
+{
+    int i;
+    for (i = 0; i < n; i++)
+        print_float(bsp_float(words[i]));
+}
+
+static inline const char *contents_name(uint64_t code)
+{
+    switch (code) {
+    case BSP_EMPTY: return "Empty";
+    case BSP_SOLID: return "Solid";
+    case BSP_WATER: return "Water";
+    case BSP_SLIME: return "Slime";
+    case BSP_LAVA: return "Lava";
+    case BSP_CURRENT_0: return "Current0";
+    case BSP_CURRENT_90: return "Current90";
+    case BSP_CURRENT_180: return "Current180";
+    case BSP_CURRENT_270: return "Current270";
+    case BSP_CURRENT_UP: return "CurrentUp";
+    case BSP_CURRENT_DOWN: return "CurrentDown";
+    default: return "?";
+    }
+}
+
+#endif

@@ -1,0 +1,460 @@
+/*
+ * bsp29.h: BSP29 maps that strangers send. C99 and C++11, x86-64 Linux.
+ *
+ * Link the static library that `rt staticlib ffi` writes: target/staticlib/libffi.a. Name the file
+ * by its path, since systems have another library called ffi.
+ *
+ * Each call answers 0 (BSP_OK), or the number of a refusal (enum bsp_refusal). Whatever the bytes,
+ * the map record, the hull or the numbers, it ends and answers one of these; it reads and writes
+ * nothing but the lists it is lent. What it answers goes to the front of a list that the caller
+ * lends; entries past the answer are kept. A refusal writes nothing, but for the marks of
+ * bsp_tree_check. The library holds no state: any thread may call it at any time. A call needs less
+ * than 1 MiB of stack (bsp_trace goes up to 512 calls deep).
+ *
+ * A list is two parameters: a pointer to its first entry and the number of its entries.
+ *   - The pointer is not null and is aligned for its entries, even where the number is 0.
+ *   - A list that is written (no const) shares no bytes with another list of the same call.
+ *
+ * Every list has a least length, said with each call; a list may be longer. A list that is too
+ * short is 22, before anything else is looked at, but for the lists that hold answers of any
+ * length (the parameters called list, and marks), where 22 comes in its place in the order said.
+ *
+ * A float in a word is its 32 bits (bsp_float), every NaN 0x7fc00000. A signed number in a word is
+ * its two's complement in 64 bits: cast the word to int64_t. A flag is 0 or 1.
+ */
+#ifndef BSP29_H
+#define BSP29_H
+
+#include <stddef.h>
+#include <stdint.h>
+#include <string.h>
+
+#ifdef __cplusplus
+extern "C" {
+#endif
+
+/* ---- refusals ---- */
+
+enum bsp_refusal {
+    BSP_OK = 0,
+    /* the file's author, on loading */
+    BSP_END_OF_FILE = 1,
+    BSP_UNSUPPORTED_VERSION = 2,
+    BSP_NEGATIVE_SECTION_OFFSET = 3,
+    BSP_NEGATIVE_SECTION_SIZE = 4,
+    BSP_INVALID_SECTION_SIZE = 5,
+    BSP_LIMIT_EXCEEDED = 6,
+    BSP_MISALIGNED = 7,
+    BSP_ENTITY_TEXT_TOO_LONG = 8,
+    BSP_ENTITY_TEXT_NOT_UTF8 = 9,
+    BSP_INVALID_FIELD = 10,
+    BSP_INVALID_INDEX = 11,
+    BSP_BAD_EXTENTS = 12,
+    /* the caller; 19 is a refusal of the core that no call of this file gives */
+    BSP_CANNOT_JOIN = 19,
+    BSP_NO_SUCH_RECORD = 20,
+    BSP_MIN_NOT_BELOW_MAX = 21,
+    BSP_LIST_TOO_SHORT = 22,
+    BSP_UNREADABLE = 23,
+    /* the map's shape, met in a query */
+    BSP_INDEX_OUTSIDE_TABLE = 30,
+    BSP_WALK_TOO_LONG = 31,
+    BSP_TOO_DEEP = 32,
+    BSP_ROW_OUTSIDE_DATA = 33,
+    BSP_REACHED_TWICE = 34
+};
+
+/* A sentence for a person about an answer of a call. */
+static inline const char *bsp_sentence(uint32_t refusal)
+{
+    switch (refusal) {
+    case BSP_OK: return "the call was answered";
+    case BSP_END_OF_FILE: return "the file ends before a field that it must have";
+    case BSP_UNSUPPORTED_VERSION: return "the file's version is not 29";
+    case BSP_NEGATIVE_SECTION_OFFSET: return "a section of the file has a negative offset";
+    case BSP_NEGATIVE_SECTION_SIZE: return "a section of the file has a negative size";
+    case BSP_INVALID_SECTION_SIZE: return "a section's size is no multiple of the size of its records";
+    case BSP_LIMIT_EXCEEDED: return "a section has more records than a map may have, or there is no model";
+    case BSP_MISALIGNED: return "a section does not end where its offset and size say";
+    case BSP_ENTITY_TEXT_TOO_LONG: return "the entity text is longer than 65,536 bytes";
+    case BSP_ENTITY_TEXT_NOT_UTF8: return "the entity text is not UTF-8";
+    case BSP_INVALID_FIELD: return "a field of the file has a value that it may not have";
+    case BSP_INVALID_INDEX: return "a record of the file names another that is not there";
+    case BSP_BAD_EXTENTS: return "a face of the file extends over more than 2,000 units of its texture";
+    case BSP_CANNOT_JOIN: return "the two traces do not follow one another";
+    case BSP_NO_SUCH_RECORD: return "the number asked for is outside its table";
+    case BSP_MIN_NOT_BELOW_MAX: return "a minimum of the box is at or above its maximum";
+    case BSP_LIST_TOO_SHORT: return "a list lent to the call is too short";
+    case BSP_UNREADABLE: return "the map record leads outside the file or to a record that loading refuses";
+    case BSP_INDEX_OUTSIDE_TABLE: return "a node of the map names a node, plane or leaf that is not there, or the root is not there";
+    case BSP_WALK_TOO_LONG: return "the walk entered as many nodes as the map has and did not end";
+    case BSP_TOO_DEEP: return "the map's tree is deeper than 512 nodes";
+    case BSP_ROW_OUTSIDE_DATA: return "a leaf's visibility row lies outside the visibility data";
+    case BSP_REACHED_TWICE: return "a node of the map is reached by two ways, so that its nodes are no tree";
+    default: return "the library answered a number that this header does not know";
+    }
+}
+
+/* ---- words ---- */
+
+/* The float of a word's low 32 bits. */
+static inline float bsp_float(uint64_t word)
+{
+    uint32_t bits = (uint32_t)word;
+    float value;
+    memcpy(&value, &bits, sizeof value);
+    return value;
+}
+
+/* The word of a float, for a hull made by hand. */
+static inline uint64_t bsp_word(float value)
+{
+    uint32_t bits;
+    memcpy(&bits, &value, sizeof bits);
+    return bits;
+}
+
+/* An offset that is missing: a leaf without a visibility row, a face without a lightmap. */
+#define BSP_NONE UINT64_MAX
+
+/* The sections of a file, in its order. The map record has the offset of section n in word 2 n and
+   its size in bytes in word 2 n + 1. */
+enum bsp_section {
+    BSP_ENTITIES = 0,
+    BSP_PLANES = 1,
+    BSP_TEXTURES = 2,
+    BSP_VERTICES = 3,
+    BSP_VISIBILITY = 4,
+    BSP_RENDER_NODES = 5,
+    BSP_TEXTURE_INFOS = 6,
+    BSP_FACES = 7,
+    BSP_LIGHTMAPS = 8,
+    BSP_CLIP_NODES = 9,
+    BSP_LEAVES = 10,
+    BSP_FACE_LIST = 11,
+    BSP_EDGES = 12,
+    BSP_EDGE_LIST = 13,
+    BSP_MODELS = 14
+};
+
+/* Node tables. A box has six nodes of its own and reads no file. */
+enum bsp_table { BSP_TABLE_RENDER = 0, BSP_TABLE_CLIP = 1, BSP_TABLE_BOX = 2 };
+
+/* Contents codes. There are no others. */
+enum bsp_contents_code {
+    BSP_EMPTY = 1,
+    BSP_SOLID = 2,
+    BSP_WATER = 3,
+    BSP_SLIME = 4,
+    BSP_LAVA = 5,
+    BSP_CURRENT_0 = 9,
+    BSP_CURRENT_90 = 10,
+    BSP_CURRENT_180 = 11,
+    BSP_CURRENT_270 = 12,
+    BSP_CURRENT_UP = 13,
+    BSP_CURRENT_DOWN = 14
+};
+
+/* How many words each answer has. */
+enum bsp_length {
+    BSP_MAP_WORDS = 31,    /* uint32_t: offset and size of each section, then the texture count */
+    BSP_RECORD_WORDS = 20, /* enough for a record of every section */
+    BSP_ENTITIES_WORDS = 2,
+    BSP_HULL_WORDS = 9,
+    BSP_CONTENTS_WORDS = 2,
+    BSP_LEAF_WORDS = 2,
+    BSP_TRACE_WORDS = 17
+};
+
+/* The word of the map record after those of the sections. */
+enum bsp_map_word { BSP_MAP_TEXTURE_COUNT = 30 };
+
+/* The words of a record, by its section. Where three words follow one another they are x, y, z. */
+
+enum bsp_plane_word {
+    BSP_PLANE_KIND = 0,   /* 0, 1, 2: the plane of an axis; 3: of a normal */
+    BSP_PLANE_NORMAL = 1, /* three floats; of an axis 1 and zeros */
+    BSP_PLANE_DIST = 4    /* float */
+};
+
+enum bsp_vertex_word { BSP_VERTEX_POINT = 0 /* three floats */ };
+
+enum bsp_render_node_word {
+    BSP_RENDER_NODE_PLANE = 0,
+    BSP_RENDER_NODE_FRONT_TAG = 1, /* 0: the child is a node; 1: a leaf */
+    BSP_RENDER_NODE_FRONT = 2,
+    BSP_RENDER_NODE_BACK_TAG = 3,
+    BSP_RENDER_NODE_BACK = 4,
+    BSP_RENDER_NODE_MIN = 5, /* three signed numbers */
+    BSP_RENDER_NODE_MAX = 8, /* three signed numbers */
+    BSP_RENDER_NODE_FACE = 11,
+    BSP_RENDER_NODE_FACE_COUNT = 12
+};
+
+enum bsp_texture_info_word {
+    BSP_TEXTURE_INFO_S = 0,        /* three floats */
+    BSP_TEXTURE_INFO_S_OFFSET = 3, /* float */
+    BSP_TEXTURE_INFO_T = 4,        /* three floats */
+    BSP_TEXTURE_INFO_T_OFFSET = 7, /* float */
+    BSP_TEXTURE_INFO_TEXTURE = 8,
+    BSP_TEXTURE_INFO_SPECIAL = 9 /* flag */
+};
+
+enum bsp_face_word {
+    BSP_FACE_PLANE = 0,
+    BSP_FACE_SIDE = 1, /* 0: front; 1: back */
+    BSP_FACE_EDGE = 2, /* the first entry of the edge list */
+    BSP_FACE_EDGE_COUNT = 3,
+    BSP_FACE_TEXTURE_INFO = 4,
+    BSP_FACE_LIGHT_STYLES = 5,  /* four numbers */
+    BSP_FACE_LIGHTMAP = 9,      /* offset or BSP_NONE */
+    BSP_FACE_TEXTURE_MINS = 10, /* two signed numbers: s, t */
+    BSP_FACE_EXTENTS = 12       /* two signed numbers: s, t */
+};
+
+enum bsp_clip_node_word {
+    BSP_CLIP_NODE_PLANE = 0,
+    BSP_CLIP_NODE_FRONT_TAG = 1, /* 0: the child is a node; 1: contents */
+    BSP_CLIP_NODE_FRONT = 2,     /* a node, or a contents code */
+    BSP_CLIP_NODE_BACK_TAG = 3,
+    BSP_CLIP_NODE_BACK = 4
+};
+
+enum bsp_leaf_word {
+    BSP_LEAF_CONTENTS = 0,   /* contents code */
+    BSP_LEAF_VISIBILITY = 1, /* offset of its row in the visibility section, or BSP_NONE */
+    BSP_LEAF_MIN = 2,        /* three signed numbers */
+    BSP_LEAF_MAX = 5,        /* three signed numbers */
+    BSP_LEAF_FACE_LIST = 8,  /* the first entry of the face list */
+    BSP_LEAF_FACE_LIST_COUNT = 9,
+    BSP_LEAF_SOUNDS = 10 /* four numbers: water, sky, slime, lava */
+};
+
+enum bsp_face_list_word { BSP_FACE_LIST_FACE = 0 };
+
+enum bsp_edge_word { BSP_EDGE_FIRST = 0, BSP_EDGE_SECOND = 1 /* vertices */ };
+
+enum bsp_edge_list_word {
+    BSP_EDGE_LIST_DIRECTION = 0, /* 0: forward; 1: backward */
+    BSP_EDGE_LIST_EDGE = 1
+};
+
+enum bsp_model_word {
+    BSP_MODEL_MIN = 0,               /* three floats: the file's less 1 */
+    BSP_MODEL_MAX = 3,               /* three floats: the file's plus 1 */
+    BSP_MODEL_ORIGIN = 6,            /* three floats */
+    BSP_MODEL_HULL_ROOTS = 9,        /* three nodes: render, clip, clip */
+    BSP_MODEL_HULL_NODE_COUNTS = 12, /* the clip nodes less each root, modulo 2^64 */
+    BSP_MODEL_LEAF = 15,             /* its first leaf: the leaf counts of the models before it */
+    BSP_MODEL_LEAF_COUNT = 16,
+    BSP_MODEL_FACE = 17,
+    BSP_MODEL_FACE_COUNT = 18,
+    BSP_MODEL_LAST_LEAF = 19 /* its last leaf, itself included: leaf and leaf count added */
+};
+
+enum bsp_hull_word {
+    BSP_HULL_TABLE = 0, /* enum bsp_table */
+    BSP_HULL_ROOT = 1,
+    BSP_HULL_NODE_COUNT = 2, /* no walk looks at it */
+    BSP_HULL_MINS = 3,       /* three floats */
+    BSP_HULL_MAXS = 6        /* three floats */
+};
+
+enum bsp_trace_word {
+    BSP_TRACE_VISITS = 0,
+    BSP_TRACE_CONTENTS = 1,    /* contents code of what the trace went through */
+    BSP_TRACE_START_SOLID = 2, /* flag */
+    BSP_TRACE_START = 3,       /* three floats */
+    BSP_TRACE_START_RATIO = 6, /* float */
+    BSP_TRACE_END = 7,         /* three floats */
+    BSP_TRACE_KIND = 10,       /* 0: terminal, within a leaf; 1: boundary, at a plane */
+    /* the words from here on are zeros for a terminal end */
+    BSP_TRACE_RATIO = 11,      /* float */
+    BSP_TRACE_PLANE_KIND = 12, /* as BSP_PLANE_KIND */
+    BSP_TRACE_NORMAL = 13,     /* three floats; points to where the trace came from */
+    BSP_TRACE_DIST = 16        /* float */
+};
+
+/* ---- the calls ---- */
+
+/*
+ * Loads a file: reads and tests it as far as the other calls rely on it, and writes its map record.
+ *   map: 31 words or more.
+ *   Refuses: 22; then 1 to 12, the first that is met in the file's order.
+ * The map record names places in the file and copies nothing: keep the file, unchanged, and lend it
+ * to the other calls together with the record.
+ */
+uint32_t bsp_load(const uint8_t *file, size_t file_length,
+                  uint32_t *map, size_t map_length);
+
+/*
+ * Record `index` of a section: 1, 3, 5, 6, 7 or 9 to 14 of enum bsp_section, in the words named for
+ * it above. For a file that loads and an index below bsp_count it never refuses.
+ *   map: 31 words or more; out: 20 words or more, whatever the section.
+ *   Refuses: 22; 20, a section that has no records or an index outside it; 23.
+ */
+uint32_t bsp_record(const uint8_t *file, size_t file_length,
+                    const uint32_t *map, size_t map_length,
+                    uint32_t section, uint64_t index,
+                    uint64_t *out, size_t out_length);
+
+/*
+ * How many records a section (any of enum bsp_section) has: its size divided by the size of a
+ * record, rounded down; of entities, textures, visibility and lightmaps their bytes.
+ *   map: 31 words or more; out: 1 word or more.
+ *   Refuses: 22; 20, a section above 14.
+ */
+uint32_t bsp_count(const uint32_t *map, size_t map_length,
+                   uint32_t section,
+                   uint64_t *out, size_t out_length);
+
+/*
+ * Where the entity text lies in the file: its offset and its length in bytes. It runs through its
+ * zero byte, which is counted, or to the file's end. An empty text may have any offset.
+ *   map: 31 words or more; out: 2 words or more.
+ *   Refuses: 22; 23.
+ */
+uint32_t bsp_entities(const uint8_t *file, size_t file_length,
+                      const uint32_t *map, size_t map_length,
+                      uint64_t *out, size_t out_length);
+
+/*
+ * The hull `index` of a model: 0 for points (the render nodes), 1 for a player, 2 for larger ones.
+ *   map: 31 words or more; hull: 9 words or more.
+ *   Refuses: 22; 20, a hull above 2 or a model outside its table; 23.
+ */
+uint32_t bsp_hull(const uint8_t *file, size_t file_length,
+                  const uint32_t *map, size_t map_length,
+                  uint64_t model, uint64_t index,
+                  uint64_t *hull, size_t hull_length);
+
+/*
+ * The hull of a box: solid within, empty outside. Such a hull reads no file: any file and any map
+ * record of 31 words may be lent with it.
+ *   bounds: 6 floats or more, the minimum and the maximum; hull: 9 words or more.
+ *   Refuses: 22; 21, a minimum at or above its maximum on an axis (a NaN is neither).
+ */
+uint32_t bsp_box(const float *bounds, size_t bounds_length,
+                 uint64_t *hull, size_t hull_length);
+
+/*
+ * What is at a point of a hull: a contents code, and the visits, one for each node entered.
+ *   map: 31 words or more; hull: 9 or more; point: 3 floats or more; out: 2 words or more.
+ *   Refuses: 22; 20, a hull whose table is none; then what the walk meets first: at each node 30 its
+ *   number, 31, 23 its record, 30 its plane's number, 23 the plane, and at a leaf 30 and 23.
+ */
+uint32_t bsp_contents(const uint8_t *file, size_t file_length,
+                      const uint32_t *map, size_t map_length,
+                      const uint64_t *hull, size_t hull_length,
+                      const float *point, size_t point_length,
+                      uint64_t *out, size_t out_length);
+
+/*
+ * The leaf that a point is in, from a render node on (root 0 for the world), and the visits.
+ *   map: 31 words or more; point: 3 floats or more; out: 2 words or more.
+ *   Refuses: 22; then as bsp_contents, but the leaf's record is not read.
+ */
+uint32_t bsp_find_leaf(const uint8_t *file, size_t file_length,
+                       const uint32_t *map, size_t map_length,
+                       uint64_t root,
+                       const float *point, size_t point_length,
+                       uint64_t *out, size_t out_length);
+
+/*
+ * What a point meets that moves along a segment through a hull: 17 words. The trace goes through
+ * leaves of the same contents, and out of solid ones. It ends at a plane behind which the contents
+ * differ (boundary), or within a leaf (terminal). It follows the engine richter to the letter:
+ *   - Where the segment crosses a node's plane, the part before the plane is traced first. If that
+ *     part ends within a leaf further down, the trace ends there, at the plane, as terminal, and what
+ *     lies behind the plane is not looked at. So a terminal end need not be the segment's end: trace
+ *     on from it where it is not.
+ *   - The ratio of a boundary is along the part of the segment that was left at the node of that
+ *     plane, and not along the whole segment.
+ *   map: 31 words or more; hull: 9 or more; segment: 6 floats or more, start and end;
+ *   out: 17 words or more.
+ *   Refuses: 22; 20, a hull whose table is none; then what the trace meets first: at each node 30 its
+ *   number, 32, 23 its record, 30 its plane's number, 23 the plane, and at a leaf 30 and 23.
+ */
+uint32_t bsp_trace(const uint8_t *file, size_t file_length,
+                   const uint32_t *map, size_t map_length,
+                   const uint64_t *hull, size_t hull_length,
+                   const float *segment, size_t segment_length,
+                   uint64_t *out, size_t out_length);
+
+/*
+ * bsp_contents, with the nodes entered instead of the contents: their number in out[0], and the
+ * nodes in the order of the walk at the front of list.
+ *   out: 1 word or more; the rest as bsp_contents.
+ *   Refuses: as bsp_contents, and last 22, a list too short for the nodes. The list is kept then.
+ */
+uint32_t bsp_contents_nodes(const uint8_t *file, size_t file_length,
+                            const uint32_t *map, size_t map_length,
+                            const uint64_t *hull, size_t hull_length,
+                            const float *point, size_t point_length,
+                            uint32_t *list, size_t list_length,
+                            uint64_t *out, size_t out_length);
+
+/*
+ * bsp_find_leaf, with the nodes entered instead of the leaf, as in bsp_contents_nodes.
+ *   out: 1 word or more; the rest as bsp_find_leaf.
+ *   Refuses: as bsp_find_leaf, and last 22, a list too short for the nodes.
+ */
+uint32_t bsp_find_leaf_nodes(const uint8_t *file, size_t file_length,
+                             const uint32_t *map, size_t map_length,
+                             uint64_t root,
+                             const float *point, size_t point_length,
+                             uint32_t *list, size_t list_length,
+                             uint64_t *out, size_t out_length);
+
+/*
+ * bsp_trace, with the nodes entered instead of the trace, as in bsp_contents_nodes. From a root
+ * that passed bsp_tree_check none is entered twice, so that a list as long as the table is enough.
+ *   out: 1 word or more; the rest as bsp_trace.
+ *   Refuses: as bsp_trace, and last 22, a list too short for the nodes.
+ */
+uint32_t bsp_trace_nodes(const uint8_t *file, size_t file_length,
+                         const uint32_t *map, size_t map_length,
+                         const uint64_t *hull, size_t hull_length,
+                         const float *segment, size_t segment_length,
+                         uint32_t *list, size_t list_length,
+                         uint64_t *out, size_t out_length);
+
+/*
+ * The leaves that can be seen from a leaf: their number in out[0], and the leaves, lowest first, at
+ * the front of list. A byte of the row stands for eight leaves, from leaf 1 on, its lowest bit first;
+ * a zero byte and its follower n stand for 8 n leaves that are not seen. A byte is read while the
+ * number of its first leaf is below leaf_count; for a whole row that is the leaf count of model 0,
+ * plus 1. The last byte may list leaves past it: a list of leaf_count + 7 entries is always enough.
+ * Leaf 0 and a leaf without a row see none.
+ *   map: 31 words or more; out: 1 word or more.
+ *   Refuses: 22; 20, a leaf outside its table; 23, the leaf, then the visibility section; 33; 22, a
+ *   list too short for the leaves.
+ */
+uint32_t bsp_pvs(const uint8_t *file, size_t file_length,
+                 const uint32_t *map, size_t map_length,
+                 uint64_t leaf, uint64_t leaf_count,
+                 uint32_t *list, size_t list_length,
+                 uint64_t *out, size_t out_length);
+
+/*
+ * The tree check from a root of a node table (enum bsp_table): the height of its tree. From a root
+ * that passed, in a file that loads, every walk and trace is answered, whatever its floats, and
+ * enters no node twice.
+ *   map: 31 words or more; out: 1 word or more; marks: a byte for each node of the table
+ *   (bsp_count; six for a box), of any values.
+ *   Refuses: 22; 20, a table that is none; 22, too few marks, which are kept; then at each node, front
+ *   before back: 30 its number, 34, 32, 23 its record, 30 its plane's number, and 30 each leaf child.
+ *   But for these 22 and 20, the first marks, one for each node, are 0 afterwards, whether it passes
+ *   or refuses, and later ones are kept.
+ */
+uint32_t bsp_tree_check(const uint8_t *file, size_t file_length,
+                        const uint32_t *map, size_t map_length,
+                        uint32_t table, uint64_t root,
+                        uint8_t *marks, size_t marks_length,
+                        uint64_t *out, size_t out_length);
+
+#ifdef __cplusplus
+}
+#endif
+
+#endif

@@ -1,0 +1,359 @@
+//! The calls of the static library, each behind a safe function. The only module with unsafe code.
+//!
+//! `include/bsp29.h` says what each call answers. Each answers 0 or the number of a refusal.
+
+#![allow(unsafe_code)]
+#![allow(clippy::too_many_arguments)]
+
+use crate::Refusal;
+
+type Bytes = *const u8;
+type Words = *const u32;
+type Longs = *const u64;
+type Floats = *const f32;
+type BytesOut = *mut u8;
+type WordsOut = *mut u32;
+type LongsOut = *mut u64;
+
+// A slice is a pointer and a length.
+#[rustfmt::skip]
+extern "C" {
+    fn bsp_load(file: Bytes, file_length: usize, map: WordsOut, map_length: usize) -> u32;
+    fn bsp_record(file: Bytes, file_length: usize, map: Words, map_length: usize, section: u32, index: u64, out: LongsOut, out_length: usize) -> u32;
+    fn bsp_count(map: Words, map_length: usize, section: u32, out: LongsOut, out_length: usize) -> u32;
+    fn bsp_entities(file: Bytes, file_length: usize, map: Words, map_length: usize, out: LongsOut, out_length: usize) -> u32;
+    fn bsp_hull(file: Bytes, file_length: usize, map: Words, map_length: usize, model: u64, index: u64, hull: LongsOut, hull_length: usize) -> u32;
+    fn bsp_box(bounds: Floats, bounds_length: usize, hull: LongsOut, hull_length: usize) -> u32;
+    fn bsp_contents(file: Bytes, file_length: usize, map: Words, map_length: usize, hull: Longs, hull_length: usize, point: Floats, point_length: usize, out: LongsOut, out_length: usize) -> u32;
+    fn bsp_find_leaf(file: Bytes, file_length: usize, map: Words, map_length: usize, root: u64, point: Floats, point_length: usize, out: LongsOut, out_length: usize) -> u32;
+    fn bsp_trace(file: Bytes, file_length: usize, map: Words, map_length: usize, hull: Longs, hull_length: usize, segment: Floats, segment_length: usize, out: LongsOut, out_length: usize) -> u32;
+    fn bsp_contents_nodes(file: Bytes, file_length: usize, map: Words, map_length: usize, hull: Longs, hull_length: usize, point: Floats, point_length: usize, list: WordsOut, list_length: usize, out: LongsOut, out_length: usize) -> u32;
+    fn bsp_find_leaf_nodes(file: Bytes, file_length: usize, map: Words, map_length: usize, root: u64, point: Floats, point_length: usize, list: WordsOut, list_length: usize, out: LongsOut, out_length: usize) -> u32;
+    fn bsp_trace_nodes(file: Bytes, file_length: usize, map: Words, map_length: usize, hull: Longs, hull_length: usize, segment: Floats, segment_length: usize, list: WordsOut, list_length: usize, out: LongsOut, out_length: usize) -> u32;
+    fn bsp_pvs(file: Bytes, file_length: usize, map: Words, map_length: usize, leaf: u64, leaf_count: u64, list: WordsOut, list_length: usize, out: LongsOut, out_length: usize) -> u32;
+    fn bsp_tree_check(file: Bytes, file_length: usize, map: Words, map_length: usize, table: u32, root: u64, marks: BytesOut, marks_length: usize, out: LongsOut, out_length: usize) -> u32;
+}
+
+/// The words of a map record.
+pub(crate) type MapWords = [u32; 31];
+/// The words of a hull.
+pub(crate) type HullWords = [u64; 9];
+/// Two points, one after the other.
+pub(crate) type Segment = [f32; 6];
+
+/// What a call answered, once it says 0.
+fn answered<T>(status: u32, value: T) -> Result<T, Refusal> {
+    if status == 0 {
+        Ok(value)
+    } else {
+        Err(Refusal::from_number(status))
+    }
+}
+
+/// `bsp_load`: the map record.
+pub(crate) fn load(file: &[u8]) -> Result<MapWords, Refusal> {
+    let mut map = [0; 31];
+    // SAFETY: each pointer goes with the length of its slice, and what is written is borrowed by this
+    // call alone; the library is proved to stay within the slices, whatever they hold.
+    let status = unsafe { bsp_load(file.as_ptr(), file.len(), map.as_mut_ptr(), map.len()) };
+    answered(status, map)
+}
+
+/// `bsp_record`: the words of a record.
+pub(crate) fn record(
+    file: &[u8],
+    map: &MapWords,
+    section: u32,
+    index: u64,
+) -> Result<[u64; 20], Refusal> {
+    let mut out = [0; 20];
+    // SAFETY: as in `load`.
+    let status = unsafe {
+        bsp_record(
+            file.as_ptr(),
+            file.len(),
+            map.as_ptr(),
+            map.len(),
+            section,
+            index,
+            out.as_mut_ptr(),
+            out.len(),
+        )
+    };
+    answered(status, out)
+}
+
+/// `bsp_count`: how many records a section has.
+pub(crate) fn count(map: &MapWords, section: u32) -> Result<u64, Refusal> {
+    let mut out = [0; 1];
+    // SAFETY: as in `load`.
+    let status =
+        unsafe { bsp_count(map.as_ptr(), map.len(), section, out.as_mut_ptr(), out.len()) };
+    answered(status, out[0])
+}
+
+/// `bsp_entities`: offset and length of the entity text.
+pub(crate) fn entities(file: &[u8], map: &MapWords) -> Result<[u64; 2], Refusal> {
+    let mut out = [0; 2];
+    // SAFETY: as in `load`.
+    let status = unsafe {
+        bsp_entities(
+            file.as_ptr(),
+            file.len(),
+            map.as_ptr(),
+            map.len(),
+            out.as_mut_ptr(),
+            out.len(),
+        )
+    };
+    answered(status, out)
+}
+
+/// `bsp_hull`: the hull of a model.
+pub(crate) fn hull(
+    file: &[u8],
+    map: &MapWords,
+    model: u64,
+    index: u64,
+) -> Result<HullWords, Refusal> {
+    let mut hull = [0; 9];
+    // SAFETY: as in `load`.
+    let status = unsafe {
+        bsp_hull(
+            file.as_ptr(),
+            file.len(),
+            map.as_ptr(),
+            map.len(),
+            model,
+            index,
+            hull.as_mut_ptr(),
+            hull.len(),
+        )
+    };
+    answered(status, hull)
+}
+
+/// `bsp_box`: the hull of a box.
+pub(crate) fn hull_of_box(bounds: &Segment) -> Result<HullWords, Refusal> {
+    let mut hull = [0; 9];
+    // SAFETY: as in `load`.
+    let status = unsafe { bsp_box(bounds.as_ptr(), bounds.len(), hull.as_mut_ptr(), hull.len()) };
+    answered(status, hull)
+}
+
+/// `bsp_contents`: contents code and visits.
+pub(crate) fn contents(
+    file: &[u8],
+    map: &MapWords,
+    hull: &HullWords,
+    point: &[f32; 3],
+) -> Result<[u64; 2], Refusal> {
+    let mut out = [0; 2];
+    // SAFETY: as in `load`.
+    let status = unsafe {
+        bsp_contents(
+            file.as_ptr(),
+            file.len(),
+            map.as_ptr(),
+            map.len(),
+            hull.as_ptr(),
+            hull.len(),
+            point.as_ptr(),
+            point.len(),
+            out.as_mut_ptr(),
+            out.len(),
+        )
+    };
+    answered(status, out)
+}
+
+/// `bsp_find_leaf`: leaf and visits.
+pub(crate) fn find_leaf(
+    file: &[u8],
+    map: &MapWords,
+    root: u64,
+    point: &[f32; 3],
+) -> Result<[u64; 2], Refusal> {
+    let mut out = [0; 2];
+    // SAFETY: as in `load`.
+    let status = unsafe {
+        bsp_find_leaf(
+            file.as_ptr(),
+            file.len(),
+            map.as_ptr(),
+            map.len(),
+            root,
+            point.as_ptr(),
+            point.len(),
+            out.as_mut_ptr(),
+            out.len(),
+        )
+    };
+    answered(status, out)
+}
+
+/// `bsp_trace`: the words of a trace.
+pub(crate) fn trace(
+    file: &[u8],
+    map: &MapWords,
+    hull: &HullWords,
+    segment: &Segment,
+) -> Result<[u64; 17], Refusal> {
+    let mut out = [0; 17];
+    // SAFETY: as in `load`.
+    let status = unsafe {
+        bsp_trace(
+            file.as_ptr(),
+            file.len(),
+            map.as_ptr(),
+            map.len(),
+            hull.as_ptr(),
+            hull.len(),
+            segment.as_ptr(),
+            segment.len(),
+            out.as_mut_ptr(),
+            out.len(),
+        )
+    };
+    answered(status, out)
+}
+
+/// `bsp_contents_nodes`: the nodes in `list`, and their number.
+pub(crate) fn contents_nodes(
+    file: &[u8],
+    map: &MapWords,
+    hull: &HullWords,
+    point: &[f32; 3],
+    list: &mut [u32],
+) -> Result<u64, Refusal> {
+    let mut out = [0; 1];
+    // SAFETY: as in `load`.
+    let status = unsafe {
+        bsp_contents_nodes(
+            file.as_ptr(),
+            file.len(),
+            map.as_ptr(),
+            map.len(),
+            hull.as_ptr(),
+            hull.len(),
+            point.as_ptr(),
+            point.len(),
+            list.as_mut_ptr(),
+            list.len(),
+            out.as_mut_ptr(),
+            out.len(),
+        )
+    };
+    answered(status, out[0])
+}
+
+/// `bsp_find_leaf_nodes`: the nodes in `list`, and their number.
+pub(crate) fn find_leaf_nodes(
+    file: &[u8],
+    map: &MapWords,
+    root: u64,
+    point: &[f32; 3],
+    list: &mut [u32],
+) -> Result<u64, Refusal> {
+    let mut out = [0; 1];
+    // SAFETY: as in `load`.
+    let status = unsafe {
+        bsp_find_leaf_nodes(
+            file.as_ptr(),
+            file.len(),
+            map.as_ptr(),
+            map.len(),
+            root,
+            point.as_ptr(),
+            point.len(),
+            list.as_mut_ptr(),
+            list.len(),
+            out.as_mut_ptr(),
+            out.len(),
+        )
+    };
+    answered(status, out[0])
+}
+
+/// `bsp_trace_nodes`: the nodes in `list`, and their number.
+pub(crate) fn trace_nodes(
+    file: &[u8],
+    map: &MapWords,
+    hull: &HullWords,
+    segment: &Segment,
+    list: &mut [u32],
+) -> Result<u64, Refusal> {
+    let mut out = [0; 1];
+    // SAFETY: as in `load`.
+    let status = unsafe {
+        bsp_trace_nodes(
+            file.as_ptr(),
+            file.len(),
+            map.as_ptr(),
+            map.len(),
+            hull.as_ptr(),
+            hull.len(),
+            segment.as_ptr(),
+            segment.len(),
+            list.as_mut_ptr(),
+            list.len(),
+            out.as_mut_ptr(),
+            out.len(),
+        )
+    };
+    answered(status, out[0])
+}
+
+/// `bsp_pvs`: the leaves in `list`, and their number.
+pub(crate) fn pvs(
+    file: &[u8],
+    map: &MapWords,
+    leaf: u64,
+    leaf_count: u64,
+    list: &mut [u32],
+) -> Result<u64, Refusal> {
+    let mut out = [0; 1];
+    // SAFETY: as in `load`.
+    let status = unsafe {
+        bsp_pvs(
+            file.as_ptr(),
+            file.len(),
+            map.as_ptr(),
+            map.len(),
+            leaf,
+            leaf_count,
+            list.as_mut_ptr(),
+            list.len(),
+            out.as_mut_ptr(),
+            out.len(),
+        )
+    };
+    answered(status, out[0])
+}
+
+/// `bsp_tree_check`: the height of the root's tree.
+pub(crate) fn tree_check(
+    file: &[u8],
+    map: &MapWords,
+    table: u32,
+    root: u64,
+    marks: &mut [u8],
+) -> Result<u64, Refusal> {
+    let mut out = [0; 1];
+    // SAFETY: as in `load`.
+    let status = unsafe {
+        bsp_tree_check(
+            file.as_ptr(),
+            file.len(),
+            map.as_ptr(),
+            map.len(),
+            table,
+            root,
+            marks.as_mut_ptr(),
+            marks.len(),
+            out.as_mut_ptr(),
+            out.len(),
+        )
+    };
+    answered(status, out[0])
+}

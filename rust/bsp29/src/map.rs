@@ -1,0 +1,577 @@
+//! A map, and the questions that it answers.
+
+use crate::hull::both;
+use crate::records::*;
+use crate::{ffi, Hull, NodeTable, Refusal, Trace};
+
+/// The sections whose sizes are looked at here.
+const VISIBILITY: u32 = 4;
+const RENDER_NODES: u32 = 5;
+const CLIP_NODES: u32 = 9;
+
+/// The most bytes that visibility data may have.
+const MOST_VISIBILITY: usize = 1_048_576;
+
+/// The most nodes that a table may have. Of a longer one, which a map record made by hand can name, no
+/// node is read.
+const MOST_NODES: usize = 32_767;
+
+/// A map over the bytes of its file, which it borrows and never copies.
+///
+/// Whatever the bytes are, no call crashes, hangs or reads outside them. Check the roots of a map
+/// from a stranger ([`tree_check`](Map::tree_check)) before it is played: from a root that passed, in a
+/// map that was loaded, every walk and trace is answered and enters no node twice. A call needs less
+/// than 1 MiB of stack.
+///
+/// ```
+/// # let file = std::fs::read(concat!(env!("CARGO_MANIFEST_DIR"), "/../../maps/rooms.bsp")).unwrap();
+/// let map = bsp29::Map::load(&file)?;
+/// let hull = map.hull(0, 1)?;
+/// map.tree_check(hull.table, hull.root)?;
+/// let trace = map.trace(&hull, [-64.0, 64.0, 0.0], [64.0, 64.0, 0.0])?;
+/// assert_eq!(trace.end, [-24.0, 64.0, 0.0]);
+/// # Ok::<(), bsp29::Refusal>(())
+/// ```
+#[derive(Copy, Clone, Debug)]
+pub struct Map<'a> {
+    file: &'a [u8],
+    words: ffi::MapWords,
+}
+
+impl<'a> Map<'a> {
+    /// Loads a file: reads and tests all that the other calls rely on. Refuses with 1 to 12, the first
+    /// that is met in the file's order.
+    ///
+    /// ```
+    /// use bsp29::{Map, Refusal};
+    ///
+    /// # let file = std::fs::read(concat!(env!("CARGO_MANIFEST_DIR"), "/../../maps/rooms.bsp")).unwrap();
+    /// let map = Map::load(&file)?;
+    /// assert_eq!(map.leaves().len(), 6);
+    ///
+    /// assert_eq!(Map::load(&[28, 0, 0, 0]).unwrap_err(), Refusal::UnsupportedVersion);
+    /// # Ok::<(), Refusal>(())
+    /// ```
+    pub fn load(file: &'a [u8]) -> Result<Map<'a>, Refusal> {
+        ffi::load(file).map(|words| Map { file, words })
+    }
+
+    /// The map of a file and a map record: one that [`words`](Map::words) gave for the same bytes, so
+    /// that they are not tested again, or one made by hand. A map record that leads astray makes calls
+    /// refuse with 23 and nothing worse.
+    ///
+    /// ```
+    /// use bsp29::{Map, Refusal};
+    ///
+    /// # let file = std::fs::read(concat!(env!("CARGO_MANIFEST_DIR"), "/../../maps/rooms.bsp")).unwrap();
+    /// let map = Map::load(&file)?;
+    /// let again = Map::from_words(&file, *map.words());
+    /// assert_eq!(again.planes().get(0)?, map.planes().get(0)?);
+    ///
+    /// let astray = Map::from_words(&[], *map.words());
+    /// assert_eq!(astray.planes().get(0), Err(Refusal::Unreadable));
+    /// # Ok::<(), Refusal>(())
+    /// ```
+    pub fn from_words(file: &'a [u8], words: [u32; 31]) -> Map<'a> {
+        Map { file, words }
+    }
+
+    /// The map record: offset and size of each section in the file's order, then the texture count.
+    ///
+    /// ```
+    /// # let file = std::fs::read(concat!(env!("CARGO_MANIFEST_DIR"), "/../../maps/smallest.bsp")).unwrap();
+    /// let map = bsp29::Map::load(&file)?;
+    /// assert_eq!(map.words()[..2], [124, 1]);
+    /// # Ok::<(), bsp29::Refusal>(())
+    /// ```
+    pub fn words(&self) -> &[u32; 31] {
+        &self.words
+    }
+
+    /// The bytes of the file.
+    ///
+    /// ```
+    /// # let file = std::fs::read(concat!(env!("CARGO_MANIFEST_DIR"), "/../../maps/smallest.bsp")).unwrap();
+    /// let map = bsp29::Map::load(&file)?;
+    /// assert_eq!(map.file().len(), 193);
+    /// # Ok::<(), bsp29::Refusal>(())
+    /// ```
+    pub fn file(&self) -> &'a [u8] {
+        self.file
+    }
+
+    /// How many textures the file says it has. Their names and pixels are not read.
+    ///
+    /// ```
+    /// # let file = std::fs::read(concat!(env!("CARGO_MANIFEST_DIR"), "/../../maps/rooms.bsp")).unwrap();
+    /// let map = bsp29::Map::load(&file)?;
+    /// assert_eq!(map.texture_count(), 1);
+    /// # Ok::<(), bsp29::Refusal>(())
+    /// ```
+    pub fn texture_count(&self) -> usize {
+        self.words[30] as usize
+    }
+
+    /// How many records the section of a number has; 0 where there is none of the number.
+    pub(crate) fn count(&self, section: u32) -> usize {
+        ffi::count(&self.words, section).map_or(0, |count| count as usize)
+    }
+
+    /// How many nodes a table has.
+    fn nodes(&self, table: NodeTable) -> usize {
+        match table {
+            NodeTable::Render => self.count(RENDER_NODES),
+            NodeTable::Clip => self.count(CLIP_NODES),
+            NodeTable::Box => 6,
+        }
+    }
+}
+
+/// The tables.
+impl Map<'_> {
+    /// The planes.
+    ///
+    /// ```
+    /// # let file = std::fs::read(concat!(env!("CARGO_MANIFEST_DIR"), "/../../maps/rooms.bsp")).unwrap();
+    /// let map = bsp29::Map::load(&file)?;
+    /// let plane = map.planes().get(map.render_nodes().get(0)?.plane)?;
+    /// assert_eq!((plane.normal, plane.dist), ([1.0, 0.0, 0.0], 128.0));
+    /// # Ok::<(), bsp29::Refusal>(())
+    /// ```
+    pub fn planes(&self) -> Records<'_, Plane> {
+        Records::new(self)
+    }
+
+    /// The vertices.
+    ///
+    /// ```
+    /// # let file = std::fs::read(concat!(env!("CARGO_MANIFEST_DIR"), "/../../maps/rooms.bsp")).unwrap();
+    /// let map = bsp29::Map::load(&file)?;
+    /// assert_eq!(map.vertices().get(2)?.point, [-8.0, 128.0, -64.0]);
+    /// # Ok::<(), bsp29::Refusal>(())
+    /// ```
+    pub fn vertices(&self) -> Records<'_, Vertex> {
+        Records::new(self)
+    }
+
+    /// The render nodes.
+    ///
+    /// ```
+    /// # let file = std::fs::read(concat!(env!("CARGO_MANIFEST_DIR"), "/../../maps/rooms.bsp")).unwrap();
+    /// use bsp29::RenderChild;
+    ///
+    /// let map = bsp29::Map::load(&file)?;
+    /// let node = map.render_nodes().get(0)?;
+    /// assert_eq!(node.front, RenderChild::Leaf(0));
+    /// assert_eq!(node.back, RenderChild::Node(1));
+    /// # Ok::<(), bsp29::Refusal>(())
+    /// ```
+    pub fn render_nodes(&self) -> Records<'_, RenderNode> {
+        Records::new(self)
+    }
+
+    /// The texture infos.
+    ///
+    /// ```
+    /// # let file = std::fs::read(concat!(env!("CARGO_MANIFEST_DIR"), "/../../maps/rooms.bsp")).unwrap();
+    /// let map = bsp29::Map::load(&file)?;
+    /// assert_eq!(map.texture_infos().get(0)?.t, [0.0, -1.0, 0.0]);
+    /// # Ok::<(), bsp29::Refusal>(())
+    /// ```
+    pub fn texture_infos(&self) -> Records<'_, TextureInfo> {
+        Records::new(self)
+    }
+
+    /// The faces.
+    ///
+    /// ```
+    /// # let file = std::fs::read(concat!(env!("CARGO_MANIFEST_DIR"), "/../../maps/rooms.bsp")).unwrap();
+    /// let map = bsp29::Map::load(&file)?;
+    /// assert_eq!(map.faces().get(0)?.extents, [128, 272]);
+    /// # Ok::<(), bsp29::Refusal>(())
+    /// ```
+    pub fn faces(&self) -> Records<'_, Face> {
+        Records::new(self)
+    }
+
+    /// The clip nodes.
+    ///
+    /// ```
+    /// # let file = std::fs::read(concat!(env!("CARGO_MANIFEST_DIR"), "/../../maps/rooms.bsp")).unwrap();
+    /// use bsp29::{ClipChild, Contents};
+    ///
+    /// let map = bsp29::Map::load(&file)?;
+    /// assert_eq!(map.clip_nodes().get(0)?.front, ClipChild::Contents(Contents::Solid));
+    /// # Ok::<(), bsp29::Refusal>(())
+    /// ```
+    pub fn clip_nodes(&self) -> Records<'_, ClipNode> {
+        Records::new(self)
+    }
+
+    /// The leaves.
+    ///
+    /// ```
+    /// # let file = std::fs::read(concat!(env!("CARGO_MANIFEST_DIR"), "/../../maps/rooms.bsp")).unwrap();
+    /// let map = bsp29::Map::load(&file)?;
+    /// assert_eq!(map.leaves().get(4)?.visibility, Some(3));
+    /// assert_eq!(map.leaves().get(0)?.visibility, None);
+    /// # Ok::<(), bsp29::Refusal>(())
+    /// ```
+    pub fn leaves(&self) -> Records<'_, Leaf> {
+        Records::new(self)
+    }
+
+    /// The face list: the faces of the leaves.
+    ///
+    /// ```
+    /// # let file = std::fs::read(concat!(env!("CARGO_MANIFEST_DIR"), "/../../maps/rooms.bsp")).unwrap();
+    /// let map = bsp29::Map::load(&file)?;
+    /// assert_eq!(map.face_list().get(1)?.face, 1);
+    /// # Ok::<(), bsp29::Refusal>(())
+    /// ```
+    pub fn face_list(&self) -> Records<'_, FaceListEntry> {
+        Records::new(self)
+    }
+
+    /// The edges.
+    ///
+    /// ```
+    /// # let file = std::fs::read(concat!(env!("CARGO_MANIFEST_DIR"), "/../../maps/rooms.bsp")).unwrap();
+    /// let map = bsp29::Map::load(&file)?;
+    /// assert_eq!(map.edges().get(4)?.vertices, [0, 3]);
+    /// # Ok::<(), bsp29::Refusal>(())
+    /// ```
+    pub fn edges(&self) -> Records<'_, Edge> {
+        Records::new(self)
+    }
+
+    /// The edge list: the edges of the faces, each with its direction.
+    ///
+    /// ```
+    /// # let file = std::fs::read(concat!(env!("CARGO_MANIFEST_DIR"), "/../../maps/rooms.bsp")).unwrap();
+    /// use bsp29::Direction;
+    ///
+    /// let map = bsp29::Map::load(&file)?;
+    /// let entry = map.edge_list().get(3)?;
+    /// assert_eq!((entry.direction, entry.edge), (Direction::Backward, 4));
+    /// # Ok::<(), bsp29::Refusal>(())
+    /// ```
+    pub fn edge_list(&self) -> Records<'_, EdgeListEntry> {
+        Records::new(self)
+    }
+
+    /// The models.
+    ///
+    /// ```
+    /// # let file = std::fs::read(concat!(env!("CARGO_MANIFEST_DIR"), "/../../maps/rooms.bsp")).unwrap();
+    /// let map = bsp29::Map::load(&file)?;
+    /// let door = map.models().get(1)?;
+    /// assert_eq!(door.min, [-9.0, -33.0, -65.0]);
+    /// assert_eq!((door.leaf, door.last_leaf), (4, 5));
+    /// # Ok::<(), bsp29::Refusal>(())
+    /// ```
+    pub fn models(&self) -> Records<'_, Model> {
+        Records::new(self)
+    }
+}
+
+/// The entity text.
+impl<'a> Map<'a> {
+    /// The bytes of the entity text: a part of the file, through its zero byte or to the file's end.
+    /// Refuses with 23 on a map record made by hand.
+    ///
+    /// ```
+    /// # let file = std::fs::read(concat!(env!("CARGO_MANIFEST_DIR"), "/../../maps/smallest.bsp")).unwrap();
+    /// let map = bsp29::Map::load(&file)?;
+    /// assert_eq!(map.entities()?, [0]);
+    /// # Ok::<(), bsp29::Refusal>(())
+    /// ```
+    pub fn entities(&self) -> Result<&'a [u8], Refusal> {
+        let [at, length] = ffi::entities(self.file, &self.words)?.map(|word| word as usize);
+        // an empty text may lie past the file's end
+        Ok(self.file.get(at..at.saturating_add(length)).unwrap_or(&[]))
+    }
+
+    /// The entity text without its zero byte. Refuses with 23 or 9 on a map record made by hand.
+    ///
+    /// ```
+    /// # let file = std::fs::read(concat!(env!("CARGO_MANIFEST_DIR"), "/../../maps/rooms.bsp")).unwrap();
+    /// let map = bsp29::Map::load(&file)?;
+    /// assert!(map.entity_text()?.contains("\"classname\" \"worldspawn\""));
+    /// # Ok::<(), bsp29::Refusal>(())
+    /// ```
+    pub fn entity_text(&self) -> Result<&'a str, Refusal> {
+        let bytes = self.entities()?;
+        let text = std::str::from_utf8(bytes.strip_suffix(&[0]).unwrap_or(bytes));
+        text.map_err(|_| Refusal::EntityTextNotUtf8)
+    }
+}
+
+/// Hulls, points and segments.
+impl Map<'_> {
+    /// A hull of a model: 0 for points, 1 for a player, 2 for larger ones. Refuses with 20 for a hull
+    /// above 2 or a model outside its table, and with 23 on a map record made by hand.
+    ///
+    /// ```
+    /// # let file = std::fs::read(concat!(env!("CARGO_MANIFEST_DIR"), "/../../maps/rooms.bsp")).unwrap();
+    /// use bsp29::{NodeTable, Refusal};
+    ///
+    /// let map = bsp29::Map::load(&file)?;
+    /// let hull = map.hull(0, 1)?;
+    /// assert_eq!(hull.table, NodeTable::Clip);
+    /// assert_eq!(hull.mins, [-16.0, -16.0, -24.0]);
+    /// assert_eq!(map.hull(0, 3), Err(Refusal::NoSuchRecord));
+    /// # Ok::<(), Refusal>(())
+    /// ```
+    pub fn hull(&self, model: usize, index: usize) -> Result<Hull, Refusal> {
+        ffi::hull(self.file, &self.words, model as u64, index as u64).map(|words| Hull::of(&words))
+    }
+
+    /// What is at a point of a hull, and how many nodes were entered.
+    ///
+    /// ```
+    /// # let file = std::fs::read(concat!(env!("CARGO_MANIFEST_DIR"), "/../../maps/rooms.bsp")).unwrap();
+    /// use bsp29::Contents;
+    ///
+    /// let map = bsp29::Map::load(&file)?;
+    /// let hull = map.hull(0, 0)?;
+    /// assert_eq!(map.contents(&hull, [-64.0, 0.0, 0.0])?.0, Contents::Empty);
+    /// assert_eq!(map.contents(&hull, [-64.0, 0.0, -40.0])?.0, Contents::Water);
+    /// assert_eq!(map.contents(&hull, [120.0, 0.0, -60.0])?.0, Contents::Solid);
+    /// # Ok::<(), bsp29::Refusal>(())
+    /// ```
+    pub fn contents(&self, hull: &Hull, point: [f32; 3]) -> Result<(Contents, u64), Refusal> {
+        ffi::contents(self.file, &self.words, &hull.words(), &point)
+            .map(|[code, visits]| (Contents::of(code), visits))
+    }
+
+    /// The leaf that a point of the world is in, and how many nodes were entered.
+    ///
+    /// ```
+    /// # let file = std::fs::read(concat!(env!("CARGO_MANIFEST_DIR"), "/../../maps/rooms.bsp")).unwrap();
+    /// let map = bsp29::Map::load(&file)?;
+    /// assert_eq!(map.find_leaf([-64.0, 0.0, 0.0])?, (1, 9));
+    /// assert_eq!(map.find_leaf([300.0, 0.0, 0.0])?, (0, 1));
+    /// # Ok::<(), bsp29::Refusal>(())
+    /// ```
+    pub fn find_leaf(&self, point: [f32; 3]) -> Result<(usize, u64), Refusal> {
+        self.find_leaf_from(0, point)
+    }
+
+    /// The same from any render node on, as the root of another model.
+    ///
+    /// ```
+    /// # let file = std::fs::read(concat!(env!("CARGO_MANIFEST_DIR"), "/../../maps/rooms.bsp")).unwrap();
+    /// let map = bsp29::Map::load(&file)?;
+    /// let door = map.models().get(1)?;
+    /// assert_eq!(map.find_leaf_from(door.hull_roots[0], [0.0, 0.0, 0.0])?.0, 0);
+    /// assert_eq!(map.find_leaf_from(door.hull_roots[0], [9.0, 0.0, 0.0])?.0, 5);
+    /// # Ok::<(), bsp29::Refusal>(())
+    /// ```
+    pub fn find_leaf_from(&self, root: usize, point: [f32; 3]) -> Result<(usize, u64), Refusal> {
+        ffi::find_leaf(self.file, &self.words, root as u64, &point)
+            .map(|[leaf, visits]| (leaf as usize, visits))
+    }
+
+    /// What a point meets that moves from `start` to `end` through a hull. The trace goes through
+    /// leaves of the same contents, and out of solid ones. It follows the engine richter to the letter:
+    /// where the segment crosses a node's plane, the part before the plane is traced first, and if that
+    /// part ends within a leaf further down, the trace ends there, at the plane, as
+    /// [`Terminal`](crate::TraceEnd::Terminal), and what lies behind is not looked at. So a terminal
+    /// end need not be the segment's end: trace on from it where it is not.
+    ///
+    /// From a root that passed [`tree_check`](Map::tree_check) it enters no node twice. Over other
+    /// nodes it ends too, but it may take long.
+    ///
+    /// ```
+    /// # let file = std::fs::read(concat!(env!("CARGO_MANIFEST_DIR"), "/../../maps/rooms.bsp")).unwrap();
+    /// use bsp29::{Contents, TraceEnd};
+    ///
+    /// let map = bsp29::Map::load(&file)?;
+    /// let hull = map.hull(0, 1)?;
+    ///
+    /// // against the wall beside the doorway
+    /// let trace = map.trace(&hull, [-64.0, 64.0, 0.0], [64.0, 64.0, 0.0])?;
+    /// assert_eq!((trace.end, trace.contents), ([-24.0, 64.0, 0.0], Contents::Empty));
+    /// let TraceEnd::Boundary { plane, .. } = trace.kind else { panic!() };
+    /// assert_eq!((plane.normal, plane.dist), ([-1.0, 0.0, 0.0], 24.0));
+    ///
+    /// // through the doorway, in two parts
+    /// let trace = map.trace(&hull, [-64.0, 0.0, 0.0], [64.0, 0.0, 0.0])?;
+    /// assert_eq!((trace.end, trace.kind), ([24.0, 0.0, 0.0], TraceEnd::Terminal));
+    /// let trace = map.trace(&hull, trace.end, [64.0, 0.0, 0.0])?;
+    /// assert_eq!((trace.end, trace.kind), ([64.0, 0.0, 0.0], TraceEnd::Terminal));
+    /// # Ok::<(), bsp29::Refusal>(())
+    /// ```
+    pub fn trace(&self, hull: &Hull, start: [f32; 3], end: [f32; 3]) -> Result<Trace, Refusal> {
+        ffi::trace(self.file, &self.words, &hull.words(), &both(start, end))
+            .map(|words| Trace::of(&words))
+    }
+
+    /// The nodes that [`contents`](Map::contents) enters, in order.
+    ///
+    /// ```
+    /// # let file = std::fs::read(concat!(env!("CARGO_MANIFEST_DIR"), "/../../maps/rooms.bsp")).unwrap();
+    /// let map = bsp29::Map::load(&file)?;
+    /// let hull = map.hull(0, 0)?;
+    /// assert_eq!(map.contents_nodes(&hull, [64.0, 0.0, 0.0])?, [0, 1, 2, 3, 4, 5, 6, 7]);
+    /// # Ok::<(), bsp29::Refusal>(())
+    /// ```
+    pub fn contents_nodes(&self, hull: &Hull, point: [f32; 3]) -> Result<Vec<u32>, Refusal> {
+        let mut list = self.list(hull.table);
+        let count = ffi::contents_nodes(self.file, &self.words, &hull.words(), &point, &mut list)?;
+        list.truncate(count as usize);
+        Ok(list)
+    }
+
+    /// The nodes that [`find_leaf_from`](Map::find_leaf_from) enters, in order.
+    ///
+    /// ```
+    /// # let file = std::fs::read(concat!(env!("CARGO_MANIFEST_DIR"), "/../../maps/rooms.bsp")).unwrap();
+    /// let map = bsp29::Map::load(&file)?;
+    /// assert_eq!(map.find_leaf_nodes(0, [0.0, 200.0, 0.0])?, [0, 1, 2]);
+    /// # Ok::<(), bsp29::Refusal>(())
+    /// ```
+    pub fn find_leaf_nodes(&self, root: usize, point: [f32; 3]) -> Result<Vec<u32>, Refusal> {
+        let mut list = self.list(NodeTable::Render);
+        let count = ffi::find_leaf_nodes(self.file, &self.words, root as u64, &point, &mut list)?;
+        list.truncate(count as usize);
+        Ok(list)
+    }
+
+    /// The nodes that [`trace`](Map::trace) enters, in order. Refuses with 22 where they are more than
+    /// the table holds: some are entered twice then, and the root does not pass
+    /// [`tree_check`](Map::tree_check).
+    ///
+    /// ```
+    /// # let file = std::fs::read(concat!(env!("CARGO_MANIFEST_DIR"), "/../../maps/rooms.bsp")).unwrap();
+    /// let map = bsp29::Map::load(&file)?;
+    /// let hull = map.hull(0, 0)?;
+    /// let (start, end) = ([-64.0, 64.0, 0.0], [64.0, 64.0, 0.0]);
+    /// let nodes = map.trace_nodes(&hull, start, end)?;
+    /// assert_eq!(nodes.len() as u64, map.trace(&hull, start, end)?.visits);
+    /// # Ok::<(), bsp29::Refusal>(())
+    /// ```
+    pub fn trace_nodes(
+        &self,
+        hull: &Hull,
+        start: [f32; 3],
+        end: [f32; 3],
+    ) -> Result<Vec<u32>, Refusal> {
+        let mut list = self.list(hull.table);
+        let count = self.trace_nodes_into(hull, start, end, &mut list)?;
+        list.truncate(count);
+        Ok(list)
+    }
+
+    /// The same into a list of the caller's: it answers how many were entered and leaves the rest of
+    /// the list as it is. Refuses with 22, last of all, where the list is too short.
+    ///
+    /// ```
+    /// # let file = std::fs::read(concat!(env!("CARGO_MANIFEST_DIR"), "/../../maps/rooms.bsp")).unwrap();
+    /// use bsp29::{Hull, Map, Refusal};
+    ///
+    /// let map = Map::load(&file)?;
+    /// let hull = Hull::for_bounds([-1.0; 3], [1.0; 3])?;
+    /// let (start, end) = ([-3.0, 0.0, 0.0], [5.0, 0.0, 0.0]);
+    /// let mut list = [9; 8];
+    /// assert_eq!(map.trace_nodes_into(&hull, start, end, &mut list)?, 6);
+    /// assert_eq!(list[6..], [9, 9]);
+    /// let short = map.trace_nodes_into(&hull, start, end, &mut list[..5]);
+    /// assert_eq!(short, Err(Refusal::ListTooShort));
+    /// # Ok::<(), Refusal>(())
+    /// ```
+    pub fn trace_nodes_into(
+        &self,
+        hull: &Hull,
+        start: [f32; 3],
+        end: [f32; 3],
+        list: &mut [u32],
+    ) -> Result<usize, Refusal> {
+        let segment = both(start, end);
+        ffi::trace_nodes(self.file, &self.words, &hull.words(), &segment, list)
+            .map(|count| count as usize)
+    }
+
+    /// A list as long as a table may be.
+    fn list<T: Copy + Default>(&self, table: NodeTable) -> Vec<T> {
+        vec![T::default(); self.nodes(table).min(MOST_NODES)]
+    }
+}
+
+/// Visibility and the tree check.
+impl Map<'_> {
+    /// The leaves that can be seen from a leaf, lowest first. A byte of the row stands for eight
+    /// leaves, from leaf 1 on, its lowest bit first; a zero byte and its follower n stand for 8 n leaves
+    /// that are not seen. A byte is read while the number of its first leaf is below `leaf_count`; for a
+    /// whole row that is the leaf count of model 0, plus 1. The last byte may list leaves past it. Leaf
+    /// 0 and a leaf without a row see none.
+    ///
+    /// Refuses with 20 for a leaf outside its table, 23 on a map record made by hand, and 33 where the
+    /// row lies outside the visibility data.
+    ///
+    /// ```
+    /// # let file = std::fs::read(concat!(env!("CARGO_MANIFEST_DIR"), "/../../maps/rooms.bsp")).unwrap();
+    /// let map = bsp29::Map::load(&file)?;
+    /// let leaf_count = map.models().get(0)?.leaf_count + 1;
+    /// assert_eq!(map.visible_leaves(2, leaf_count)?, [1, 2]);
+    /// assert_eq!(map.visible_leaves(4, leaf_count)?, [1, 3, 4]);
+    /// assert!(map.visible_leaves(0, leaf_count)?.is_empty());
+    /// # Ok::<(), bsp29::Refusal>(())
+    /// ```
+    pub fn visible_leaves(&self, leaf: usize, leaf_count: usize) -> Result<Vec<u32>, Refusal> {
+        // a byte of the row lists 8 leaves at most, and the row lies in the visibility data
+        let bytes = self.count(VISIBILITY).min(MOST_VISIBILITY).min(self.file.len());
+        let mut list = vec![0; (8 * bytes).min(leaf_count.saturating_add(7))];
+        let count = self.visible_leaves_into(leaf, leaf_count, &mut list)?;
+        list.truncate(count);
+        Ok(list)
+    }
+
+    /// The same into a list of the caller's: it answers how many there are and leaves the rest of the
+    /// list as it is. Refuses with 22, last of all, where the list is too short.
+    ///
+    /// ```
+    /// # let file = std::fs::read(concat!(env!("CARGO_MANIFEST_DIR"), "/../../maps/rooms.bsp")).unwrap();
+    /// use bsp29::{Map, Refusal};
+    ///
+    /// let map = Map::load(&file)?;
+    /// let mut list = [0; 8];
+    /// let count = map.visible_leaves_into(4, 5, &mut list)?;
+    /// assert_eq!(list[..count], [1, 3, 4]);
+    /// assert_eq!(map.visible_leaves_into(4, 5, &mut list[..2]), Err(Refusal::ListTooShort));
+    /// # Ok::<(), Refusal>(())
+    /// ```
+    pub fn visible_leaves_into(
+        &self,
+        leaf: usize,
+        leaf_count: usize,
+        list: &mut [u32],
+    ) -> Result<usize, Refusal> {
+        ffi::pvs(self.file, &self.words, leaf as u64, leaf_count as u64, list)
+            .map(|count| count as usize)
+    }
+
+    /// The height of the tree from a root of a node table. Where it answers, every index in that tree
+    /// is in range, no node is reached by two ways and none is deeper than 512: in a map that was
+    /// loaded, every walk and trace from there is answered, whatever its floats, and enters no node
+    /// twice.
+    ///
+    /// Refuses with 30, 34, 32 or 23 at the first node that breaks this, front before back; before that
+    /// with 22 for a table above 32,767 nodes, which only a map record made by hand can name.
+    ///
+    /// ```
+    /// # let file = std::fs::read(concat!(env!("CARGO_MANIFEST_DIR"), "/../../maps/rooms.bsp")).unwrap();
+    /// use bsp29::{Map, NodeTable, Refusal};
+    ///
+    /// let map = Map::load(&file)?;
+    /// assert_eq!(map.tree_check(NodeTable::Render, 0)?, 10);
+    /// assert_eq!(map.tree_check(NodeTable::Render, 999), Err(Refusal::IndexOutsideTable));
+    /// # Ok::<(), Refusal>(())
+    /// ```
+    pub fn tree_check(&self, table: NodeTable, root: usize) -> Result<usize, Refusal> {
+        let mut marks: Vec<u8> = self.list(table);
+        ffi::tree_check(self.file, &self.words, table.number(), root as u64, &mut marks)
+            .map(|height| height as usize)
+    }
+}

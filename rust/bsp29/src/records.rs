@@ -1,0 +1,555 @@
+//! The records of a map, in Rust's types, and the tables that give them by their index.
+
+use crate::words::{float, floats, offset, shorts};
+use crate::{ffi, Map, Refusal};
+use std::marker::PhantomData;
+
+/// The words of a record: those of the longest, a model, and zeros past those of a shorter one.
+type Words = [u64; 20];
+
+/// What a leaf holds.
+#[derive(Copy, Clone, Debug, PartialEq, Eq, Hash)]
+pub enum Contents {
+    /// Nothing.
+    Empty,
+    /// Rock.
+    Solid,
+    /// Water.
+    Water,
+    /// Slime.
+    Slime,
+    /// Lava.
+    Lava,
+    /// Water that flows along x.
+    Current0,
+    /// Water that flows along y.
+    Current90,
+    /// Water that flows against x.
+    Current180,
+    /// Water that flows against y.
+    Current270,
+    /// Water that flows up.
+    CurrentUp,
+    /// Water that flows down.
+    CurrentDown,
+}
+
+impl Contents {
+    /// The code of these contents: a file has it negated.
+    ///
+    /// ```
+    /// assert_eq!(bsp29::Contents::Water.code(), 3);
+    /// assert_eq!(bsp29::Contents::Current0.code(), 9);
+    /// ```
+    pub fn code(self) -> u32 {
+        match self {
+            Contents::Empty => 1,
+            Contents::Solid => 2,
+            Contents::Water => 3,
+            Contents::Slime => 4,
+            Contents::Lava => 5,
+            Contents::Current0 => 9,
+            Contents::Current90 => 10,
+            Contents::Current180 => 11,
+            Contents::Current270 => 12,
+            Contents::CurrentUp => 13,
+            Contents::CurrentDown => 14,
+        }
+    }
+
+    /// The contents of a code. The library gives those of `code` alone; another would count as solid.
+    pub(crate) fn of(code: u64) -> Contents {
+        match code {
+            1 => Contents::Empty,
+            3 => Contents::Water,
+            4 => Contents::Slime,
+            5 => Contents::Lava,
+            9 => Contents::Current0,
+            10 => Contents::Current90,
+            11 => Contents::Current180,
+            12 => Contents::Current270,
+            13 => Contents::CurrentUp,
+            14 => Contents::CurrentDown,
+            _ => Contents::Solid,
+        }
+    }
+}
+
+/// How a plane stands.
+#[derive(Copy, Clone, Debug, PartialEq, Eq, Hash)]
+pub enum PlaneKind {
+    /// Its normal is the x axis.
+    X,
+    /// Its normal is the y axis.
+    Y,
+    /// Its normal is the z axis.
+    Z,
+    /// It has a normal of its own.
+    Normal,
+}
+
+/// A plane: the points whose product with the normal is `dist`.
+#[derive(Copy, Clone, Debug, PartialEq)]
+pub struct Plane {
+    /// How it stands.
+    pub kind: PlaneKind,
+    /// The normal; of an axis 1 and zeros.
+    pub normal: [f32; 3],
+    /// The distance from the origin along the normal.
+    pub dist: f32,
+}
+
+impl Plane {
+    /// The plane of five words: kind, normal, distance.
+    pub(crate) fn of(words: &[u64], at: usize) -> Plane {
+        let kind = match words[at] {
+            0 => PlaneKind::X,
+            1 => PlaneKind::Y,
+            2 => PlaneKind::Z,
+            _ => PlaneKind::Normal,
+        };
+        Plane { kind, normal: floats(words, at + 1), dist: float(words[at + 4]) }
+    }
+}
+
+/// A corner of faces.
+#[derive(Copy, Clone, Debug, PartialEq)]
+pub struct Vertex {
+    /// Where it is.
+    pub point: [f32; 3],
+}
+
+/// A child of a render node.
+#[derive(Copy, Clone, Debug, PartialEq, Eq, Hash)]
+pub enum RenderChild {
+    /// A render node.
+    Node(usize),
+    /// A leaf.
+    Leaf(usize),
+}
+
+impl RenderChild {
+    fn of(tag: u64, number: u64) -> RenderChild {
+        match tag {
+            0 => RenderChild::Node(number as usize),
+            _ => RenderChild::Leaf(number as usize),
+        }
+    }
+}
+
+/// A render node.
+#[derive(Copy, Clone, Debug, PartialEq, Eq, Hash)]
+pub struct RenderNode {
+    /// Its plane.
+    pub plane: usize,
+    /// What lies in front of the plane.
+    pub front: RenderChild,
+    /// What lies behind it.
+    pub back: RenderChild,
+    /// Its box's minimum.
+    pub min: [i16; 3],
+    /// Its box's maximum.
+    pub max: [i16; 3],
+    /// Its first face.
+    pub face: usize,
+    /// How many faces it has.
+    pub face_count: usize,
+}
+
+/// How a texture lies on faces.
+#[derive(Copy, Clone, Debug, PartialEq)]
+pub struct TextureInfo {
+    /// The direction of s.
+    pub s: [f32; 3],
+    /// What is added to s.
+    pub s_offset: f32,
+    /// The direction of t.
+    pub t: [f32; 3],
+    /// What is added to t.
+    pub t_offset: f32,
+    /// The number of the texture in the file.
+    pub texture: usize,
+    /// Whether the faces may extend over more than 2,000 units: sky and water.
+    pub special: bool,
+}
+
+/// The side of its plane that a face is on.
+#[derive(Copy, Clone, Debug, PartialEq, Eq, Hash)]
+pub enum Side {
+    /// The side that the normal points to.
+    Front,
+    /// The other one.
+    Back,
+}
+
+/// A face.
+#[derive(Copy, Clone, Debug, PartialEq, Eq, Hash)]
+pub struct Face {
+    /// Its plane.
+    pub plane: usize,
+    /// The side of the plane.
+    pub side: Side,
+    /// Its first entry of the edge list.
+    pub edge: usize,
+    /// How many entries it has there.
+    pub edge_count: usize,
+    /// Its texture info.
+    pub texture_info: usize,
+    /// Its light styles.
+    pub light_styles: [u8; 4],
+    /// Where its lightmap begins in the lightmap section.
+    pub lightmap: Option<usize>,
+    /// The least s and t of its corners, rounded down to a multiple of 16, in 16 bits.
+    pub texture_mins: [i16; 2],
+    /// How far it extends along s and t: a multiple of 16, in 16 bits.
+    pub extents: [i16; 2],
+}
+
+/// A child of a clip node.
+#[derive(Copy, Clone, Debug, PartialEq, Eq, Hash)]
+pub enum ClipChild {
+    /// A clip node.
+    Node(usize),
+    /// A leaf of these contents.
+    Contents(Contents),
+}
+
+impl ClipChild {
+    fn of(tag: u64, number: u64) -> ClipChild {
+        match tag {
+            0 => ClipChild::Node(number as usize),
+            _ => ClipChild::Contents(Contents::of(number)),
+        }
+    }
+}
+
+/// A clip node.
+#[derive(Copy, Clone, Debug, PartialEq, Eq, Hash)]
+pub struct ClipNode {
+    /// Its plane.
+    pub plane: usize,
+    /// What lies in front of the plane.
+    pub front: ClipChild,
+    /// What lies behind it.
+    pub back: ClipChild,
+}
+
+/// How loud each sound is in a leaf.
+#[derive(Copy, Clone, Debug, PartialEq, Eq, Hash)]
+pub struct Sounds {
+    /// Water.
+    pub water: u8,
+    /// Sky.
+    pub sky: u8,
+    /// Slime.
+    pub slime: u8,
+    /// Lava.
+    pub lava: u8,
+}
+
+/// A leaf: a part of space of the same contents.
+#[derive(Copy, Clone, Debug, PartialEq, Eq, Hash)]
+pub struct Leaf {
+    /// What it holds.
+    pub contents: Contents,
+    /// Where its row begins in the visibility section.
+    pub visibility: Option<usize>,
+    /// Its box's minimum.
+    pub min: [i16; 3],
+    /// Its box's maximum.
+    pub max: [i16; 3],
+    /// Its first entry of the face list.
+    pub face_list: usize,
+    /// How many entries it has there.
+    pub face_list_count: usize,
+    /// Its sounds.
+    pub sounds: Sounds,
+}
+
+/// An entry of the face list: a face of a leaf.
+#[derive(Copy, Clone, Debug, PartialEq, Eq, Hash)]
+pub struct FaceListEntry {
+    /// The face.
+    pub face: usize,
+}
+
+/// An edge between two vertices.
+#[derive(Copy, Clone, Debug, PartialEq, Eq, Hash)]
+pub struct Edge {
+    /// The vertices.
+    pub vertices: [usize; 2],
+}
+
+/// The direction in which a face goes along an edge.
+#[derive(Copy, Clone, Debug, PartialEq, Eq, Hash)]
+pub enum Direction {
+    /// From the first vertex to the second.
+    Forward,
+    /// From the second vertex to the first.
+    Backward,
+}
+
+/// An entry of the edge list: an edge of a face.
+#[derive(Copy, Clone, Debug, PartialEq, Eq, Hash)]
+pub struct EdgeListEntry {
+    /// The direction.
+    pub direction: Direction,
+    /// The edge.
+    pub edge: usize,
+}
+
+/// A model: the world is model 0.
+#[derive(Copy, Clone, Debug, PartialEq)]
+pub struct Model {
+    /// Its box's minimum: the file's less 1.
+    pub min: [f32; 3],
+    /// Its box's maximum: the file's plus 1.
+    pub max: [f32; 3],
+    /// Its origin.
+    pub origin: [f32; 3],
+    /// The roots of its hulls: a render node and two clip nodes.
+    pub hull_roots: [usize; 3],
+    /// The map's clip nodes less each root, modulo 2^64.
+    pub hull_node_counts: [usize; 3],
+    /// Its first leaf: the leaf counts of the models before it, added up.
+    pub leaf: usize,
+    /// How many leaves it has.
+    pub leaf_count: usize,
+    /// Its first face.
+    pub face: usize,
+    /// How many faces it has.
+    pub face_count: usize,
+    /// Its last leaf: `leaf` and `leaf_count` added.
+    pub last_leaf: usize,
+}
+
+mod sealed {
+    /// A record by its section and its words.
+    pub trait Sealed {
+        /// The number of its section.
+        const SECTION: u32;
+        /// The record of its words.
+        fn of(words: &[u64; 20]) -> Self;
+    }
+}
+use sealed::Sealed;
+
+/// A kind of record: [`Plane`], [`Vertex`], [`RenderNode`], [`TextureInfo`], [`Face`], [`ClipNode`],
+/// [`Leaf`], [`FaceListEntry`], [`Edge`], [`EdgeListEntry`] or [`Model`].
+pub trait Record: Sealed {}
+impl<R: Sealed> Record for R {}
+
+impl Sealed for Plane {
+    const SECTION: u32 = 1;
+    fn of(words: &Words) -> Plane {
+        Plane::of(words, 0)
+    }
+}
+
+impl Sealed for Vertex {
+    const SECTION: u32 = 3;
+    fn of(words: &Words) -> Vertex {
+        Vertex { point: floats(words, 0) }
+    }
+}
+
+impl Sealed for RenderNode {
+    const SECTION: u32 = 5;
+    fn of(words: &Words) -> RenderNode {
+        RenderNode {
+            plane: words[0] as usize,
+            front: RenderChild::of(words[1], words[2]),
+            back: RenderChild::of(words[3], words[4]),
+            min: shorts(words, 5),
+            max: shorts(words, 8),
+            face: words[11] as usize,
+            face_count: words[12] as usize,
+        }
+    }
+}
+
+impl Sealed for TextureInfo {
+    const SECTION: u32 = 6;
+    fn of(words: &Words) -> TextureInfo {
+        TextureInfo {
+            s: floats(words, 0),
+            s_offset: float(words[3]),
+            t: floats(words, 4),
+            t_offset: float(words[7]),
+            texture: words[8] as usize,
+            special: words[9] != 0,
+        }
+    }
+}
+
+impl Sealed for Face {
+    const SECTION: u32 = 7;
+    fn of(words: &Words) -> Face {
+        Face {
+            plane: words[0] as usize,
+            side: if words[1] == 0 { Side::Front } else { Side::Back },
+            edge: words[2] as usize,
+            edge_count: words[3] as usize,
+            texture_info: words[4] as usize,
+            light_styles: [words[5] as u8, words[6] as u8, words[7] as u8, words[8] as u8],
+            lightmap: offset(words[9]),
+            texture_mins: [words[10] as i16, words[11] as i16],
+            extents: [words[12] as i16, words[13] as i16],
+        }
+    }
+}
+
+impl Sealed for ClipNode {
+    const SECTION: u32 = 9;
+    fn of(words: &Words) -> ClipNode {
+        ClipNode {
+            plane: words[0] as usize,
+            front: ClipChild::of(words[1], words[2]),
+            back: ClipChild::of(words[3], words[4]),
+        }
+    }
+}
+
+impl Sealed for Leaf {
+    const SECTION: u32 = 10;
+    fn of(words: &Words) -> Leaf {
+        Leaf {
+            contents: Contents::of(words[0]),
+            visibility: offset(words[1]),
+            min: shorts(words, 2),
+            max: shorts(words, 5),
+            face_list: words[8] as usize,
+            face_list_count: words[9] as usize,
+            sounds: Sounds {
+                water: words[10] as u8,
+                sky: words[11] as u8,
+                slime: words[12] as u8,
+                lava: words[13] as u8,
+            },
+        }
+    }
+}
+
+impl Sealed for FaceListEntry {
+    const SECTION: u32 = 11;
+    fn of(words: &Words) -> FaceListEntry {
+        FaceListEntry { face: words[0] as usize }
+    }
+}
+
+impl Sealed for Edge {
+    const SECTION: u32 = 12;
+    fn of(words: &Words) -> Edge {
+        Edge { vertices: [words[0] as usize, words[1] as usize] }
+    }
+}
+
+impl Sealed for EdgeListEntry {
+    const SECTION: u32 = 13;
+    fn of(words: &Words) -> EdgeListEntry {
+        EdgeListEntry {
+            direction: if words[0] == 0 { Direction::Forward } else { Direction::Backward },
+            edge: words[1] as usize,
+        }
+    }
+}
+
+impl Sealed for Model {
+    const SECTION: u32 = 14;
+    fn of(words: &Words) -> Model {
+        let numbers =
+            |at: usize| [words[at] as usize, words[at + 1] as usize, words[at + 2] as usize];
+        Model {
+            min: floats(words, 0),
+            max: floats(words, 3),
+            origin: floats(words, 6),
+            hull_roots: numbers(9),
+            hull_node_counts: numbers(12),
+            leaf: words[15] as usize,
+            leaf_count: words[16] as usize,
+            face: words[17] as usize,
+            face_count: words[18] as usize,
+            last_leaf: words[19] as usize,
+        }
+    }
+}
+
+/// The records of one kind in a map. Nothing is copied: each is read from the file when it is asked
+/// for.
+///
+/// ```
+/// # let file = std::fs::read(concat!(env!("CARGO_MANIFEST_DIR"), "/../../maps/rooms.bsp")).unwrap();
+/// let map = bsp29::Map::load(&file)?;
+/// for leaf in map.leaves().iter() {
+///     println!("{:?}", leaf?.contents);
+/// }
+/// # Ok::<(), bsp29::Refusal>(())
+/// ```
+#[derive(Copy, Clone, Debug)]
+pub struct Records<'m, R> {
+    map: &'m Map<'m>,
+    kind: PhantomData<R>,
+}
+
+impl<'m, R: Record + 'm> Records<'m, R> {
+    pub(crate) fn new(map: &'m Map<'m>) -> Records<'m, R> {
+        Records { map, kind: PhantomData }
+    }
+
+    /// How many there are.
+    ///
+    /// ```
+    /// # let file = std::fs::read(concat!(env!("CARGO_MANIFEST_DIR"), "/../../maps/rooms.bsp")).unwrap();
+    /// let map = bsp29::Map::load(&file)?;
+    /// assert_eq!(map.models().len(), 2);
+    /// # Ok::<(), bsp29::Refusal>(())
+    /// ```
+    pub fn len(&self) -> usize {
+        self.map.count(R::SECTION)
+    }
+
+    /// Whether there is none.
+    ///
+    /// ```
+    /// # let file = std::fs::read(concat!(env!("CARGO_MANIFEST_DIR"), "/../../maps/smallest.bsp")).unwrap();
+    /// let map = bsp29::Map::load(&file)?;
+    /// assert!(map.planes().is_empty());
+    /// # Ok::<(), bsp29::Refusal>(())
+    /// ```
+    pub fn is_empty(&self) -> bool {
+        self.len() == 0
+    }
+
+    /// The record of an index. Refuses with 20 at or past [`len`](Records::len), and with 23 where a
+    /// map record made by hand leads astray; below `len` of a map that was loaded it never refuses.
+    ///
+    /// A model reads the models before it, a face its edges; the others take the same time each.
+    ///
+    /// ```
+    /// # let file = std::fs::read(concat!(env!("CARGO_MANIFEST_DIR"), "/../../maps/rooms.bsp")).unwrap();
+    /// use bsp29::{Contents, Refusal};
+    ///
+    /// let map = bsp29::Map::load(&file)?;
+    /// assert_eq!(map.leaves().get(2)?.contents, Contents::Water);
+    /// assert_eq!(map.leaves().get(6), Err(Refusal::NoSuchRecord));
+    /// # Ok::<(), bsp29::Refusal>(())
+    /// ```
+    pub fn get(&self, index: usize) -> Result<R, Refusal> {
+        ffi::record(self.map.file(), self.map.words(), R::SECTION, index as u64)
+            .map(|words| R::of(&words))
+    }
+
+    /// Each record in order.
+    ///
+    /// ```
+    /// # let file = std::fs::read(concat!(env!("CARGO_MANIFEST_DIR"), "/../../maps/rooms.bsp")).unwrap();
+    /// let map = bsp29::Map::load(&file)?;
+    /// let faces: Result<Vec<_>, _> = map.faces().iter().collect();
+    /// assert_eq!(faces?[1].edge, 4);
+    /// # Ok::<(), bsp29::Refusal>(())
+    /// ```
+    pub fn iter(&self) -> impl Iterator<Item = Result<R, Refusal>> + 'm {
+        let records = Records { map: self.map, kind: PhantomData };
+        (0..self.len()).map(move |index| records.get(index))
+    }
+}

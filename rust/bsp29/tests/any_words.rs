@@ -1,0 +1,144 @@
+//! Whatever the bytes, the map record, the hull and the numbers are, every call comes back.
+
+mod common;
+
+use bsp29::{Hull, Map, NodeTable, Record, Records, Refusal};
+use common::{rooms, smallest};
+
+/// Numbers that follow from a seed (xorshift).
+struct Seed(u64);
+
+impl Seed {
+    fn next(&mut self) -> u64 {
+        self.0 ^= self.0 << 13;
+        self.0 ^= self.0 >> 7;
+        self.0 ^= self.0 << 17;
+        self.0
+    }
+    fn below(&mut self, n: u64) -> u64 {
+        self.next() % n
+    }
+    fn number(&mut self) -> usize {
+        match self.below(3) {
+            0 => self.below(50) as usize,
+            1 => (u64::MAX - self.below(3)) as usize,
+            _ => self.next() as usize,
+        }
+    }
+    fn float(&mut self) -> f32 {
+        match self.below(3) {
+            0 => f32::from_bits(self.next() as u32),
+            1 => [f32::NAN, f32::INFINITY, -f32::INFINITY, 0.0, -0.0][self.below(5) as usize],
+            _ => self.below(300) as f32 - 150.0,
+        }
+    }
+    fn point(&mut self) -> [f32; 3] {
+        [self.float(), self.float(), self.float()]
+    }
+}
+
+fn read_all<R: Record + std::fmt::Debug>(records: Records<'_, R>, seed: &mut Seed) -> usize {
+    let _ = records.get(seed.number());
+    records.iter().take(40).filter(|record| record.is_ok()).count()
+}
+
+/// Asks every question, and says how many were answered.
+fn ask(map: &Map, seed: &mut Seed) -> usize {
+    let mut answered = 0;
+    answered += read_all(map.planes(), seed);
+    answered += read_all(map.vertices(), seed);
+    answered += read_all(map.render_nodes(), seed);
+    answered += read_all(map.texture_infos(), seed);
+    answered += read_all(map.faces(), seed);
+    answered += read_all(map.clip_nodes(), seed);
+    answered += read_all(map.leaves(), seed);
+    answered += read_all(map.face_list(), seed);
+    answered += read_all(map.edges(), seed);
+    answered += read_all(map.edge_list(), seed);
+    answered += read_all(map.models(), seed);
+    let _ = (map.entities(), map.entity_text(), map.texture_count());
+    let made = Hull {
+        table: [NodeTable::Render, NodeTable::Clip, NodeTable::Box][seed.below(3) as usize],
+        root: seed.number(),
+        node_count: seed.number(),
+        mins: seed.point(),
+        maxs: seed.point(),
+    };
+    let hulls = [Ok(made), map.hull(0, seed.below(4) as usize), map.hull(seed.number(), 1)];
+    for hull in hulls.into_iter().flatten() {
+        let (a, b) = (seed.point(), seed.point());
+        answered += usize::from(map.contents(&hull, a).is_ok());
+        answered += usize::from(map.contents_nodes(&hull, a).is_ok());
+        answered += usize::from(map.trace(&hull, a, b).is_ok());
+        answered += usize::from(map.trace_nodes(&hull, a, b).is_ok());
+        answered += usize::from(map.find_leaf_nodes(hull.root, a).is_ok());
+        answered += usize::from(map.tree_check(hull.table, hull.root).is_ok());
+    }
+    answered += usize::from(map.find_leaf(seed.point()).is_ok());
+    answered += usize::from(map.find_leaf_from(seed.number(), seed.point()).is_ok());
+    let seen = map.visible_leaves(seed.below(8) as usize, seed.number());
+    assert_ne!(seen, Err(Refusal::ListTooShort));
+    answered + usize::from(seen.is_ok())
+}
+
+/// From a root that passed the tree check every walk and trace is answered and enters no node twice.
+/// Says how many roots passed.
+fn passed(map: &Map, seed: &mut Seed) -> usize {
+    let mut passed = 0;
+    for table in [NodeTable::Render, NodeTable::Clip] {
+        let root = seed.below(25) as usize;
+        let Ok(height) = map.tree_check(table, root) else { continue };
+        passed += 1;
+        let hull = Hull { table, root, node_count: 0, mins: [0.0; 3], maxs: [0.0; 3] };
+        let (a, b) = (seed.point(), seed.point());
+        assert!(map.contents(&hull, a).unwrap().1 <= height as u64);
+        let mut nodes = map.trace_nodes(&hull, a, b).unwrap();
+        assert_eq!(nodes.len() as u64, map.trace(&hull, a, b).unwrap().visits);
+        nodes.sort_unstable();
+        assert!(nodes.windows(2).all(|pair| pair[0] < pair[1]), "{nodes:?}");
+    }
+    passed
+}
+
+#[test]
+fn damaged_files() {
+    let mut seed = Seed(29);
+    let (mut loaded, mut answered, mut roots) = (0, 0, 0);
+    for _ in 0..4000 {
+        let mut file = if seed.below(4) == 0 { smallest() } else { rooms() };
+        for _ in 0..seed.below(4) {
+            let at = seed.below(file.len() as u64) as usize;
+            file[at] = seed.next() as u8;
+        }
+        if seed.below(8) == 0 {
+            file.truncate(seed.below(file.len() as u64) as usize);
+        }
+        if let Ok(map) = Map::load(&file) {
+            loaded += 1;
+            answered += ask(&map, &mut seed);
+            roots += passed(&map, &mut seed);
+        }
+    }
+    assert!(loaded > 500 && answered > 10_000 && roots > 500, "{loaded} {answered} {roots}");
+}
+
+#[test]
+fn map_records_made_by_hand() {
+    let mut seed = Seed(34);
+    let rooms = rooms();
+    let loaded = *Map::load(&rooms).unwrap().words();
+    let mut answered = 0;
+    for _ in 0..4000 {
+        let mut words = loaded;
+        for _ in 0..1 + seed.below(6) {
+            words[seed.below(31) as usize] = match seed.below(3) {
+                0 => seed.next() as u32,
+                1 => u32::MAX - seed.below(3) as u32,
+                _ => seed.below(3000) as u32,
+            };
+        }
+        let end = if seed.below(3) == 0 { seed.below(2000) as usize } else { rooms.len() };
+        answered += ask(&Map::from_words(&rooms[..end], words), &mut seed);
+    }
+    assert!(answered > 10_000, "{answered}");
+}
