@@ -2,11 +2,12 @@
 //! the folder that ORACLE_LIBRARY names.
 
 /// The features that need a library, and its name.
-const LIBRARIES: [(&str, &str); 6] = [
+const LIBRARIES: [(&str, &str); 7] = [
     ("FFI_MATH", "ffi_math"),
     ("FFI_LOAD", "ffi"),
     ("FFI_RECORDS", "ffi"),
     ("FFI_WALKS", "ffi"),
+    ("FFI_NODES", "ffi"),
     ("FFI_PVS", "ffi"),
     ("FFI_TREE", "ffi"),
 ];

@@ -37,10 +37,6 @@ pub struct Sides<T> {
 }
 
 impl<T> Sides<T> {
-    pub fn rust(answer: T) -> Sides<T> {
-        Sides { rust: Some(answer), paper: None }
-    }
-
     pub fn paper(answer: T) -> Sides<T> {
         Sides { rust: None, paper: Some(answer) }
     }
@@ -50,15 +46,77 @@ impl<T> Sides<T> {
     }
 }
 
+/// Whose answer a case was held against.
+#[derive(Copy, Clone, Debug, Eq, PartialEq)]
+pub enum Side {
+    Rust,
+    Paper,
+}
+
+/// The cases of one refusal in which both sides gave it: held against the Rust, and against the
+/// program on paper alone.
+#[derive(Copy, Clone, Debug, Default)]
+pub struct Agreed {
+    pub rust: u64,
+    pub paper: u64,
+}
+
 /// One line of the table.
 #[derive(Debug, Default)]
 pub struct Line {
     pub name: String,
+    /// The program on paper beside the Rust, not the call.
+    pub paper: bool,
     pub cases: u64,
+    /// The refusals that the call gave.
     pub refusals: BTreeMap<u32, u64>,
+    /// The refusals that it gave where it should; 0 stands for an answer.
+    pub agreed: BTreeMap<u32, Agreed>,
     pub differed: u64,
     /// The smallest input that differed, with its size.
     pub smallest: Option<(usize, String)>,
+}
+
+impl Line {
+    pub fn title(&self) -> String {
+        match self.paper {
+            true => format!("paper, {}", self.name),
+            false => self.name.clone(),
+        }
+    }
+
+    /// Whether the line is about a call of the C interface.
+    pub fn is_call(&self) -> bool {
+        !self.paper && self.name.starts_with("bsp_")
+    }
+
+    fn count(&mut self, difference: Option<String>, input: impl FnOnce() -> (usize, String)) {
+        self.cases += 1;
+        let Some(difference) = difference else { return };
+        self.differed += 1;
+        let (size, text) = input();
+        if self.smallest.as_ref().is_none_or(|(least, _)| size < *least) {
+            self.smallest = Some((size, format!("{text}: {difference}")));
+        }
+    }
+
+    /// Takes in the counts of another part of the same comparison.
+    fn join(&mut self, other: Line) {
+        self.cases += other.cases;
+        self.differed += other.differed;
+        for (number, times) in other.refusals {
+            *self.refusals.entry(number).or_default() += times;
+        }
+        for (number, times) in other.agreed {
+            let agreed = self.agreed.entry(number).or_default();
+            agreed.rust += times.rust;
+            agreed.paper += times.paper;
+        }
+        let least = self.smallest.as_ref().map_or(usize::MAX, |(size, _)| *size);
+        if other.smallest.as_ref().is_some_and(|(size, _)| *size < least) {
+            self.smallest = other.smallest;
+        }
+    }
 }
 
 #[derive(Debug, Default)]
@@ -77,41 +135,64 @@ impl Board {
         Board::default()
     }
 
-    #[cfg(test)]
     pub fn lines(&self) -> &[Line] {
         &self.lines
     }
 
-    fn line(&mut self, name: &str) -> &mut Line {
-        let at = match self.lines.iter().position(|line| line.name == name) {
-            Some(at) => at,
-            None => {
-                self.lines.push(Line { name: name.to_string(), ..Line::default() });
-                self.lines.len() - 1
-            }
-        };
+    /// Takes in the lines of another board.
+    pub fn join(&mut self, other: Board) {
+        self.given_up += other.given_up;
+        for line in other.lines {
+            self.line(&line.name, line.paper).join(line);
+        }
+    }
+
+    /// How many calls were compared, of those whose name is told apart.
+    pub fn calls(&self, of: impl Fn(&str) -> bool) -> u64 {
+        let calls = self.lines.iter().filter(|line| line.is_call() && of(&line.name));
+        calls.map(|line| line.cases).sum()
+    }
+
+    fn line(&mut self, name: &str, paper: bool) -> &mut Line {
+        let found = self.lines.iter().position(|line| line.paper == paper && line.name == name);
+        let at = found.unwrap_or_else(|| {
+            self.lines.push(Line { name: name.to_string(), paper, ..Line::default() });
+            self.lines.len() - 1
+        });
         &mut self.lines[at]
     }
 
-    /// Counts one case. `input` gives the input's size and what to print of it.
+    /// Counts one case of a call that answered this refusal, or 0. `input` gives the input's size
+    /// and what to print of it.
     pub fn count(
         &mut self,
         name: &str,
-        refusal: u32,
+        (refusal, side): (u32, Side),
         difference: Option<String>,
         input: impl FnOnce() -> (usize, String),
     ) {
-        let line = self.line(name);
-        line.cases += 1;
+        let line = self.line(name, false);
         if refusal != 0 {
             *line.refusals.entry(refusal).or_default() += 1;
         }
-        let Some(difference) = difference else { return };
-        line.differed += 1;
-        let (size, text) = input();
-        if line.smallest.as_ref().is_none_or(|(least, _)| size < *least) {
-            line.smallest = Some((size, format!("{text}: {difference}")));
+        if difference.is_none() {
+            let agreed = line.agreed.entry(refusal).or_default();
+            match side {
+                Side::Rust => agreed.rust += 1,
+                Side::Paper => agreed.paper += 1,
+            }
         }
+        line.count(difference, input);
+    }
+
+    /// Counts one case of the program on paper beside the Rust.
+    pub fn count_paper(
+        &mut self,
+        name: &str,
+        difference: Option<String>,
+        input: impl FnOnce() -> (usize, String),
+    ) {
+        self.line(name, true).count(difference, input);
     }
 
     /// What is expected: the Rust's answer, else the paper's. Where both answer they must agree.
@@ -120,17 +201,18 @@ impl Board {
         name: &str,
         sides: Sides<T>,
         input: impl FnOnce() -> (usize, String),
-    ) -> T {
+    ) -> (T, Side) {
         let (rust, paper) = match sides {
             Sides { rust: Some(rust), paper: Some(paper) } => (rust, paper),
-            Sides { rust, paper } => return rust.or(paper).expect("a side that answers"),
+            Sides { rust: Some(rust), paper: None } => return (rust, Side::Rust),
+            Sides { paper, .. } => return (paper.expect("a side that answers"), Side::Paper),
         };
         let difference = match rust == paper {
             true => None,
             false => Some(format!("paper {}, Rust {}", shown(&paper), shown(&rust))),
         };
-        self.count(&format!("paper, {name}"), 0, difference, input);
-        rust
+        self.count_paper(name, difference, input);
+        (rust, Side::Rust)
     }
 
     /// A call that fills a list of words, lent `lent` of them.
@@ -142,7 +224,7 @@ impl Board {
         call: impl FnOnce(&mut [u64]) -> u32,
         input: impl Fn() -> (usize, String),
     ) {
-        let expected = self.expected(name, sides, &input);
+        let (expected, side) = self.expected(name, sides, &input);
         let mut out = [FILL; 40];
         let out = &mut out[..lent];
         let refusal = call(out);
@@ -157,7 +239,7 @@ impl Board {
                 Some(format!("answers {refusal} {}, expected {}", shown(&out), shown(&expected)))
             }
         };
-        self.count(name, refusal, difference, input);
+        self.count(name, (refusal, side), difference, input);
     }
 
     /// A call that fills a list of numbers and one word with their count, lent `lent` numbers and
@@ -170,9 +252,9 @@ impl Board {
         call: impl FnOnce(&mut [u32], &mut [u64]) -> u32,
         input: impl Fn() -> (usize, String),
     ) {
-        let expected = match self.expected(name, sides, &input) {
-            _ if words == 0 => Err(22),
-            Ok(list) if list.len() > lent => Err(22),
+        let (expected, side) = match self.expected(name, sides, &input) {
+            _ if words == 0 => (Err(22), Side::Paper),
+            (Ok(list), _) if list.len() > lent => (Err(22), Side::Paper),
             other => other,
         };
         let mut list = vec![FILL_WORD; lent];
@@ -195,17 +277,17 @@ impl Board {
                 shown(&expected)
             )),
         };
-        self.count(name, refusal, difference, input);
+        self.count(name, (refusal, side), difference, input);
     }
 
     /// Prints the table; true if nothing differed and something ran.
     pub fn print(&self) -> bool {
         for line in &self.lines {
-            let stub = match line.name.starts_with("bsp_") && !calls::is_linked(&line.name) {
+            let stub = match line.is_call() && !calls::is_linked(&line.name) {
                 true => " (stub)",
                 false => "",
             };
-            let name = format!("{}{stub}", line.name);
+            let name = format!("{}{stub}", line.title());
             println!("{name:<32} {:>10} cases {:>8} differ", line.cases, line.differed);
             if !line.refusals.is_empty() {
                 let parts: Vec<String> = line
@@ -228,7 +310,7 @@ impl Board {
     /// The names of the lines in which a case differed.
     #[cfg(test)]
     pub fn blamed(&self) -> Vec<String> {
-        self.lines.iter().filter(|l| l.differed > 0).map(|l| l.name.clone()).collect()
+        self.lines.iter().filter(|l| l.differed > 0).map(|l| l.title()).collect()
     }
 }
 

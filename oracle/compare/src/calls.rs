@@ -96,7 +96,9 @@ pub fn is_linked(call: &str) -> bool {
         "bsp_record" | "bsp_count" | "bsp_entities" => cfg!(feature = "ffi_records"),
         "bsp_pvs" => cfg!(feature = "ffi_pvs"),
         "bsp_tree_check" => cfg!(feature = "ffi_tree"),
-        "bsp_contents_nodes" | "bsp_find_leaf_nodes" | "bsp_trace_nodes" => cfg!(feature = "ffi_nodes"),
+        "bsp_contents_nodes" | "bsp_find_leaf_nodes" | "bsp_trace_nodes" => {
+            cfg!(feature = "ffi_nodes")
+        }
         _ => cfg!(feature = "ffi_walks"),
     }
 }

@@ -6,12 +6,13 @@
 use maps::record::Tables;
 use maps::{make, Seed};
 
-use crate::board::{shown, Board, Plan, Sides};
+use crate::asked::Asked;
+use crate::board::{shown, Board, Plan, Side, Sides};
 use crate::calls::Calls;
 use crate::calls_stub::RECORD_WORDS;
 use crate::paper::{self, record_size, tree, vis, MAP_WORDS, SECTIONS};
 use crate::tables::{self, Made};
-use crate::walks::{self, Asked};
+use crate::walks;
 use crate::words::{self, Words};
 
 pub fn run(plan: &Plan) -> bool {
@@ -21,16 +22,76 @@ pub fn run(plan: &Plan) -> bool {
 pub fn compare(calls: &Calls, plan: &Plan) -> Board {
     let mut board = Board::new();
     richter::probe::set_patience(walks::PATIENCE);
+    if plan.from == 0 {
+        at_limits(&mut board, calls, plan.seed);
+        long_texts(&mut board, calls);
+    }
     for (case, mut seed) in plan.seeds("hand-made") {
         let (file, mut map) = bytes(&mut seed);
         for _ in 0..seed.below(5) {
             spoil(&mut seed, &mut map, file.len() as u64);
         }
-        let asked = Asked { calls, case, file: &file, map: &map };
+        let asked = Asked { calls, name: &|| format!("case {case}"), file: &file, map: &map };
         one(&mut board, &asked, &mut seed);
     }
     richter::probe::set_patience(usize::MAX);
     board
+}
+
+/// Each section with a limit, at the limit and one past it, all of it in the bytes.
+fn at_limits(board: &mut Board, calls: &Calls, seed: u64) {
+    for section in 0..SECTIONS {
+        let Some(limit) = paper::limit(section) else { continue };
+        for count in [limit, limit + 1] {
+            let (file, map) = filled(section, count);
+            let name = || format!("section {section} of {count} records");
+            let asked = Asked { calls, name: &name, file: &file, map: &map };
+            one(board, &asked, &mut Seed::named(seed, "limits"));
+        }
+    }
+}
+
+/// A section of so many records behind a plane and two leaves that see.
+fn filled(section: usize, count: u64) -> (Vec<u8>, [u32; MAP_WORDS]) {
+    let mut file = vec![0; 20];
+    for _ in 0..2 {
+        file.extend([0xff; 4]);
+        file.extend([0; 24]);
+    }
+    let mut map = [0; MAP_WORDS];
+    map[2 * paper::PLANES + 1] = 20;
+    (map[2 * paper::LEAVES], map[2 * paper::LEAVES + 1]) = (20, 56);
+    let size = count * record_size(section);
+    (map[2 * section], map[2 * section + 1]) = (file.len() as u32, size as u32);
+    let byte = match section {
+        paper::LEAVES => 0xff,
+        paper::VISIBILITY => 1,
+        _ => 0,
+    };
+    file.resize(file.len() + size as usize, byte);
+    (file, map)
+}
+
+/// Entity texts around 65,536 bytes, with and without a zero, wherever and however long their
+/// section is.
+fn long_texts(board: &mut Board, calls: &Calls) {
+    for len in 65_534..=65_538usize {
+        for (zero, behind) in [(false, 0), (true, 0), (true, 9)] {
+            let mut file = vec![b'x'; len];
+            if zero {
+                file[len - 1] = 0;
+            }
+            file.resize(len + behind, 0xff);
+            for at in [0, 1, 2, len - 1, len, len + 1, len + behind] {
+                for size in [0, 1, 65_536, 65_537, u32::MAX] {
+                    let mut map = [0; MAP_WORDS];
+                    (map[0], map[1]) = (at as u32, size);
+                    let name = || format!("a text of {len}, zero {zero}");
+                    entities(board, &Asked { calls, name: &name, file: &file, map: &map });
+                }
+            }
+        }
+    }
 }
 
 /// Bytes and a map record that fits them, if any does.
@@ -335,7 +396,7 @@ fn trees(board: &mut Board, asked: &Asked, seed: &mut Seed) {
             let same = if left == wanted { "as expected" } else { "differ" };
             format!("answers {refusal} {out:?}, marks {same}, expected {}", shown(&expected))
         });
-        board.count("bsp_tree_check", refusal, difference, || {
+        board.count("bsp_tree_check", (refusal, Side::Paper), difference, || {
             let text = format!("table {table}, root {root}, {} marks, map {map:?}", marks.len());
             asked.input(text)
         });

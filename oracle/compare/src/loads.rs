@@ -1,46 +1,54 @@
 //! Loading beside the published Rust and document 01 read as a program: the verdict and the map
 //! record, on whole and cut maps, every change of one byte, any two faults at once, damaged maps,
 //! each limit at and one past it, sections in odd places, entity texts of every kind, and large
-//! files.
+//! files. Of each file that loads every record and query is asked (`queries`).
 //!
 //! The Rust fails in the texture section, or behind it in the texture groups, where loading here
-//! goes on; there its verdict is the one with that section passed over.
+//! goes on; there its verdict, and what it is asked, is with that section passed over.
 
 use maps::damage;
 use maps::record::{self, Tables, SIZES};
 use maps::{make, Layout, Seed, Shape};
 use richter::Refusal;
 
-use crate::board::{file_shown, shown, Board, Plan};
+use crate::asked::Asked;
+use crate::board::{file_shown, shown, Board, Plan, Side};
 use crate::calls::Calls;
-use crate::faults;
 use crate::paper::{self, MAP_WORDS};
 use crate::records::map_of_header;
+use crate::{faults, queries, walks};
 
 pub fn run(plan: &Plan) -> bool {
     compare(&Calls::linked(), plan).print()
 }
 
 pub fn compare(calls: &Calls, plan: &Plan) -> Board {
-    let mut loads = Loads { board: Board::new(), calls };
+    richter::probe::set_patience(walks::PATIENCE);
+    let seed = Seed::named(plan.seed, "queries");
+    let mut loads = Loads { board: Board::new(), calls, seed };
     if plan.from == 0 {
         smallest(&mut loads, plan.quick);
         cuts(&mut loads, plan);
         changes(&mut loads, plan);
+        places(&mut loads, plan);
         limits(&mut loads);
         two_faults(&mut loads, plan);
         texts(&mut loads, plan.quick);
         large(&mut loads, plan);
     }
     for (case, mut seed) in plan.seeds("loads") {
+        loads.seed = seed.clone();
         seeded(&mut loads, &mut seed, case);
     }
+    richter::probe::set_patience(usize::MAX);
     loads.board
 }
 
 struct Loads<'a> {
     board: Board,
     calls: &'a Calls,
+    /// What the files are asked follows from it.
+    seed: Seed,
 }
 
 /// Texture counts up to this are given to the Rust whole: each present texture may read the file
@@ -48,13 +56,13 @@ struct Loads<'a> {
 const TEXTURES_READ: u32 = 64;
 
 /// The Rust's verdict, and whether its texture section was passed over.
-fn rust_verdict(file: &[u8]) -> (Result<(), u32>, bool) {
+pub fn rust_verdict(file: &[u8]) -> (Result<richter::Map, u32>, bool) {
     let whole = match texture_count(file) {
         Some(count) if count > TEXTURES_READ => Err(Refusal::Textures),
-        _ => richter::load(file).map(drop),
+        _ => richter::load(file),
     };
     let (verdict, over) = match whole {
-        Err(Refusal::Textures) => (richter::load_without_textures(file).map(drop), true),
+        Err(Refusal::Textures) => (richter::load_without_textures(file), true),
         whole => (whole, false),
     };
     let verdict = verdict.map_err(|refusal| match refusal {
@@ -73,20 +81,27 @@ fn texture_count(file: &[u8]) -> Option<u32> {
 }
 
 impl Loads<'_> {
-    /// One file.
+    /// One file, and every query of it if it loads.
     fn one(&mut self, name: impl Fn() -> String, file: &[u8]) {
         let (verdict, over) = rust_verdict(file);
         let input = || (file.len(), format!("{}, {}", name(), file_shown(file)));
-        let expected = verdict.map(|_| map_of_header(file));
+        let expected = verdict.as_ref().map(|_| map_of_header(file)).map_err(|number| *number);
         let on_paper = paper::load::load(file);
         let difference = (on_paper != expected)
             .then(|| format!("paper {}, Rust {}", shown(&on_paper), shown(&expected)));
-        self.board.count("paper, bsp_load", 0, difference, input);
+        self.board.count_paper("bsp_load", difference, input);
         if over {
             let number = *expected.as_ref().err().unwrap_or(&0);
-            self.board.count("Rust, textures passed over", number, None, input);
+            let met = (number, Side::Rust);
+            self.board.count("Rust, textures passed over", met, None, input);
         }
         self.call(MAP_WORDS, file, &expected, input);
+        if let (Ok(rust), Ok(map)) = (verdict, expected) {
+            let line = if over { "files asked, textures passed over" } else { "files asked" };
+            self.board.count(line, (0, Side::Rust), None, input);
+            let asked = Asked { calls: self.calls, name: &name, file, map: &map };
+            queries::all(&mut self.board, &asked, &mut self.seed, &rust);
+        }
     }
 
     /// The call with so many words lent, and two more beside it to see that they are kept.
@@ -107,7 +122,8 @@ impl Loads<'_> {
         let equal = refusal == *expected.as_ref().err().unwrap_or(&0) && words == wanted;
         let difference = (!equal)
             .then(|| format!("answers {refusal} {}, expected {}", shown(&words), shown(expected)));
-        self.board.count("bsp_load", refusal, difference, input);
+        let side = if lent < MAP_WORDS { Side::Paper } else { Side::Rust };
+        self.board.count("bsp_load", (refusal, side), difference, input);
     }
 }
 
@@ -138,7 +154,7 @@ fn smallest(loads: &mut Loads, quick: bool) {
 }
 
 /// A small map with every section in use.
-fn full(seed: &mut Seed, odd_layout: bool) -> (Tables, Layout) {
+pub fn full(seed: &mut Seed, odd_layout: bool) -> (Tables, Layout) {
     let what = maps::Plan {
         planes: 2,
         render_nodes: 2,
@@ -184,8 +200,19 @@ fn every_cut(loads: &mut Loads, name: &str, file: &[u8]) {
     }
 }
 
-/// Every byte of small maps to several values.
+/// Every byte of small maps to several values, and of one to every value.
 fn changes(loads: &mut Loads, plan: &Plan) {
+    if !plan.quick {
+        let mut file = plain(&full(&mut Seed::named(plan.seed, "every change"), false).0);
+        for at in 0..file.len() {
+            let was = file[at];
+            for by in 1..=255u8 {
+                file[at] = was ^ by;
+                loads.one(|| format!("full map, byte {at} changed to {}", was ^ by), &file);
+            }
+            file[at] = was;
+        }
+    }
     for map in 0..if plan.quick { 1 } else { 6 } {
         let mut seed = Seed::named(plan.seed.wrapping_add(map), "changes");
         let (tables, layout) = full(&mut seed, map % 2 == 1);
@@ -194,6 +221,29 @@ fn changes(loads: &mut Loads, plan: &Plan) {
             loads.one(|| format!("map {map}, change {number}"), &copy);
         }
     }
+}
+
+/// Each section at every offset, whole and empty: over the header, over the others, past the end.
+fn places(loads: &mut Loads, plan: &Plan) {
+    let mut seed = Seed::named(plan.seed, "places");
+    let file = plain(&full(&mut seed, false).0);
+    let map = map_of_header(&file);
+    let step = if plan.quick { 7 } else { 1 };
+    let far = [i32::MAX as u32 - 1, i32::MAX as u32];
+    for section in 0..record::SECTIONS {
+        for offset in (0..file.len() as u32 + 9).step_by(step).chain(far) {
+            for size in [map[2 * section + 1], 0] {
+                let mut copy = file.clone();
+                put_place(&mut copy, section, offset, size);
+                loads.one(|| format!("section {section} at {offset} of size {size}"), &copy);
+            }
+        }
+    }
+}
+
+fn put_place(file: &mut [u8], section: usize, offset: u32, size: u32) {
+    let place = [offset, size].map(u32::to_le_bytes).concat();
+    file[4 + 8 * section..12 + 8 * section].copy_from_slice(&place);
 }
 
 /// Any two faults of a full map at once: which one is met first.
@@ -330,21 +380,30 @@ fn texts(loads: &mut Loads, quick: bool) {
 
 /// Texts around 65,536 bytes, the zero counted; a wrong byte in them comes after the length.
 fn long_texts(loads: &mut Loads) {
-    for len in [65_534usize, 65_535, 65_536, 65_537] {
-        for zero in [false, true] {
-            for wrong in [None, Some(0), Some(65_500)] {
-                let mut text = vec![b'x'; len];
-                if zero {
-                    text[len - 1] = 0;
-                }
-                if let Some(at) = wrong {
-                    text[at] = 0xff;
-                }
-                for size in [len, len - 1, 1] {
-                    let name = || format!("entity text of {len}, zero {zero}, wrong {wrong:?}");
-                    loads.one(name, &with_text(&text, size));
-                }
+    for len in 65_534..=65_538 {
+        for letter in ["x", "\u{e9}", "\u{1d11e}"] {
+            for wrong in [None, Some(0), Some(32_768), Some(65_500), Some(len - 2)] {
+                long_text(loads, len, letter, wrong);
             }
+        }
+    }
+}
+
+/// So many bytes of one letter, the last one cut short where it does not fit; with and without a
+/// zero at the end, and bytes behind it.
+fn long_text(loads: &mut Loads, len: usize, letter: &str, wrong: Option<usize>) {
+    for (zero, behind) in [(false, 0), (true, 0), (true, 3)] {
+        let mut text: Vec<u8> = letter.bytes().cycle().take(len).collect();
+        if zero {
+            text[len - 1] = 0;
+        }
+        if let Some(at) = wrong {
+            text[at] = 0xff;
+        }
+        text.resize(len + behind, b'y');
+        for size in [len, len - 1, len + behind, 65_536, 1] {
+            let name = || format!("text of {len} {letter}, zero {zero}, wrong {wrong:?}, {size}");
+            loads.one(name, &with_text(&text, size));
         }
     }
 }
@@ -380,7 +439,8 @@ fn large(loads: &mut Loads, plan: &Plan) {
 
 /// Random damage to a map, or sections in odd places.
 fn seeded(loads: &mut Loads, seed: &mut Seed, case: u64) {
-    let what = maps::Plan::any(seed, 8);
+    let most = if seed.once_in(5_000) { 600 } else { 8 };
+    let what = maps::Plan::any(seed, most);
     let (mut tables, layout) = if seed.once_in(3) { full(seed, true) } else { make(seed, &what) };
     let file = tables.file(&layout);
     for number in 0..7 {
@@ -471,8 +531,7 @@ fn odd_places(seed: &mut Seed, file: &[u8]) -> Vec<u8> {
             6 => (seed.below(len as u64 + 9) as u32, 0),
             _ => (map[2 * section], size + SIZES[section] as u32 * seed.below(3) as u32),
         };
-        let place = [offset, size].map(u32::to_le_bytes).concat();
-        copy[4 + 8 * section..12 + 8 * section].copy_from_slice(&place);
+        put_place(&mut copy, section, offset, size);
     }
     copy
 }

@@ -1,21 +1,28 @@
 //! Compares the proved code with the published Rust. `oracle/run` builds and starts it.
 
+mod all;
+mod asked;
 mod bench;
 mod board;
 mod calls;
 mod calls_stub;
 mod cases;
+mod coverage;
 mod facts;
 mod faults;
 mod hand_made;
+mod joins;
 mod leaves;
 mod loads;
 mod notes;
 mod paper;
 mod proved;
 mod pvs;
+mod queries;
 mod records;
+mod replay;
 mod root_time;
+mod sample;
 mod stub;
 mod tables;
 mod tally;
@@ -31,50 +38,79 @@ use std::process::exit;
 #[global_allocator]
 static ROOM: richter::room::Room = richter::room::Room;
 
+/// What stands behind the mode on the command line.
+struct Arguments(Vec<String>);
+
+impl Arguments {
+    fn has(&self, name: &str) -> bool {
+        self.0.iter().any(|argument| argument == name)
+    }
+
+    fn number(&self, name: &str, usual: u64) -> u64 {
+        let Some(at) = self.0.iter().position(|argument| argument == name) else { return usual };
+        match self.0.get(at + 1).and_then(|number| number.parse().ok()) {
+            Some(number) => number,
+            None => wrong(&format!("{name} takes a number")),
+        }
+    }
+
+    /// A tenth of the usual cases for a quick run.
+    fn plan(&self, usual: u64) -> board::Plan {
+        let usual = if self.has("--quick") { usual / 10 } else { usual };
+        board::Plan {
+            cases: self.number("--cases", usual),
+            from: self.number("--from", 0),
+            seed: self.number("--seed", 1),
+            quick: self.has("--quick"),
+        }
+    }
+
+    fn leaves(&self) -> leaves::Plan {
+        leaves::Plan {
+            quick: self.has("--quick"),
+            threads: self.number("--threads", 1).clamp(1, 64),
+            seed: self.number("--seed", 1),
+        }
+    }
+
+    /// The name of a file, which comes first.
+    fn path(&self) -> &str {
+        match self.0.first() {
+            Some(path) if !path.starts_with("--") => path,
+            _ => wrong("the mode takes a file's name"),
+        }
+    }
+}
+
+fn wrong(message: &str) -> ! {
+    eprintln!("{message}");
+    exit(2);
+}
+
+/// Runs a mode; true if nothing differed.
+fn run(mode: &str, given: &Arguments) -> bool {
+    match mode {
+        "all" => all::run(&given.plan(200_000_000)),
+        "leaves" => leaves::run(&given.leaves()),
+        "root-time" => root_time::run(),
+        "records" => records::run(&given.plan(5_000)),
+        "hand-made" => hand_made::run(&given.plan(10_000)),
+        "walks" => walks::run(&given.plan(10_000)),
+        "tree-check" => tree::run(&given.plan(20_000)),
+        "pvs" => pvs::run(&given.plan(20_000)),
+        "loads" => loads::run(&given.plan(5_000)),
+        "sample" => sample::run(given.path(), given.number("--seed", 1), !given.has("--no-nodes")),
+        "bench" => bench::run(&given.plan(1_000)),
+        "rust-facts" => facts::run(),
+        "notes" => notes::run(),
+        _ => wrong("compare: a mode of oracle/run"),
+    }
+}
+
 fn main() {
-    let arguments: Vec<String> = std::env::args().skip(1).collect();
-    let has = |name: &str| arguments.iter().any(|a| a == name);
-    let number = |name: &str, usual: u64| -> u64 {
-        match arguments.iter().position(|a| a == name) {
-            None => usual,
-            Some(at) => match arguments.get(at + 1).and_then(|n| n.parse().ok()) {
-                Some(n) => n,
-                None => {
-                    eprintln!("{name} takes a number");
-                    exit(2);
-                }
-            },
-        }
-    };
-    // a tenth of the usual cases for a quick run
-    let plan = |usual: u64| board::Plan {
-        cases: number("--cases", if has("--quick") { usual / 10 } else { usual }),
-        from: number("--from", 0),
-        seed: number("--seed", 1),
-        quick: has("--quick"),
-    };
-    let equal = match arguments.first().map(|a| a.as_str()) {
-        Some("leaves") => leaves::run(&leaves::Plan {
-            quick: has("--quick"),
-            threads: number("--threads", 1).clamp(1, 64),
-            seed: number("--seed", 1),
-        }),
-        Some("root-time") => root_time::run(),
-        Some("records") => records::run(&plan(5_000)),
-        Some("hand-made") => hand_made::run(&plan(10_000)),
-        Some("walks") => walks::run(&plan(10_000)),
-        Some("tree-check") => tree::run(&plan(20_000)),
-        Some("pvs") => pvs::run(&plan(20_000)),
-        Some("loads") => loads::run(&plan(5_000)),
-        Some("bench") => bench::run(&plan(1_000)),
-        Some("rust-facts") => facts::run(),
-        Some("notes") => notes::run(),
-        _ => {
-            eprintln!("compare: a mode of oracle/run");
-            exit(2);
-        }
-    };
-    if !equal {
+    let mut arguments = std::env::args().skip(1);
+    let mode = arguments.next().unwrap_or_default();
+    if !run(&mode, &Arguments(arguments.collect())) {
         exit(1);
     }
 }

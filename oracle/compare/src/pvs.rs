@@ -4,11 +4,12 @@
 use maps::record::{Leaf, Tables};
 use maps::{Layout, Seed};
 
+use crate::asked::Asked;
 use crate::board::{Board, Plan, Sides};
 use crate::calls::Calls;
 use crate::paper::vis;
 use crate::tables::Made;
-use crate::walks::{lent_list, Asked};
+use crate::walks::lent_list;
 use crate::words;
 
 pub fn run(plan: &Plan) -> bool {
@@ -22,7 +23,8 @@ pub fn compare(calls: &Calls, plan: &Plan) -> Board {
         let Ok(rust) = richter::load(&made.file) else {
             panic!("case {case}: the Rust refuses a map made to load");
         };
-        let asked = Asked { calls, case, file: &made.file, map: &made.map };
+        let asked =
+            Asked { calls, name: &|| format!("case {case}"), file: &made.file, map: &made.map };
         for _ in 0..12 {
             one(&mut board, &asked, &mut seed, &rust, made.tables.leaves.len() as u64);
         }
@@ -101,6 +103,17 @@ fn one(board: &mut Board, asked: &Asked, seed: &mut Seed, rust: &richter::Map, l
         6 => 1 + 8 * seed.below(20),
         _ => seed.below(400),
     };
+    ask(board, asked, seed, rust, (leaf, leaf_count));
+}
+
+/// The list of a leaf for so many leaves.
+pub fn ask(
+    board: &mut Board,
+    asked: &Asked,
+    seed: &mut Seed,
+    rust: &richter::Map,
+    (leaf, leaf_count): (u64, u64),
+) {
     let found = rust.get_pvs(leaf as usize, leaf_count as usize);
     let found = found
         .map(|list| list.iter().map(|n| *n as u32).collect::<Vec<u32>>())

@@ -4,11 +4,15 @@
 use maps::record::{SECTIONS, TEXTURES};
 use maps::{make, Seed};
 
-use crate::board::{file_shown, Board, Plan, Sides};
+use crate::asked::Asked;
+use crate::board::{Board, Plan, Sides};
 use crate::calls::Calls;
 use crate::calls_stub::RECORD_WORDS;
-use crate::paper;
 use crate::words::{self, Words};
+
+/// The records of a section that are asked for: all of them up to so many, else the first, the
+/// last and so many others.
+pub const SAMPLED: u64 = 200;
 
 /// The map record that a file's header names, with the texture count of its section.
 pub fn map_of_header(file: &[u8]) -> [u32; 31] {
@@ -28,89 +32,91 @@ pub fn run(plan: &Plan) -> bool {
 pub fn compare(calls: &Calls, plan: &Plan) -> Board {
     let mut board = Board::new();
     for (case, mut seed) in plan.seeds("records") {
+        let seed = &mut seed;
         let most = if seed.once_in(50) { 400 } else { 24 };
-        let what = maps::Plan::any(&mut seed, most);
-        let (tables, layout) = make(&mut seed, &what);
+        let what = maps::Plan::any(seed, most);
+        let (tables, layout) = make(seed, &what);
         let file = tables.file(&layout);
-        one_map(&mut board, calls, &mut seed, case, &file);
+        let Ok(rust) = richter::load(&file) else {
+            panic!("case {case}: the Rust refuses a map made to load");
+        };
+        let map = map_of_header(&file);
+        let name = || format!("case {case}");
+        let asked = Asked { calls, name: &name, file: &file, map: &map };
+        tables_of(&mut board, &asked, seed, &rust, u64::MAX);
+        short_lists(&mut board, &asked, seed);
     }
     board
 }
 
-/// One map that the Rust loads.
-fn one_map(board: &mut Board, calls: &Calls, seed: &mut Seed, case: u64, file: &[u8]) {
-    let Ok(rust) = richter::load(file) else {
-        panic!("case {case}: the Rust refuses a map made to load");
-    };
-    let map = map_of_header(file);
-    let on_paper = paper::Map::new(file, &map).expect("enough words");
-    let lent = |seed: &mut Seed| RECORD_WORDS + seed.below(4) as usize;
-    for (section, records) in words::tables(&rust) {
+/// Every table of a map that the Rust loaded, sampled where it has more than `most` records; the
+/// counts of every section; the entity text.
+pub fn tables_of(
+    board: &mut Board,
+    asked: &Asked,
+    seed: &mut Seed,
+    rust: &richter::Map,
+    most: u64,
+) {
+    for (section, records) in words::tables(rust) {
         let count = records.len() as u64;
-        for (index, record) in records.into_iter().enumerate() {
-            let sides = Sides::both(Ok(record), on_paper.record_words(section, index as u64));
-            one_record(board, calls, file, &map, (case, section, index as u64), lent(seed), sides);
+        for index in chosen(seed, count, most) {
+            one_record(board, asked, seed, (section, index), Ok(records[index as usize].clone()));
         }
-        for index in [count, count + 1, 1 << 32, (1 << 32) + count / 2, u64::MAX, u64::MAX / 20] {
-            let sides = Sides::both(Err(20), on_paper.record_words(section, index));
-            one_record(board, calls, file, &map, (case, section, index), lent(seed), sides);
+        let far = [count + 1, 1 << 32, (1 << 32) + count / 2, u64::MAX, u64::MAX / 20];
+        let past = if most == u64::MAX { far.to_vec() } else { vec![far[seed.below(5) as usize]] };
+        for index in past.into_iter().chain([count]) {
+            one_record(board, asked, seed, (section, index), Err(20));
         }
-        one_count(board, calls, file, &map, case, section, Ok(vec![count]));
+        one_count(board, asked, section, Sides::both(Ok(vec![count]), on_paper(asked, section)));
     }
-    byte_sections(board, calls, file, &map, case, &rust);
-    entities(board, calls, file, &map, case, &rust);
-    short_lists(board, calls, file, &map, case, seed);
+    byte_sections(board, asked, rust);
+    entities(board, asked, rust);
+}
+
+/// Indices below a count: all if they are at most `most`, else the first, the last and others.
+pub fn chosen(seed: &mut Seed, count: u64, most: u64) -> Vec<u64> {
+    if count <= most {
+        return (0..count).collect();
+    }
+    [0, count - 1].into_iter().chain((0..most).map(|_| seed.below(count))).collect()
+}
+
+fn on_paper(asked: &Asked, section: u32) -> Words {
+    Ok(vec![asked.paper().count(section as usize)])
 }
 
 fn one_record(
     board: &mut Board,
-    calls: &Calls,
-    file: &[u8],
-    map: &[u32],
-    (case, section, index): (u64, u32, u64),
-    lent: usize,
-    sides: Sides<Words>,
+    asked: &Asked,
+    seed: &mut Seed,
+    (section, index): (u32, u64),
+    rust: Words,
 ) {
+    let Asked { calls, file, map, .. } = *asked;
     board.words(
         "bsp_record",
-        lent,
-        sides,
+        RECORD_WORDS + seed.below(4) as usize,
+        Sides::both(rust, asked.paper().record_words(section, index)),
         |out| (calls.record)(file, map, section, index, out),
-        || {
-            let text =
-                format!("case {case}, section {section}, record {index}, {}", file_shown(file));
-            (file.len(), text)
-        },
+        || asked.input(format!("section {section}, record {index}")),
     );
 }
 
-fn one_count(
-    board: &mut Board,
-    calls: &Calls,
-    file: &[u8],
-    map: &[u32],
-    case: u64,
-    section: u32,
-    expected: Words,
-) {
+fn one_count(board: &mut Board, asked: &Asked, section: u32, sides: Sides<Words>) {
+    let Asked { calls, map, .. } = *asked;
     board.words(
         "bsp_count",
         2,
-        Sides::rust(expected),
+        sides,
         |out| (calls.count)(map, section, out),
-        || (file.len(), format!("case {case}, section {section}, map {map:?}")),
+        || asked.input(format!("section {section}, map {map:?}")),
     );
 }
 
 /// Sections of bytes have a count and no records; sections from 15 on are none.
-fn byte_sections(
-    board: &mut Board,
-    calls: &Calls,
-    file: &[u8],
-    map: &[u32],
-    case: u64,
-    rust: &richter::Map,
-) {
+fn byte_sections(board: &mut Board, asked: &Asked, rust: &richter::Map) {
+    let Asked { calls, file, map, .. } = *asked;
     let counts = [
         (0, rust.entities().len()),
         (2, map[2 * TEXTURES + 1] as usize),
@@ -118,56 +124,46 @@ fn byte_sections(
         (8, rust.lightmaps().len()),
     ];
     for (section, count) in counts {
-        one_count(board, calls, file, map, case, section, Ok(vec![count as u64]));
+        let counted = Ok(vec![count as u64]);
+        one_count(board, asked, section, Sides::both(counted, on_paper(asked, section)));
     }
     for section in [15, 16, 31, 256, u32::MAX] {
-        one_count(board, calls, file, map, case, section, Err(20));
+        one_count(board, asked, section, Sides::paper(Err(20)));
     }
     for section in [0, 2, 4, 8, 15, 16, 31, 257, u32::MAX] {
-        let place = (case, section, 0);
-        one_record(board, calls, file, map, place, RECORD_WORDS, Sides::paper(Err(20)));
+        let call = |out: &mut [u64]| (calls.record)(file, map, section, 0, out);
+        let input = || asked.input(format!("section {section}, record 0"));
+        board.words("bsp_record", RECORD_WORDS, Sides::paper(Err(20)), call, input);
     }
 }
 
 /// The entity text lies where the section does and is the Rust's.
-fn entities(
-    board: &mut Board,
-    calls: &Calls,
-    file: &[u8],
-    map: &[u32],
-    case: u64,
-    rust: &richter::Map,
-) {
+fn entities(board: &mut Board, asked: &Asked, rust: &richter::Map) {
+    let Asked { calls, file, map, .. } = *asked;
     let text = rust.entities();
-    let input = || (file.len(), format!("case {case}, {}", file_shown(file)));
     let expected = Ok(vec![map[0] as u64, text.len() as u64]);
+    let paper = asked.paper().entities().map(|place| place.to_vec());
     board.words(
         "bsp_entities",
         3,
-        Sides::rust(expected),
+        Sides::both(expected, paper),
         |out| {
             let refusal = (calls.entities)(file, map, out);
-            let place = out[0] as usize..(out[0] + out[1]) as usize;
+            let place = out[0] as usize..(out[0].wrapping_add(out[1])) as usize;
             if refusal == 0 && !text.is_empty() && file.get(place) != Some(text) {
                 return 99;
             }
             refusal
         },
-        input,
+        || asked.input("entities".to_string()),
     );
 }
 
 /// Lists that are too short are 22, whatever else is wrong.
-fn short_lists(
-    board: &mut Board,
-    calls: &Calls,
-    file: &[u8],
-    map: &[u32],
-    case: u64,
-    seed: &mut Seed,
-) {
+fn short_lists(board: &mut Board, asked: &Asked, seed: &mut Seed) {
+    let Asked { calls, file, map, .. } = *asked;
     let few = seed.below(31) as usize;
-    let input = || (file.len(), format!("case {case}, short lists, {few} words of a map"));
+    let input = || asked.input(format!("short lists, {few} words of a map"));
     let section = seed.below(17) as u32;
     let index = seed.below(3) * (u64::MAX / 2);
     let refused = || Sides::paper(Err(22));

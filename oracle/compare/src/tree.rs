@@ -10,7 +10,8 @@ use std::collections::BTreeSet;
 use maps::record::{ClipNode, RenderNode, Tables};
 use maps::{Layout, Seed};
 
-use crate::board::{file_shown, shown, Board, Plan};
+use crate::asked::Asked;
+use crate::board::{file_shown, shown, Board, Plan, Side};
 use crate::calls::Calls;
 use crate::paper::records::Child;
 use crate::paper::{self, tree, Answer};
@@ -100,7 +101,7 @@ fn one(board: &mut Board, calls: &Calls, asked: &Table, marks: &[u8], case: impl
         let text = format!("{}, table {table}, root {root}, marks {}", case(), shown(&marks));
         (file.len(), format!("{text}, {}", file_shown(file)))
     };
-    board.count("bsp_tree_check", refusal, difference, input);
+    board.count("bsp_tree_check", (refusal, Side::Paper), difference, input);
     if table < 2 && expected != Err(22) {
         condition(board, &on_paper, asked, &expected, input);
     }
@@ -119,7 +120,7 @@ fn condition(
         true => None,
         false => Some(format!("the check says {found:?}, the gathered tree {gathered:?}")),
     };
-    board.count("paper, tree condition", 0, difference, input);
+    board.count_paper("tree condition", difference, input);
 }
 
 /// The root's tree and its height, if no rule is broken anywhere in it; in no particular order.
@@ -311,7 +312,9 @@ fn seeded(board: &mut Board, calls: &Calls, seed: &mut Seed, case: u64) {
         let asked = Table { file: &made.file, map: &made.map, table, root };
         let marks = marks(seed, count);
         one(board, calls, &asked, &marks, || format!("case {case}"));
-        demand_3(board, seed, &asked, case);
+        if let Ok(rust) = richter::load(&made.file) {
+            demand_3(board, seed, &asked, &rust, || format!("case {case}"));
+        }
     }
     short_lists(board, calls, seed, &made);
 }
@@ -349,10 +352,15 @@ fn by_hand(seed: &mut Seed, made: &mut Made, table: u32) {
 
 /// From a root that passed, the Rust's walks and traces are answered, enter nodes of the root's
 /// tree alone and none twice, and walks are no longer than the height.
-fn demand_3(board: &mut Board, seed: &mut Seed, asked: &Table, case: u64) {
+fn demand_3(
+    board: &mut Board,
+    seed: &mut Seed,
+    asked: &Table,
+    rust: &richter::Map,
+    case: impl Fn() -> String,
+) {
     let map = paper::Map::new(asked.file, asked.map).expect("enough words");
     let Some((tree, height)) = gathered(&map, asked.table, asked.root) else { return };
-    let Ok(rust) = richter::load(asked.file) else { return };
     if asked.table > 1 || crate::records::map_of_header(asked.file)[..] != asked.map[..] {
         return;
     }
@@ -371,9 +379,25 @@ fn demand_3(board: &mut Board, seed: &mut Seed, asked: &Table, case: u64) {
         && inside(&traced.nodes)
         && walked.nodes.len() as u64 <= height;
     let difference = (!holds).then(|| format!("{walked:?} {traced:?}"));
-    board.count("Rust, from a root that passed", 0, difference, || {
-        (asked.file.len(), format!("case {case}, root {}", asked.root))
+    board.count("Rust, from a root that passed", (0, Side::Rust), difference, || {
+        (asked.file.len(), format!("{}, root {}", case(), asked.root))
     });
+}
+
+/// Both tables of a map that the Rust loaded: from its models' roots and from others.
+pub fn of_loaded(board: &mut Board, asked: &Asked, seed: &mut Seed, rust: &richter::Map) {
+    let Asked { calls, name, file, map } = *asked;
+    let models = asked.paper().count(paper::MODELS);
+    let model = seed.below(models.max(1));
+    for table in 0..2 {
+        let count = asked.paper().count([paper::RENDER_NODES, paper::CLIP_NODES][table as usize]);
+        let hull = rust.hull(model as usize, table as usize).expect("a hull");
+        for root in [0, hull.root() as u64, tables::root(seed, count)] {
+            let table = Table { file, map, table, root };
+            one(board, calls, &table, &marks(seed, count as usize), name);
+            demand_3(board, seed, &table, rust, name);
+        }
+    }
 }
 
 /// A map record or a list of words that is too short is 22 before a table that is none.
@@ -387,7 +411,7 @@ fn short_lists(board: &mut Board, calls: &Calls, seed: &mut Seed, made: &Made) {
         let refusal = (calls.tree_check)(&made.file, map, table, 0, &mut left, &mut out);
         let equal = refusal == 22 && left == marks && out.iter().all(|word| *word == 7);
         let difference = (!equal).then(|| format!("answers {refusal}, expected 22"));
-        board.count("bsp_tree_check", refusal, difference, || {
+        board.count("bsp_tree_check", (refusal, Side::Paper), difference, || {
             (words, format!("{words} words of a map, {lent} of the answer, table {table}"))
         });
     }

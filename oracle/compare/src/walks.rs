@@ -8,7 +8,8 @@ use maps::{make, Seed};
 use richter::map::RenderChild;
 use richter::Hull;
 
-use crate::board::{file_shown, shown, Board, Plan, Sides};
+use crate::asked::Asked;
+use crate::board::{shown, Board, Plan, Sides};
 use crate::calls::Calls;
 use crate::calls_stub::{TRACE_WORDS, WALK_WORDS};
 use crate::paper::{self, walk};
@@ -40,24 +41,6 @@ pub fn compare(calls: &Calls, plan: &Plan) -> Board {
     }
     richter::probe::set_patience(usize::MAX);
     board
-}
-
-/// What is asked about: the calls, and a file with its map record.
-pub struct Asked<'a> {
-    pub calls: &'a Calls,
-    pub case: u64,
-    pub file: &'a [u8],
-    pub map: &'a [u32],
-}
-
-impl Asked<'_> {
-    pub fn paper(&self) -> paper::Map<'_> {
-        paper::Map::new(self.file, self.map).expect("enough words")
-    }
-
-    pub fn input(&self, text: String) -> (usize, String) {
-        (self.file.len(), format!("case {}, {text}, {}", self.case, file_shown(self.file)))
-    }
 }
 
 /// Words and nodes of a walk on paper; none where it gave up.
@@ -193,11 +176,9 @@ pub fn find_leaf(
     rust: Option<richter::Answer<usize>>,
 ) {
     let rust = rust.and_then(|a| words::walk(a, |leaf, visits| vec![leaf as u64, visits]));
-    // a leaf outside its table is refused when met
-    let rust = rust.map(|(words, nodes)| match words {
-        Ok(words) if words[0] >= asked.paper().count(paper::LEAVES) => (Err(30), nodes),
-        words => (words, nodes),
-    });
+    // a leaf outside its table is refused when met; over tables made by hand the Rust answers it
+    let leaves = asked.paper().count(paper::LEAVES);
+    let rust = rust.filter(|(words, _)| words.as_ref().map_or(true, |words| words[0] < leaves));
     let paper = on_paper(walk::find_leaf(&asked.paper(), root, p), with_visits);
     let Asked { calls, file, map, .. } = *asked;
     both_calls(
@@ -239,12 +220,12 @@ fn on_map(board: &mut Board, calls: &Calls, seed: &mut Seed, case: u64) {
     let Ok(rust) = richter::load(&made.file) else {
         panic!("case {case}: the Rust refuses a map made to load");
     };
-    let asked = Asked { calls, case, file: &made.file, map: &made.map };
+    let asked = Asked { calls, name: &|| format!("case {case}"), file: &made.file, map: &made.map };
     hulls(board, &asked, seed, &rust, what.models as u64);
     for _ in 0..12 {
         let p = tables::point(seed, &made.tables.planes);
         let s = tables::segment(seed, &made.tables.planes);
-        from_roots(board, &asked, seed, &rust, &made, p, s);
+        from_roots(board, &asked, seed, &rust, p, s);
     }
     short_lists(board, &asked, seed);
 }
@@ -258,7 +239,7 @@ fn on_world(board: &mut Board, calls: &Calls, seed: &mut Seed, case: u64) {
     let Ok(rust) = richter::load(&made.file) else {
         panic!("case {case}: the Rust refuses a world");
     };
-    let asked = Asked { calls, case, file: &made.file, map: &made.map };
+    let asked = Asked { calls, name: &|| format!("case {case}"), file: &made.file, map: &made.map };
     for _ in 0..100 {
         let mut p = [0; 3].map(|_| maps::floats::half(seed) * 2.0 * world::SIDE);
         if seed.once_in(4) {
@@ -268,29 +249,28 @@ fn on_world(board: &mut Board, calls: &Calls, seed: &mut Seed, case: u64) {
         let length = [1.0, 100.0, 4000.0][seed.below(3) as usize];
         let end = [0, 1, 2].map(|at| p[at] + length * way[at]);
         let s = [p[0], p[1], p[2], end[0], end[1], end[2]];
-        from_roots(board, &asked, seed, &rust, &made, p, s);
+        from_roots(board, &asked, seed, &rust, p, s);
     }
 }
 
 /// Both tables of a map that the Rust has, each from some root.
-fn from_roots(
+pub fn from_roots(
     board: &mut Board,
     asked: &Asked,
     seed: &mut Seed,
     rust: &richter::Map,
-    made: &Made,
     p: [f32; 3],
     s: [f32; 6],
 ) {
-    let counts = [made.tables.render_nodes.len(), made.tables.clip_nodes.len()];
+    let counts = [paper::RENDER_NODES, paper::CLIP_NODES].map(|at| asked.paper().count(at));
     for table in 0..2 {
-        let root = tables::root(seed, counts[table] as u64);
+        let root = tables::root(seed, counts[table]);
         let words = hull_words(seed, table as u64, root);
         let hull = rust.table(table).with_root(root as usize);
         contents(board, asked, seed, &words, Some(&hull), p);
         trace(board, asked, seed, &words, Some(&hull), s);
     }
-    let root = tables::root(seed, counts[0] as u64);
+    let root = tables::root(seed, counts[0]);
     let found = match root {
         0 if counts[0] > 0 => rust.find_leaf(p),
         root => rust.leaf_finder(root as usize).find_leaf(p),
@@ -300,25 +280,37 @@ fn from_roots(
 
 /// `bsp_hull` for every model and hull, and walks from what it answers.
 fn hulls(board: &mut Board, asked: &Asked, seed: &mut Seed, rust: &richter::Map, models: u64) {
-    let Asked { calls, file, map, .. } = *asked;
     for model in (0..models + 2).chain([1 << 32, u64::MAX]) {
         for index in [0, 1, 2, 3, 4, 1 << 32, u64::MAX] {
-            let hull = rust.hull(model as usize, index as usize);
-            let expected = match &hull {
-                Ok(hull) => Ok(words::hull(index.min(1), hull)),
-                Err(refusal) => Err(words::number(*refusal).expect("a number")),
-            };
-            let input = || asked.input(format!("model {model}, hull {index}"));
-            let sides = Sides::both(expected.clone(), asked.paper().hull_words(model, index));
-            let call = |out: &mut [u64]| (calls.hull)(file, map, model, index, out);
-            board.words("bsp_hull", 9 + seed.below(3) as usize, sides, call, input);
-            if let (Ok(hull), Ok(words)) = (hull, expected) {
-                let p = tables::point(seed, &[]);
-                contents(board, asked, seed, &words, Some(&hull), p);
-                let s = tables::segment(seed, &[]);
-                trace(board, asked, seed, &words, Some(&hull), s);
-            }
+            one_hull(board, asked, seed, rust, (model, index), &[]);
         }
+    }
+}
+
+/// `bsp_hull`, and a walk and a trace from what it answers, at or near these planes.
+pub fn one_hull(
+    board: &mut Board,
+    asked: &Asked,
+    seed: &mut Seed,
+    rust: &richter::Map,
+    (model, index): (u64, u64),
+    planes: &[Plane],
+) {
+    let Asked { calls, file, map, .. } = *asked;
+    let hull = rust.hull(model as usize, index as usize);
+    let expected = match &hull {
+        Ok(hull) => Ok(words::hull(index.min(1), hull)),
+        Err(refusal) => Err(words::number(*refusal).expect("a number")),
+    };
+    let input = || asked.input(format!("model {model}, hull {index}"));
+    let sides = Sides::both(expected.clone(), asked.paper().hull_words(model, index));
+    let call = |out: &mut [u64]| (calls.hull)(file, map, model, index, out);
+    board.words("bsp_hull", 9 + seed.below(3) as usize, sides, call, input);
+    if let (Ok(hull), Ok(words)) = (hull, expected) {
+        let p = tables::point(seed, planes);
+        contents(board, asked, seed, &words, Some(&hull), p);
+        let s = tables::segment(seed, planes);
+        trace(board, asked, seed, &words, Some(&hull), s);
     }
 }
 
@@ -346,13 +338,13 @@ fn on_table(board: &mut Board, calls: &Calls, seed: &mut Seed, case: u64, kind: 
     let Ok(rust) = richter::load(&made.file) else {
         panic!("case {case}: the Rust refuses a table made to load");
     };
-    let asked = Asked { calls, case, file: &made.file, map: &made.map };
+    let asked = Asked { calls, name: &|| format!("case {case}"), file: &made.file, map: &made.map };
     for _ in 0..4 {
         let s = tables::segment_at(seed, &made.tables.planes, p);
-        from_roots(board, &asked, seed, &rust, &made, p, s);
+        from_roots(board, &asked, seed, &rust, p, s);
         let p = tables::point(seed, &made.tables.planes);
         let s = tables::segment(seed, &made.tables.planes);
-        from_roots(board, &asked, seed, &rust, &made, p, s);
+        from_roots(board, &asked, seed, &rust, p, s);
     }
 }
 
@@ -373,7 +365,7 @@ fn outside_leaves(board: &mut Board, calls: &Calls, seed: &mut Seed, case: u64) 
         }
     }
     let made = Made::new(made, &maps::Layout::plain());
-    let asked = Asked { calls, case, file: &made.file, map: &made.map };
+    let asked = Asked { calls, name: &|| format!("case {case}"), file: &made.file, map: &made.map };
     let rust_planes: Vec<_> = made.tables.planes.iter().map(tables::rust_plane).collect();
     let child = |c: i16| match c {
         0.. => RenderChild::Node(c as usize),
@@ -397,44 +389,49 @@ fn outside_leaves(board: &mut Board, calls: &Calls, seed: &mut Seed, case: u64) 
     }
 }
 
-/// Boxes: made by the call, and words made by hand with any bounds and roots.
+/// Boxes over no file.
 fn on_boxes(board: &mut Board, calls: &Calls, seed: &mut Seed, case: u64) {
-    let asked = Asked { calls, case, file: &[], map: &[0; 31] };
+    let name = || format!("case {case}");
+    let asked = Asked { calls, name: &name, file: &[], map: &[0; 31] };
     for _ in 0..8 {
-        let bounds = bounds(seed);
-        let made = Hull::for_bounds(three(&bounds), three(&bounds[3..]));
-        let expected = match &made {
-            Ok(hull) => Ok(words::hull(2, hull)),
-            Err(refusal) => Err(words::number(*refusal).expect("a number")),
-        };
-        let input = || asked.input(format!("bounds {}", bits_of(&bounds)));
-        let sides = Sides::both(expected.clone(), walk::box_words(&bounds));
-        let lent = 9 + seed.below(3) as usize;
-        board.words("bsp_box", lent, sides, |out| (calls.bounds)(&bounds, out), input);
-        let root = match seed.below(3) {
-            0 => tables::root(seed, 6),
-            _ => 0,
-        };
-        let hull = box_by_hand(&bounds, root);
-        let mut words = expected.unwrap_or_else(|_| hull_words(seed, 2, root).to_vec());
-        words[1] = root;
-        for (at, bound) in bounds.iter().enumerate() {
-            // the low 32 bits count
-            words[3 + at] = bound.to_bits() as u64 | (seed.next() >> 32) << 32;
-        }
-        let planes = box_planes(&bounds);
-        for _ in 0..4 {
-            let p = tables::point(seed, &planes);
-            contents(board, &asked, seed, &words, Some(&hull), p);
-            let s = tables::segment(seed, &planes);
-            trace(board, &asked, seed, &words, Some(&hull), s);
-        }
+        one_box(board, &asked, seed, 4);
     }
     short_boxes(board, calls, seed);
 }
 
+/// A box: made by the call, and words made by hand with any bounds and root; so many walks and
+/// traces.
+pub fn one_box(board: &mut Board, asked: &Asked, seed: &mut Seed, walks: u32) {
+    let calls = asked.calls;
+    let bounds = bounds(seed);
+    let made = Hull::for_bounds(three(&bounds), three(&bounds[3..]));
+    let expected = match &made {
+        Ok(hull) => Ok(words::hull(2, hull)),
+        Err(refusal) => Err(words::number(*refusal).expect("a number")),
+    };
+    let input = || asked.input(format!("bounds {}", bits_of(&bounds)));
+    let sides = Sides::both(expected.clone(), walk::box_words(&bounds));
+    let lent = 9 + seed.below(3) as usize;
+    board.words("bsp_box", lent, sides, |out| (calls.bounds)(&bounds, out), input);
+    let root = if seed.once_in(3) { tables::root(seed, 6) } else { 0 };
+    let hull = box_by_hand(&bounds, root);
+    let mut words = expected.unwrap_or_else(|_| hull_words(seed, 2, root).to_vec());
+    words[1] = root;
+    for (at, bound) in bounds.iter().enumerate() {
+        // the low 32 bits count
+        words[3 + at] = bound.to_bits() as u64 | (seed.next() >> 32) << 32;
+    }
+    let planes = box_planes(&bounds);
+    for _ in 0..walks {
+        let p = tables::point(seed, &planes);
+        contents(board, asked, seed, &words, Some(&hull), p);
+        let s = tables::segment(seed, &planes);
+        trace(board, asked, seed, &words, Some(&hull), s);
+    }
+}
+
 /// Mins and maxs, most of them in order.
-fn bounds(seed: &mut Seed) -> [f32; 6] {
+pub fn bounds(seed: &mut Seed) -> [f32; 6] {
     let mut bounds = [0.0; 6];
     for at in 0..3 {
         let a = maps::floats::coordinate(seed, 6);
@@ -452,7 +449,7 @@ fn bounds(seed: &mut Seed) -> [f32; 6] {
 }
 
 /// The planes of a box as a file would hold them, for points that lie on them.
-fn box_planes(bounds: &[f32; 6]) -> Vec<Plane> {
+pub fn box_planes(bounds: &[f32; 6]) -> Vec<Plane> {
     (0..6).map(|at| Plane { normal: [0.0; 3], dist: bounds[at], kind: (at % 3) as i32 }).collect()
 }
 
@@ -505,6 +502,18 @@ fn short_lists(board: &mut Board, asked: &Asked, seed: &mut Seed) {
         if short != 1 && short != 4 {
             refused_leaves(board, asked, &lent, words, number);
         }
+    }
+    short_hulls(board, asked, seed);
+}
+
+/// The same for the hull of a model, whatever its number.
+fn short_hulls(board: &mut Board, asked: &Asked, seed: &mut Seed) {
+    let Asked { calls, file, map, .. } = *asked;
+    let (model, index) = (seed.below(2) * u64::MAX, seed.below(5));
+    for (words, lent) in [(seed.below(31) as usize, 9), (31, seed.below(9) as usize)] {
+        let call = |out: &mut [u64]| (calls.hull)(file, &map[..words], model, index, out);
+        let input = || asked.input(format!("{words} words of a map, {lent} of a hull"));
+        board.words("bsp_hull", lent, Sides::paper(Err(22)), call, input);
     }
 }
 

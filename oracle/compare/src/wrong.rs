@@ -3,7 +3,7 @@
 use crate::board::{Board, Plan};
 use crate::calls::Calls;
 use crate::calls_stub as stub;
-use crate::{hand_made, loads, pvs, records, tree, walks};
+use crate::{all, coverage, hand_made, joins, loads, pvs, records, replay, sample, tree, walks};
 
 const PLAN: Plan = Plan { cases: 250, from: 0, seed: 7, quick: true };
 
@@ -29,13 +29,14 @@ fn right() -> Calls {
     }
 }
 
-const MODES: [Compare; 6] = [
+const MODES: [Compare; 7] = [
     records::compare,
     hand_made::compare,
     walks::compare,
     tree::compare,
     pvs::compare,
     loads::compare,
+    joins::compare,
 ];
 
 #[test]
@@ -48,14 +49,45 @@ fn the_stub_agrees() {
 }
 
 #[test]
-fn every_number_is_met() {
-    let mut met = std::collections::BTreeSet::new();
-    for compare in MODES {
-        let board = compare(&right(), &PLAN);
-        met.extend(board.lines().iter().flat_map(|line| line.refusals.keys().copied()));
-    }
-    let all = (1..=12).chain(20..=23).chain(30..=34);
-    assert_eq!(met.into_iter().collect::<Vec<u32>>(), all.collect::<Vec<u32>>());
+fn every_refusal_of_every_call_is_met() {
+    let board = all::compare(&right(), &PLAN);
+    assert_eq!(board.blamed(), Vec::<String>::new());
+    assert_eq!(coverage::faults(&board, true), coverage::Faults::default());
+}
+
+#[test]
+fn a_refusal_not_met_is_noticed() {
+    let board = records::compare(&right(), &PLAN);
+    let faults = coverage::faults(&board, true);
+    assert!(faults.unmet.contains(&"bsp_record can give 23: not met".to_string()));
+    assert!(!faults.unmet.contains(&"bsp_record can give 20: not met".to_string()));
+    assert!(faults.impossible.is_empty());
+}
+
+#[test]
+fn a_refusal_that_cannot_be_is_noticed() {
+    let calls = Calls { count: |m, s, o| stub::bsp_count(m, s, o).max(19), ..right() };
+    let faults = coverage::faults(&records::compare(&calls, &PLAN), true);
+    assert_eq!(faults.impossible, ["bsp_count cannot give 19"]);
+}
+
+#[test]
+fn a_sample_is_replayed() {
+    let sample = sample::write(3, true);
+    assert_eq!(sample.text, sample::write(3, true).text);
+    let board = replay::replay(&right(), &sample.text);
+    assert_eq!(board.blamed(), Vec::<String>::new());
+    assert_eq!(board.lines().len(), 13);
+    let trace: fn(&[u8], &[u32], &[u64], &[f32], &mut [u64]) -> u32 =
+        |f, m, h, s, o| changed(stub::bsp_trace(f, m, h, s, o), o, |o| o[0] += (o[0] == 6) as u64);
+    let board = replay::replay(&Calls { trace, ..right() }, &sample.text);
+    assert_eq!(board.blamed(), ["bsp_trace"]);
+}
+
+#[test]
+fn a_sample_without_lists() {
+    let board = replay::replay(&right(), &sample::write(3, false).text);
+    assert!(board.lines().iter().all(|line| !line.name.ends_with("_nodes")));
 }
 
 macro_rules! wrong {
@@ -153,6 +185,18 @@ wrong! {
     hand_made: list_of_a_section_outside, pvs, "bsp_pvs", |f, m, l, c, list, o| {
         match stub::bsp_pvs(f, m, l, c, list, o) {
             23 if m[8] as usize > f.len() => 33,
+            refusal => refusal,
+        }
+    };
+    hand_made: entities_of_any_length, entities, "bsp_entities", |f, m, o| {
+        match stub::bsp_entities(f, m, o) {
+            23 if (m[0] as usize) < f.len() => 8,
+            refusal => refusal,
+        }
+    };
+    hand_made: list_above_its_limit, pvs, "bsp_pvs", |f, m, l, c, list, o| {
+        match stub::bsp_pvs(f, m, l, c, list, o) {
+            23 if m[9] > 1_048_576 && (m[8] + m[9]) as usize <= f.len() => 33,
             refusal => refusal,
         }
     };
@@ -312,6 +356,39 @@ wrong! {
         }
     };
 
+    loads: a_record_of_what_loads, record, "bsp_record", |f, m, s, i, o| {
+        changed(stub::bsp_record(f, m, s, i, o), o, |o| if s == 10 && i == 1 { o[13] ^= 1 })
+    };
+    loads: a_count_of_what_loads, count, "bsp_count", |m, s, o| {
+        changed(stub::bsp_count(m, s, o), o, |o| o[0] -= (s == 11 && o[0] == 70_001) as u64)
+    };
+    loads: a_text_of_what_loads, entities, "bsp_entities", |f, m, o| {
+        changed(stub::bsp_entities(f, m, o), o, |o| o[1] -= (o[1] == 65_536) as u64)
+    };
+    loads: a_hull_of_what_loads, hull, "bsp_hull", |f, m, n, i, o| {
+        changed(stub::bsp_hull(f, m, n, i, o), o, |o| o[5] ^= (i == 2 && n == 1) as u64)
+    };
+    loads: a_trace_of_what_loads, trace, "bsp_trace", |f, m, h, s, o| {
+        match stub::bsp_trace(f, m, h, s, o) {
+            32 => 30,
+            refusal => refusal,
+        }
+    };
+    loads: a_leaf_of_what_loads, find_leaf, "bsp_find_leaf", |f, m, r, p, o| {
+        changed(stub::bsp_find_leaf(f, m, r, p, o), o, |o| o[1] += (o[1] == 2) as u64)
+    };
+    loads: a_list_of_what_loads, pvs, "bsp_pvs", |f, m, l, c, list, o| {
+        match stub::bsp_pvs(f, m, l, c, list, o) {
+            33 if c == 2 => 22,
+            refusal => refusal,
+        }
+    };
+    loads: a_tree_of_what_loads, tree_check, "bsp_tree_check", |f, m, t, r, marks, o| {
+        match stub::bsp_tree_check(f, m, t, r, marks, o) {
+            34 if t == 0 => 30,
+            refusal => refusal,
+        }
+    };
     loads: short_rows_are_short, load, "bsp_load", |f, m| match stub::bsp_load(f, m) {
         7 => 1,
         refusal => refusal,

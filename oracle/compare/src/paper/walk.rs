@@ -69,9 +69,9 @@ impl Map<'_> {
     }
 }
 
-struct Node {
-    plane: u64,
-    children: [Child; 2],
+pub struct Node {
+    pub plane: u64,
+    pub children: [Child; 2],
 }
 
 /// What a walk needs of a table.
@@ -134,7 +134,7 @@ impl Nodes<'_> {
 }
 
 /// The six nodes of a box: outside Empty, inside Solid.
-fn box_node(index: u64) -> Node {
+pub fn box_node(index: u64) -> Node {
     let (empty, solid) = (Child::Contents(1), Child::Contents(2));
     let next = Child::Node(index + 1);
     let children = match index {
@@ -188,13 +188,13 @@ pub fn find_leaf(map: &Map, root: u64, p: Vector) -> Walked<u64> {
 
 #[derive(Clone, Debug)]
 pub struct Trace {
-    start: Vector,
-    start_ratio: f32,
-    end: Vector,
+    pub start: Vector,
+    pub start_ratio: f32,
+    pub end: Vector,
     /// Ratio and plane; none for a terminal end.
-    boundary: Option<(f32, Plane)>,
-    contents: u64,
-    start_solid: bool,
+    pub boundary: Option<(f32, Plane)>,
+    pub contents: u64,
+    pub start_solid: bool,
 }
 
 const SOLID: u64 = 2;
@@ -206,7 +206,7 @@ impl Trace {
     }
 
     /// Joined end to end: 19 where this one is terminal or ends elsewhere than the other starts.
-    fn join(self, other: Trace) -> Answer<Trace> {
+    pub fn join(self, other: Trace) -> Answer<Trace> {
         if self.boundary.is_none() || !same(self.end, other.start) {
             return Err(19);
         }

@@ -1,0 +1,55 @@
+//! Every comparison, one after the other and over again with further seeds, until so many calls
+//! were compared; then which refusals each call gave (`coverage`).
+
+use crate::board::{Board, Plan};
+use crate::calls::{self, Calls};
+use crate::{coverage, hand_made, joins, leaves, loads, pvs, records, tree, walks};
+
+type Mode = fn(&Calls, &Plan) -> Board;
+
+/// The modes, and the cases of each in a round.
+const MODES: [(Mode, u64); 7] = [
+    (records::compare, 500),
+    (hand_made::compare, 1_000),
+    (walks::compare, 1_000),
+    (tree::compare, 2_000),
+    (pvs::compare, 2_000),
+    (loads::compare, 2_000),
+    (joins::compare, 10_000),
+];
+
+/// `plan.cases` is the number of calls. False if anything differed, if a call gave a refusal that it
+/// cannot give, or, unless the run is a quick one, if one that it can give was not met or a function
+/// was not compared.
+pub fn run(plan: &Plan) -> bool {
+    let leaves = leaf_functions(plan);
+    let board = compare(&Calls::linked(), plan);
+    let equal = board.print();
+    let faults = coverage::print(&board);
+    let linked = board.calls(calls::is_linked);
+    println!("{linked} calls of the library, {}", if equal { "0 differ" } else { "some differ" });
+    leaves && equal && faults.impossible.is_empty() && (plan.quick || faults.unmet.is_empty())
+}
+
+/// The float, vector and plane functions in their quick form, if they are linked.
+fn leaf_functions(plan: &Plan) -> bool {
+    if !cfg!(feature = "ffi_math") {
+        println!("the library of the leaf functions is not linked: they are left out");
+        return plan.quick;
+    }
+    leaves::run(&leaves::Plan { quick: true, threads: 1, seed: plan.seed })
+}
+
+/// Rounds of every mode until the calls are enough.
+pub fn compare(calls: &Calls, plan: &Plan) -> Board {
+    let mut board = Board::new();
+    for round in 0.. {
+        for (mode, cases) in MODES {
+            board.join(mode(calls, &Plan { from: round * cases, cases, ..plan.clone() }));
+        }
+        if board.calls(|_| true) >= plan.cases {
+            break;
+        }
+    }
+    board
+}
