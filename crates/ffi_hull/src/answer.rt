@@ -15,9 +15,12 @@ use format::section::BspData;
 use hull::collision::BspCollisionHull;
 use hull::collision::HullAnswer;
 use hull::point::FoundLeaf;
-use hull::point::PointContents;
+use hull::point::WalkEnd;
+use hull::point::walk_to_end;
 use hull::tracing::Traced;
 use math::Vector3;
+use nodes::read::EndContents;
+use nodes::read::end_contents;
 use nodes::table::Tables;
 use words::give;
 
@@ -31,13 +34,17 @@ pub fn give_hull(hull: HullAnswer, out: &mut [u64]) -> u32
     }
 }
 
+// As `contents_at_point`, here step by step, so that the tables are handed on once.
 pub fn give_contents(file: &[u8], t: Tables, root: usize, point: Vector3, out: &mut [u64]) -> u32
     requires { ⌜ 2 ≤ length (now out) ⌝ }
     ensures { λ r. ⌜ written r (now (out .exit)) ≡ given (mapped Layout.contentsWords (withVisits (pointWalk (Fast.table (now (file .entry)) t) root point))) (now (out .entry)) ⌝ }
 {
-    match hull::point::contents_in(file, t, root, point) {
-        PointContents::Refused(e) => e.number(),
-        PointContents::Contents(contents, visits) => give(&[contents.code() as u64, visits], out),
+    match walk_to_end(file, t, root, point) {
+        WalkEnd::Refused(e) => e.number(),
+        WalkEnd::Word(word, visits) => match end_contents(file, t, word) {
+            EndContents::Refused(e) => e.number(),
+            EndContents::Contents(contents) => give(&[contents.code() as u64, visits], out),
+        },
     }
 }
 

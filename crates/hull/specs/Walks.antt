@@ -1,4 +1,4 @@
--- What the answers of the point walks say, in document 01's terms; and the walk to an end, which only the private walk's contract cites.
+-- What the answers of the point walks say, in document 01's terms; and the walk to an end, which the contract of `walk_to_end` cites.
 use Prim.Native.Nat.{ℕ}
 use mathlib.Core.Bool.{true}
 use Rattle.format.specs.Answer.{Answer, answer, refused}

@@ -75,7 +75,7 @@ fn walk_file(s: &[u8], t: Tables, render: bool, root: usize, point: Vector3) -> 
 }
 
 // The walk down any table; here the loop is over a box's nodes, and refuses as the file's does.
-fn walk_to_end(s: &[u8], t: Tables, root: usize, point: Vector3) -> WalkEnd
+pub fn walk_to_end(s: &[u8], t: Tables, root: usize, point: Vector3) -> WalkEnd
     ensures { λ r. ⌜ Walks.endAnswer (t .table) r ≡ withVisits (pointWalk (Walks.ends (Fast.table (now (s .entry)) t)) root point) ⌝ }
 {
     let table = t.table;
@@ -111,7 +111,7 @@ fn walk_to_end(s: &[u8], t: Tables, root: usize, point: Vector3) -> WalkEnd
 }
 
 // The contents at a point, from a node of a table on.
-pub fn contents_in(s: &[u8], t: Tables, root: usize, point: Vector3) -> PointContents
+fn contents_in(s: &[u8], t: Tables, root: usize, point: Vector3) -> PointContents
     ensures { λ r. ⌜ Walks.contentsAnswer r ≡ withVisits (pointWalk (Fast.table (now (s .entry)) t) root point) ⌝ }
 {
     match walk_to_end(s, t, root, point) {

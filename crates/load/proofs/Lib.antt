@@ -6,4 +6,3 @@ pub mod Passed
 pub mod Sizes
 mod Limits
 pub mod Loads
-mod Trials

@@ -5,5 +5,4 @@ pub mod RustLoop
 pub mod Passes
 pub mod Lists
 pub mod Sections
-mod Trials
 mod MapTrials

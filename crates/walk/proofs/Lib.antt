@@ -8,7 +8,6 @@ pub mod NoPanic
 pub mod Root
 pub mod Steps
 pub mod CheckSteps
-pub mod Trials
 -- what these rest on
 mod Lists
 mod Marks
