@@ -82,11 +82,6 @@ module _ {E A : Type 0} (T : Table E A) (p : Vector3) where
 
   -- ---- the list that is left
 
-  length-trail : (n i : ℕ) → length (trail T p n i) ≡ n
-  unfolding trail
-  length-trail zero i = refl
-  length-trail (suc n) i = ap suc (length-trail n (next T p i))
-
   module _ (l : List ℕ) (root : ℕ) where
     fills-trail : (o : Outcome A) → Along root o → (v : ℕ) → length (take v l) ≡ v → Fills (nodesOf o) (take v l) (trail T p v root)
     fills-trail (done a ns) h v q = λ g. sym (h ∙ ap (λ (n : ℕ). trail T p n root) (g ∙ q))

@@ -1,6 +1,6 @@
 -- What is asked of a hull that is given by words. Assumes nothing.
 use Prim.Native.Nat.{ℕ}
-use mathlib.Core.Path.{_≡_, refl, sym, ap, _∙_}
+use mathlib.Core.Path.{_≡_, sym, ap, _∙_}
 use mathlib.Core.List.{List}
 use Rattle.format.specs.Answer.{Answer, mapped}
 use Rattle.format.specs.Refusal.{numberOf}

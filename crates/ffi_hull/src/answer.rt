@@ -39,7 +39,7 @@ pub fn give_contents(file: &[u8], t: Tables, root: usize, point: Vector3, out: &
     requires { ⌜ 2 ≤ length (now out) ⌝ }
     ensures { λ r. ⌜ written r (now (out .exit)) ≡ given (mapped Layout.contentsWords (withVisits (pointWalk (Fast.table (now (file .entry)) t) root point))) (now (out .entry)) ⌝ }
 {
-    match walk_to_end(file, t, root, point) {
+    match walk_to_end(file, t, root, point.x, point.y, point.z) {
         WalkEnd::Refused(e) => e.number(),
         WalkEnd::Word(word, visits) => match end_contents(file, t, word) {
             EndContents::Refused(e) => e.number(),

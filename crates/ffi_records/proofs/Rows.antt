@@ -1,7 +1,7 @@
 -- Lists of words, word by word. Assumes nothing.
 use Prim.Native.Nat.{ℕ}
-use mathlib.Core.Path.{_≡_, refl, ap, _∙_}
-use mathlib.Core.List.{List, [], _∷_}
+use mathlib.Core.Path.{_≡_, ap, _∙_}
+use mathlib.Core.List.{List, _∷_}
 use lib.IntN.{ℤ}
 use mir.Syntax.{w16, w64}
 use mir.Val.{SFits, toZ, ofZ}

@@ -1,18 +1,15 @@
 -- What `Root` says: `nearestRoot n` is the one q with (2q - 1)² < 4n < (2q + 1)², and the bit pattern of a root. Assumes nothing.
 use mathlib.Core.Path.{_≡_, refl, sym, ap, _∙_, subst}
-use mathlib.Core.Logic.{_⊎_, inl, inr}
-use Prim.Native.Nat.{ℕ, zero, suc, _+_, _-_, _*_, _/_, _%_, _^_, _≤_, _<_, zero-le}
-use native.Mathlib.Nat.{le-suc, le-antisymm, le-refl, le-trans, le-of-eq, le-of-lt, lt-of-lt-of-le, lt-of-le-of-lt, lt-irrefl, not-le-of-lt, lt-of-not-le, zero-lt-suc, zero-mul, mul-one, one-mul, mul-comm, mul-assoc, mul-left-comm, mul-right-comm, mul-pos, mul-le-mul, mul-le-mul-right, mul-le-mul-left, mul-lt-mul-of-pos-right, add-assoc, add-comm, add-left-comm, add-zero, mul-add, add-mul, suc-mul, mul-suc, mul-mul-mul-comm, mul-div-cancel, pow-succ', pow-suc, le-add-right}
-use native.Mathlib.Numerals.{add-one}
+use mathlib.Core.Logic.{inl, inr}
+use Prim.Native.Nat.{ℕ, zero, suc, _+_, _-_, _*_, _^_, _≤_, _<_}
+use native.Mathlib.Nat.{le-antisymm, mul-le-mul, add-assoc, mul-add, add-mul, suc-mul, mul-suc, mul-mul-mul-comm, pow-succ'}
 use native.Mathlib.Omega.{arith}
-use mathlib.Core.Bool.{Bool, true, false, not, _&&_, _||_, cond, true≢false, false≢true}
-use lib.IntN.{ℤ, pos, negsuc}
-use lib.Dec.{T, leb, ltb, eqb, leb→le, le→leb, ltb→lt, lt→ltb, nltb→le, eqb→eq, not-T, lit≤, lit<}
+use mathlib.Core.Bool.{Bool, true, false, not, cond}
+use lib.Dec.{T, ltb, ltb→lt, lt→ltb, nltb→le}
 use lib.Arith.{le→nltb}
-use lib.Pow.{pow-add, pow-pos, pow-mono, pow-lt, shl-lt}
 use lib.Ieee.Bits.{is-true, is-false}
-use Rattle.float.proofs.Compare.{T-of, F-of, order}
-use Rattle.float.specs.Root.{below-root, digits, nearestRoot, rootOfUnits, sqrt}
+use Rattle.float.proofs.Compare.{T-of, order}
+use Rattle.float.specs.Root.{below-root, digits, nearestRoot}
 
 -- ---- the digits: whatever the test, it passes at the result and fails at the number after it
 

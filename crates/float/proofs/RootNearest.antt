@@ -3,11 +3,11 @@
 use mathlib.Core.Path.{_≡_, refl, sym, ap, _∙_, subst}
 use mathlib.Core.Logic.{_⊎_, inl, inr}
 use Prim.Native.Nat.{ℕ, zero, suc, _+_, _-_, _*_, _/_, _%_, _^_, _≤_, _<_, zero-le}
-use native.Mathlib.Nat.{le-of-lt, lt-suc-self, suc-mul, one-mul, pow-suc, le-antisymm, le-trans, le-of-eq, lt-of-lt-of-le, lt-of-le-of-lt, lt-irrefl, not-le-of-lt, lt-of-not-le, le-of-suc-le-suc, zero-lt-suc, zero-mul, mul-one, mul-comm, mul-assoc, mul-left-comm, mul-right-comm, mul-mul-mul-comm, mul-pos, mul-le-mul, mul-le-mul-right, mul-le-mul-left, mul-lt-mul-of-pos-right, lt-of-mul-lt-mul-right, le-of-mul-le-mul-right, mul-div-cancel, div-one, add-mul, add-comm, eq-zero-or-pos, eq-or-lt-of-le}
+use native.Mathlib.Nat.{le-of-lt, lt-suc-self, suc-mul, one-mul, pow-suc, le-trans, le-of-eq, lt-of-lt-of-le, lt-of-le-of-lt, lt-irrefl, not-le-of-lt, lt-of-not-le, le-of-suc-le-suc, zero-lt-suc, mul-one, mul-assoc, mul-mul-mul-comm, mul-pos, mul-le-mul, mul-le-mul-right, mul-le-mul-left, mul-lt-mul-of-pos-right, lt-of-mul-lt-mul-right, mul-div-cancel, div-one, add-mul, eq-or-lt-of-le}
 use native.Mathlib.Omega.{arith}
-use mathlib.Core.Bool.{Bool, true, false, not, _&&_, cond}
+use mathlib.Core.Bool.{Bool, true, false, _&&_}
 use lib.IntN.{ℤ, pos, negsuc}
-use lib.Dec.{T, leb, ltb, eqb, leb→le, ltb→lt, lit≤, lit<}
+use lib.Dec.{T, leb, ltb, eqb, ltb→lt, lit≤, lit<}
 use lib.Pow.{pow-add, pow-pos, pow-mono, pow-lt, shl-lt}
 use lib.Ieee.{Float, nan, inf, fin, binary32, up, down, size, odd, fits}
 use lib.Ieee.Fits.{down-pos, and-l, and-r}
@@ -17,7 +17,7 @@ use lib.Ieee.Positive.{positive}
 use Rattle.float.proofs.Compare.{order, fits-down}
 use Rattle.float.specs.Root.{nearestRoot, rootOfUnits, sqrt}
 use Rattle.float.proofs.RootLaws.{Nearest, nearestRoot-law}
-use Rattle.float.proofs.RootPattern.{n-lo, n-hi, root-is, root-lo, root-hi}
+use Rattle.float.proofs.RootPattern.{n-lo, n-hi, root-is, root-lo}
 
 -- a finite value's size in units of 2 ^ -149
 abbrev pub inUnits : Float → ℕ

@@ -1,16 +1,15 @@
 -- The bit pattern of a root: from a pattern's value to the n whose root is taken, and from that root to a pattern. Assumes nothing.
 use mathlib.Core.Path.{_≡_, refl, sym, ap, _∙_, subst}
-use mathlib.Core.Logic.{_⊎_, inl, inr}
-use Prim.Native.Nat.{ℕ, zero, suc, _+_, _-_, _*_, _/_, _%_, _^_, _≤_, _<_, zero-le}
-use native.Mathlib.Nat.{eq-zero-or-pos, le-antisymm, le-trans, le-of-eq, lt-of-lt-of-le, lt-of-le-of-lt, lt-irrefl, not-le-of-lt, lt-of-not-le, zero-lt-suc, zero-mul, mul-one, mul-comm, mul-assoc, mul-right-comm, mul-pos, mul-le-mul, mul-le-mul-right, mul-le-mul-left, mul-lt-mul-of-pos-right, lt-of-mul-lt-mul-right, le-of-mul-le-mul-right, mul-div-cancel, mod-eq-of-lt, le-add-left, le-add-right, add-comm}
+use mathlib.Core.Logic.{inl, inr}
+use Prim.Native.Nat.{ℕ, zero, suc, _+_, _-_, _*_, _/_, _%_, _^_, _≤_, _<_}
+use native.Mathlib.Nat.{eq-zero-or-pos, le-antisymm, le-trans, le-of-eq, lt-of-lt-of-le, lt-irrefl, not-le-of-lt, lt-of-not-le, zero-lt-suc, zero-mul, mul-one, mul-assoc, mul-pos, mul-le-mul, mul-le-mul-right, mul-lt-mul-of-pos-right, lt-of-mul-lt-mul-right, le-of-mul-le-mul-right, mul-div-cancel, mod-eq-of-lt, le-add-left, add-comm}
 use native.Mathlib.Omega.{arith}
-use mathlib.Core.Bool.{Bool, true, false, not, _&&_, _||_, cond, true≢false, false≢true}
-use lib.IntN.{ℤ, pos, negsuc}
-use lib.Dec.{T, leb, ltb, eqb, leb→le, le→leb, ltb→lt, lt→ltb, eqb→eq, not-T, lit≤, lit<}
-use lib.Arith.{le→nltb}
+use mathlib.Core.Bool.{Bool, true, false, _&&_, _||_, cond, true≢false, false≢true}
+use lib.IntN.{ℤ}
+use lib.Dec.{T, leb, ltb, eqb, leb→le, le→leb, lt→ltb, eqb→eq, not-T, lit≤, lit<}
 use lib.Pow.{pow-add, pow-pos, pow-mono, shl-lt}
 use lib.Count.{leadingZeros, leading-top}
-use lib.Ieee.{Float, nan, inf, fin, binary32, up, down, size, odd, ofFields, ofBits, toBits, fits, lt, eq, isNan}
+use lib.Ieee.{Float, nan, inf, fin, binary32, up, down, size, odd, ofFields, ofBits, toBits, fits, lt, eq}
 use lib.Ieee.Fits.{up-pos, down-pos, and-l}
 use lib.Ieee.Digits.{size-lt, size-le}
 use lib.Ieee.Bits.{is-true, is-false, cond-no, ofBits-toBits, toBits-lt}

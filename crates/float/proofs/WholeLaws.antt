@@ -3,21 +3,21 @@ use mathlib.Core.Path.{_≡_, refl, sym, ap, _∙_, subst}
 use mathlib.Core.Logic.{_⊎_, inl, inr}
 use Prim.Native.Nat.{ℕ, zero, suc, _+_, _-_, _*_, _/_, _%_, _^_, _≤_, _<_, min, zero-le}
 use native.Mathlib.Numerals.{add-one}
-use native.Mathlib.Nat.{le-of-suc-le-suc, le-suc, le-antisymm, le-add-right, le-add-left, add-mul, lt-of-mul-lt-mul-right, le-trans, le-of-eq, lt-of-lt-of-le, lt-of-le-of-lt, lt-irrefl, not-le-of-lt, lt-of-not-le, zero-lt-suc, zero-mul, mul-one, one-mul, mul-comm, mul-assoc, mul-left-comm, mul-right-comm, mul-pos, mul-le-mul-right, mul-le-mul-left, mul-lt-mul-of-pos-right, le-div-iff-mul-le, div-lt-iff-lt-mul, div-mul-le-self, div-add-mod', div-one, mod-lt, eq-or-lt-of-le, eq-zero-or-pos, pow-succ', add-comm}
+use native.Mathlib.Nat.{le-of-suc-le-suc, le-suc, le-antisymm, le-add-right, le-add-left, add-mul, lt-of-mul-lt-mul-right, le-trans, le-of-eq, lt-of-lt-of-le, lt-irrefl, zero-lt-suc, zero-mul, mul-one, one-mul, mul-assoc, mul-right-comm, mul-pos, mul-le-mul-right, mul-lt-mul-of-pos-right, le-div-iff-mul-le, div-lt-iff-lt-mul, div-mul-le-self, eq-or-lt-of-le, pow-succ'}
 use native.Mathlib.Omega.{arith}
-use mathlib.Core.Bool.{Bool, true, false, not, _&&_, _||_, Bool·beq, cond, true≢false, false≢true}
+use mathlib.Core.Bool.{Bool, true, false, not, _&&_, _||_, cond, true≢false, false≢true}
 use lib.IntN.{ℤ, pos, negsuc, negℤ}
-use lib.Dec.{T, leb, ltb, eqb, leb→le, le→leb, ltb→lt, lt→ltb, nltb→le, nleb→lt, eqb→eq, eqb-refl, not-T, lit≤, lit<}
+use lib.Dec.{T, leb, ltb, eqb, le→leb, ltb→lt, lt→ltb, nltb→le, eqb→eq, lit≤, lit<}
 use lib.Arith.{le→nltb, digits-div}
-use lib.Pow.{pow-add, pow-pos, pow-mono, pow-lt, shl-lt}
+use lib.Pow.{pow-add, pow-pos}
 use lib.Ieee.{Float, nan, inf, fin, Format, binary32, prec, emax, low, up, down, odd, units, round, neg, lt, le, eq, ne, fits, isNan, ofInt, toUnsigned, toSigned, inFloat}
 use lib.Ieee.Fits.{and-l, and-r, up-pos, down-pos, round-is, round-fits}
-use lib.Ieee.Bits.{is-true, is-false}
+use lib.Ieee.Bits.{is-false}
 use lib.Ieee.Exact.{HasValue, round-exact}
 use lib.Ieee.Compare.{differs-from-itself}
 use lib.Ieee.Back.{round-whole, whole-unique}
 use lib.Ieee.Order.{kept, drop}
-use Rattle.float.specs.Whole.{minimum, maximum, cut, raised, ofWhole, floorOf, ceilOf}
+use Rattle.float.specs.Whole.{cut, raised, floorOf, ceilOf}
 use Rattle.float.proofs.Compare.{plus-zero, eq-self, T-of, F-of, or-cases, or-l, or-r, and-intro, eq→eqb, order, same-test}
 
 -- ---- min and max

@@ -1,6 +1,6 @@
 -- Each way through a trace at a crossing, from what the calls for its two parts answered.
 -- Assumes nothing.
-use Prim.Native.Nat.{ℕ, suc, _+_, _^_, _<_, _≤_}
+use Prim.Native.Nat.{ℕ, _+_, _^_, _<_}
 use mathlib.Core.Path.{_≡_, refl, sym, ap, _∙_}
 use mathlib.Core.Bool.{Bool, true, false}
 use mathlib.Core.List.{List, [], _++_}
@@ -12,16 +12,14 @@ use Rattle.format.specs.Answer.{Answer, answer}
 use Rattle.format.specs.Refusal.{numberOf}
 use Rattle.format.specs.declared.refusal.Refusal.{Refusal}
 use Rattle.format.specs.declared.contents.BspLeafContents.{BspLeafContents}
-use Rattle.math.specs.Vector as Vec
 use Rattle.math.specs.Plane as Pl
-use Rattle.math.specs.Vector.{zero32}
 use Rattle.math.specs.declared.Vector3.{Vector3}
 use Rattle.math.specs.declared.Hyperplane.{Hyperplane}
 use Rattle.math.specs.declared.HyperplaneSide.{HyperplaneSide}
 use Rattle.math.specs.declared.PointIntersection.{PointIntersection as Crossing}
 use Rattle.phys.specs.Trace as Tr
 use Rattle.phys.specs.declared.Trace.{Trace as TraceT}
-use Rattle.walk.specs.Table.{Child, Node, Table, childOn}
+use Rattle.walk.specs.Table.{Node, Table, childOn}
 use Rattle.walk.specs.Walk.{Outcome, done, refused, held, after}
 use Rattle.walk.specs.Trace.{joined, withFar, stops, nearOf, farOf, afterNear, withNear, recursiveTrace}
 use Rattle.walk.proofs.Steps.{after-done, after-refused}
@@ -33,7 +31,7 @@ use Rattle.nodes.specs.Fast.{nodeOf, planeIn}
 use Rattle.nodes.specs.Fast as Fast
 use Rattle.nodes.specs.declared.table.Tables.{Tables}
 use Rattle.nodes.specs.declared.read.Words.{Words as WordsT}
-use Rattle.hull.specs.Traces.{Met, metAnswer, metChild, metOn, withinLeaf, outOfLeaf, stopsAt, joinedWith, joinFar, tracedAnswer, crossedAt, resumed}
+use Rattle.hull.specs.Traces.{metAnswer, metChild, metOn, withinLeaf, outOfLeaf, stopsAt, joinedWith, joinFar, tracedAnswer, crossedAt, resumed}
 use Rattle.hull.specs.declared.tracing.Traced.{Traced}
 use Rattle.hull.specs.declared.tracing.Traced.the-variants as T
 use Rattle.hull.specs.declared.tracing.MetChild.{MetChild}

@@ -23,8 +23,8 @@ use Rattle.math.specs.declared.LinePlaneIntersect.the-variants.{NoIntersection,
 use Rattle.phys.specs.declared.Trace.{Trace as TraceT}
 use Rattle.walk.specs.Table.{Child, node, end, Node, Table, childOn}
 use Rattle.walk.specs.Walk.{Outcome, done, refused, held, after, enter, meet, ended, onto}
-use Rattle.walk.specs.Trace.{across, nearOf, withNear, traceAt, recursiveTrace}
-use Rattle.walk.proofs.Steps.{after-one, after-held, trace-unread, trace-whole}
+use Rattle.walk.specs.Trace.{across, traceAt, recursiveTrace}
+use Rattle.walk.proofs.Steps.{after-one, after-held, trace-unread}
 use Rattle.nodes.specs.Tables.{End}
 use Rattle.nodes.specs.Fast.{wordsAnswer, nodeOf, planeIn, twoDists, distsFrom, distsAnswer, contentsMet}
 use Rattle.nodes.specs.Fast as Fast
@@ -35,7 +35,6 @@ use Rattle.nodes.specs.declared.read.ReadWords.the-variants.{Words, Refused}
 use Rattle.nodes.specs.declared.read.Dists.{Dists}
 use Rattle.nodes.specs.declared.read.Dists.the-variants as D
 use Rattle.nodes.specs.declared.read.EndContents.{EndContents}
-use Rattle.nodes.specs.declared.read.EndContents.the-variants as E
 use Rattle.hull.specs.Traces.{Met, metNode, metContents, metRefused, metAnswer, metEnd, metChild, metOn, withinLeaf, crossedAt}
 use Rattle.hull.specs.declared.tracing.MetChild.{MetChild}
 use Rattle.hull.specs.declared.tracing.MetChild.the-variants as M

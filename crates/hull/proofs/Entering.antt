@@ -8,12 +8,12 @@ use native.Mathlib.Omega.{arith}
 use borrow.Author.Tests.{lt-ltb, le-ltb}
 use lib.Dec.{ltb}
 use Rattle.format.specs.Answer as Ans
-use Rattle.format.specs.Answer.{Answer, answer, mapped}
+use Rattle.format.specs.Answer.{Answer, answer}
 use Rattle.format.specs.Refusal.{numberOf}
 use Rattle.format.specs.declared.refusal.Refusal.{Refusal}
 use Rattle.math.specs.Plane as Pl
 use Rattle.math.specs.declared.Hyperplane.{Hyperplane}
-use Rattle.walk.specs.Table.{Child, node, end, Node, Table, childOn}
+use Rattle.walk.specs.Table.{node, end, Node, Table, childOn}
 use Rattle.walk.specs.Walk.{withPlane, enter}
 use Rattle.walk.proofs.Steps.{enter-unread}
 use Rattle.nodes.specs.Tables.{End}

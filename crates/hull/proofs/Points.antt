@@ -12,11 +12,10 @@ use Rattle.format.specs.Answer as Ans
 use Rattle.format.specs.Answer.{Answer, answer}
 use Rattle.format.specs.Refusal.{numberOf}
 use Rattle.format.specs.declared.refusal.Refusal.{Refusal}
-use Rattle.format.specs.declared.contents.BspLeafContents.{BspLeafContents}
 use Rattle.math.specs.Plane as Pl
 use Rattle.math.specs.declared.Vector3.{Vector3}
 use Rattle.math.specs.declared.Hyperplane.{Hyperplane}
-use Rattle.walk.specs.Table.{Child, node, end, Node, Table, childOn}
+use Rattle.walk.specs.Table.{Table, childOn}
 use Rattle.walk.specs.Walk.{held, after, withVisits, enter, meet, walk}
 use Rattle.walk.proofs.Steps.{after-none, walk-unread, walk-node, walk-end}
 use Rattle.nodes.specs.Tables.{End}

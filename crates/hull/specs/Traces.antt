@@ -19,7 +19,6 @@ use Rattle.phys.specs.declared.Trace.{Trace as TraceT}
 use Rattle.walk.specs.Table.{Child, node, end, Node, Table, childOn}
 use Rattle.walk.specs.Walk.{Outcome, refused, after, meet}
 use Rattle.walk.specs.Trace.{recursiveTrace, nearOf, withNear}
-use Rattle.nodes.specs.Tables.{End}
 use Rattle.nodes.specs.Fast as Fast
 use Rattle.nodes.specs.declared.table.Tables.{Tables}
 use Rattle.nodes.specs.declared.read.Words.{Words}

@@ -1,5 +1,6 @@
 // The walk of a point: to the contents at it, and to the leaf that it is in.
 ghost use mathlib.Core.Path.{_≡_};
+ghost use Rattle.math.specs.Vector as Vec;
 ghost use Rattle.walk.specs.Walk.{withVisits, pointWalk};
 ghost use Rattle.nodes.specs.Tables.{leafTable};
 ghost use Rattle.nodes.specs.Fast as Fast;
@@ -74,10 +75,11 @@ fn walk_file(s: &[u8], t: Tables, render: bool, root: usize, point: Vector3) -> 
     }
 }
 
-// The walk down any table; here the loop is over a box's nodes, and refuses as the file's does.
-pub fn walk_to_end(s: &[u8], t: Tables, root: usize, point: Vector3) -> WalkEnd
-    ensures { λ r. ⌜ Walks.endAnswer (t .table) r ≡ withVisits (pointWalk (Walks.ends (Fast.table (now (s .entry)) t)) root point) ⌝ }
+// The walk of the point (x, y, z) down any table; here the loop is over a box's nodes, and refuses as the file's does.
+pub fn walk_to_end(s: &[u8], t: Tables, root: usize, x: f32, y: f32, z: f32) -> WalkEnd
+    ensures { λ r. ⌜ Walks.endAnswer (t .table) r ≡ withVisits (pointWalk (Walks.ends (Fast.table (now (s .entry)) t)) root (Vec.vector x y z)) ⌝ }
 {
+    let point = Vector3 { x, y, z };
     let table = t.table;
     if !table.is_box() {
         return walk_file(s, t, table.is_render(), root, point);
@@ -114,7 +116,7 @@ pub fn walk_to_end(s: &[u8], t: Tables, root: usize, point: Vector3) -> WalkEnd
 fn contents_in(s: &[u8], t: Tables, root: usize, point: Vector3) -> PointContents
     ensures { λ r. ⌜ Walks.contentsAnswer r ≡ withVisits (pointWalk (Fast.table (now (s .entry)) t) root point) ⌝ }
 {
-    match walk_to_end(s, t, root, point) {
+    match walk_to_end(s, t, root, point.x, point.y, point.z) {
         WalkEnd::Refused(e) => PointContents::Refused(e),
         WalkEnd::Word(word, visits) => match end_contents(s, t, word) {
             EndContents::Contents(c) => PointContents::Contents(c, visits),
@@ -147,7 +149,7 @@ pub fn find_leaf_from(s: &[u8], map: BspData, root: usize, point: Vector3) -> Fo
 {
     let t = tables_of(map, HullTable::Render, point, point);
     let leaves = t.leaves;
-    match walk_to_end(s, t, root, point) {
+    match walk_to_end(s, t, root, point.x, point.y, point.z) {
         WalkEnd::Refused(e) => FoundLeaf::Refused(e),
         WalkEnd::Word(word, visits) => {
             let leaf = (65535 - word) as usize;

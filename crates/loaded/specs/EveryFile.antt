@@ -19,7 +19,6 @@ use Rattle.math.specs.declared.Vector3.{Vector3}
 use Rattle.walk.specs.Walk.{pointWalk}
 use Rattle.walk.specs.Trace as Tracing
 use Rattle.walk.specs.TreeCheck.{treeCheck}
-use Rattle.walk.specs.Tree.{Height}
 use Rattle.walk.specs.Demand3.{Answered, AnsweredWithin}
 use Rattle.nodes.specs.Tables.{nodesOf, leafTable}
 use Rattle.nodes.specs.declared.table.HullTable.{HullTable}

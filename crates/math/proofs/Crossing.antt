@@ -2,7 +2,7 @@
 -- both ends one side, the distance of an end is a NaN, and so is every coordinate of the crossing, which then equals nothing. So a trace that
 -- goes on to the far part goes on to the other child.
 -- Assumes nothing.
-use mathlib.Core.Path.{_≡_, refl, sym, ap, _∙_, subst}
+use mathlib.Core.Path.{_≡_, refl, sym, ap, _∙_}
 use mathlib.Core.Bool.{Bool, true, false, cond, false≢true}
 use mathlib.Core.Logic.{_⊎_, inl, inr}
 use Prim.Native.Nat.{ℕ}
@@ -20,7 +20,6 @@ use Rattle.math.specs.declared.HyperplaneSide.the-variants.{Positive, Ne
 use Rattle.math.specs.declared.PointIntersection.{PointIntersection as Meeting}
 use Rattle.math.specs.declared.LinePlaneIntersect.the-variants.{NoIntersection, PointIntersection}
 use Rattle.math.proofs.Sides.{sides-agree-at-number}
-use Rattle.math.proofs.Fits.{FitsPlane, ratio-fits, facing-fits}
 pub use Rattle.math.proofs.Fits.{Fits3, between-fits}
 
 -- ---- a NaN distance makes the ratio and the point a NaN
@@ -62,19 +61,6 @@ crossing-is h s e x q = go (Pl.sameSide (Pl.fromDist (Pl.pointDist h s)) (Pl.fro
     go : (t : Bool) (i : HyperplaneSide) (m : Meeting) → cond t (NoIntersection i) (PointIntersection m) ≡ PointIntersection x → (t ≡ false) × (m ≡ x)
     go true i m r = let z : _≡_ {A = ℕ} 0 1 = cc in absurd (omega arith)
     go false i m r = (refl, cc)
-
--- the ratio, the point and the plane of a crossing are f32
-pub record FitsMeeting (x : Meeting) : Type 0 where
-  pub fits-ratio : T (fits binary32 (x .ratio))
-  pub fits-point : Fits3 (x .point)
-  pub fits-plane : FitsPlane (x .plane)
-
-pub crossing-fits : (h : Hyperplane) (s e : Vector3) (x : Meeting) → FitsPlane h → Pl.lineSegment h s e ≡ PointIntersection x → FitsMeeting x
-crossing-fits h s e x H q =
-    let a = Pl.pointDist h s in
-    let b = Pl.pointDist h e in
-    subst FitsMeeting (crossing-is h s e x q .1)
-    (record { fits-ratio = ratio-fits a b; fits-point = between-fits s e (Pl.ratioOf a b); fits-plane = facing-fits (Pl.fromDist a) h H })
 
 -- ---- the theorem
 

@@ -3,7 +3,7 @@ use mathlib.Core.Bool.{Bool, true, false, cond}
 use lib.Dec.{T}
 use lib.Ieee as Ieee
 use lib.Ieee.{Float, binary32, fits}
-use lib.Ieee.Fits.{add-fits, sub-fits, mul-fits, div-fits, neg-fits}
+use lib.Ieee.Fits.{add-fits, mul-fits}
 use lib.Ieee.Bits.{ofBits-fits}
 use Rattle.math.specs.Vector as Vec
 use Rattle.math.specs.Plane as Pl
@@ -11,10 +11,8 @@ use Rattle.math.specs.declared.Vector3.{Vector3}
 use Rattle.math.specs.declared.Axis.{Axis as AxisT}
 use Rattle.math.specs.declared.Axis.the-variants.{X, Y, Z}
 use Rattle.math.specs.declared.Alignment.{Alignment}
-use Rattle.math.specs.declared.Alignment.the-variants.{Axis, Normal}
+use Rattle.math.specs.declared.Alignment.the-variants.{Axis}
 use Rattle.math.specs.declared.Hyperplane.{Hyperplane}
-use Rattle.math.specs.declared.HyperplaneSide.{HyperplaneSide}
-use Rattle.math.specs.declared.HyperplaneSide.the-variants.{Positive, Negative}
 
 -- ---- vectors
 
@@ -33,9 +31,6 @@ along-fits v f Z = f .z-fits
 pub sum-fits : (v w : Vector3) → Fits3 (Vec.sum v w)
 sum-fits v w = record { x-fits = add-fits binary32 (v .x) (w .x); y-fits = add-fits binary32 (v .y) (w .y); z-fits = add-fits binary32 (v .z) (w .z) }
 
-pub difference-fits : (v w : Vector3) → Fits3 (Vec.difference v w)
-difference-fits v w = record { x-fits = sub-fits binary32 (v .x) (w .x); y-fits = sub-fits binary32 (v .y) (w .y); z-fits = sub-fits binary32 (v .z) (w .z) }
-
 pub scaled-fits : (k : Float) (v : Vector3) → Fits3 (Vec.scaled k v)
 scaled-fits k v = record { x-fits = mul-fits binary32 k (v .x); y-fits = mul-fits binary32 k (v .y); z-fits = mul-fits binary32 k (v .z) }
 
@@ -46,9 +41,6 @@ dot-fits v w =
 pub normalize-fits : (v : Vector3) → Fits3 (Vec.normalize v)
 unfolding Vec.normalize
 normalize-fits v = scaled-fits (Ieee.div binary32 Vec.one32 (Vec.magnitude v)) v
-
-pub negated-fits : (v : Vector3) → Fits3 v → Fits3 (Vec.negated v)
-negated-fits v f = record { x-fits = neg-fits binary32 (v .x) (f .x-fits); y-fits = neg-fits binary32 (v .y) (f .y-fits); z-fits = neg-fits binary32 (v .z) (f .z-fits) }
 
 -- ---- planes
 
@@ -84,24 +76,7 @@ new-plane-fits n d D =
     either true G H = G
     either false G H = H
 
-pub negated-plane-fits : (h : Hyperplane) → T (fits binary32 (h .dist)) → FitsPlane (Pl.negated h)
-negated-plane-fits h D = new-plane-fits (Pl.turned (h .alignment)) (Ieee.neg (h .dist)) (neg-fits binary32 (h .dist) D)
-
-pub facing-fits : (s : HyperplaneSide) (h : Hyperplane) → FitsPlane h → FitsPlane (Pl.facing s h)
-facing-fits Positive h H = H
-facing-fits Negative h H = negated-plane-fits h (H .dist-fits)
-
 -- ---- distances, ratios and points of a segment
-
-pub dist-of-fits : (a : Alignment) (d : Float) (p : Vector3) → T (fits binary32 (Pl.distOf a d p))
-dist-of-fits (Axis a) d p = sub-fits binary32 (Vec.along p a) d
-dist-of-fits (Normal n) d p = sub-fits binary32 (Vec.dot p n) d
-
-pub point-dist-fits : (h : Hyperplane) (p : Vector3) → T (fits binary32 (Pl.pointDist h p))
-point-dist-fits h p = dist-of-fits (h .alignment) (h .dist) p
-
-pub ratio-fits : (a b : Float) → T (fits binary32 (Pl.ratioOf a b))
-ratio-fits a b = div-fits binary32 a (Ieee.sub binary32 a b)
 
 pub between-fits : (s e : Vector3) (k : Float) → Fits3 (Pl.between s e k)
 between-fits s e k = sum-fits s (Vec.scaled k (Vec.difference e s))

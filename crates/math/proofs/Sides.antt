@@ -4,7 +4,7 @@
 use mathlib.Core.Path.{_≡_, refl, sym, ap, _∙_}
 use mathlib.Core.Bool.{Bool, true, false, false≢true}
 use lib.Dec.{T}
-use lib.Ieee.{Float, nan, binary32, fits, isNan, ofBits, sub, le}
+use lib.Ieee.{Float, nan, binary32, fits, isNan, ofBits}
 use Rattle.float.proofs.Compare.{same-infinity, ge-agree, ge-same-infinity, le-nan-r}
 use Rattle.math.specs.Vector as Vec
 use Rattle.math.specs.Plane as Pl
@@ -45,12 +45,3 @@ sides-agree-at-number h p D P n = go (atInfinity (h .alignment) (h .dist) p) ref
     go : (b : Bool) → atInfinity (h .alignment) (h .dist) p ≡ b → Pl.fromDist (Pl.pointDist h p) ≡ Pl.pointSide h p
     go true i = absurd (false≢true (sym n ∙ ap isNan (differ-at (h .alignment) (h .dist) p i .1)))
     go false i = sides-agree h p D P i
-
--- the same of a difference of two numbers
-pub difference-side : (p d : Float) → T (fits binary32 p) → T (fits binary32 d) → isNan (sub binary32 p d) ≡ false → le (ofBits binary32 0) (sub binary32 p d) ≡ le d p
-unfolding isNan ofBits
-difference-side p d P D n = go (same-infinity p d) refl
-  where
-    go : (b : Bool) → same-infinity p d ≡ b → le (ofBits binary32 0) (sub binary32 p d) ≡ le d p
-    go true i = absurd (false≢true (sym n ∙ ap isNan (ge-same-infinity binary32 p d i .1)))
-    go false i = ge-agree binary32 p d P D i

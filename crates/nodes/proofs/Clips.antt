@@ -1,6 +1,6 @@
 -- A clip node as its words: what the reader at a position makes of them.
 -- Assumes nothing.
-use Prim.Native.Nat.{ℕ, zero, suc, _+_, _-_, _^_, _<_, _≤_}
+use Prim.Native.Nat.{ℕ, zero, suc, _+_, _-_, _<_, _≤_}
 use mathlib.Core.Path.{_≡_, refl, sym, ap, _∙_, subst}
 use mathlib.Core.Bool.{Bool, true, false, cond}
 use mathlib.Core.List.{List}
@@ -10,21 +10,18 @@ use lib.Dec.{ltb}
 use lib.ListN.{length}
 use mir.Syntax.{w16}
 use Rattle.format.specs.Answer as Ans
-use Rattle.format.specs.Answer.{Answer, answer, mapped}
-use Rattle.format.specs.Step.{Step, ok, refused}
+use Rattle.format.specs.Answer.{Answer, answer}
+use Rattle.format.specs.Step.{ok, refused}
 use Rattle.format.specs.Code.{contentsOf}
 use Rattle.format.proofs.Codes.{high}
 use Rattle.format.specs.declared.code.CodedContents.{CodedContents}
 use Rattle.format.specs.declared.code.CodedContents.the-variants.{Contents, Invalid}
-use Rattle.records.specs.Access.{reading}
 use Rattle.records.specs.Node.{withContents, collisionChildAt, collisionNodeAt}
 use Rattle.records.specs.declared.node.BspCollisionNodeChild.{BspCollisionNodeChild}
 use Rattle.records.specs.declared.node.BspCollisionNodeChild.the-variants as C
-use Rattle.records.specs.declared.node.BspCollisionNode.{BspCollisionNode}
-use Rattle.nodes.specs.Tables.{clipChild, clipNode}
+use Rattle.nodes.specs.Tables.{clipChild}
 use Rattle.nodes.specs.Fast.{u16, u32, isInvalid, invalid, childOf, nodeOf, clipNodeHere}
 use Rattle.nodes.specs.declared.table.HullTable.the-variants.{Clip}
-use Rattle.nodes.specs.declared.read.Words.{Words}
 use Rattle.nodes.proofs.Numbers.{low, high-code, i16-is, index-is, index-not}
 
 -- ---- which codes stand for contents: 1 to 5 and 9 to 14

@@ -1,17 +1,16 @@
 -- The tables that the readers go by are those of specs/Tables.antt.
 -- Assumes nothing.
-use Prim.Native.Nat.{ℕ, zero, _+_, _*_, _/_, _<_, _≤_}
-use mathlib.Core.Path.{_≡_, refl, sym, ap, _∙_, fun-ext}
+use Prim.Native.Nat.{ℕ, _+_, _*_, _/_}
+use mathlib.Core.Path.{_≡_, refl, ap, fun-ext}
 use mathlib.Core.Bool.{Bool, true, false, cond}
 use mathlib.Core.List.{List}
 use native.Mathlib.Omega.{arith}
-use borrow.Author.Tests.{lt-ltb, le-ltb, le-leb, lt-leb, ltb-true, ltb-false}
+use borrow.Author.Tests.{le-leb, lt-leb, ltb-true, ltb-false}
 use lib.Dec.{ltb, leb}
 use lib.ListN.{length}
 use Rattle.format.specs.Answer.{Answer, answer, refused, mapped}
 use Rattle.format.specs.Step.{Step}
 use Rattle.format.specs.Section.{elementSize, withinLimit, recordCount, place}
-use Rattle.format.specs.declared.contents.BspLeafContents.{BspLeafContents}
 use Rattle.format.specs.declared.section.BspData.{BspData}
 use Rattle.format.specs.declared.section.BspFileSection.{BspFileSection}
 use Rattle.format.specs.declared.section.BspFileSectionId.{BspFileSectionId}
@@ -23,7 +22,7 @@ use Rattle.records.specs.Access.{reading, readAt, recordOf}
 use Rattle.records.specs.Plane.{planeAt}
 use Rattle.records.specs.Node.{collisionNodeAt, renderNodeAt}
 use Rattle.records.specs.Leaf.{leafAt}
-use Rattle.nodes.specs.Tables.{End, contents, leaf, renderNode, clipNode, leafIn, leafContents, leafOfEnd, nodesOf, contentsOfEnd, contentsInBox, boxPlanes, nth, tableOf, leafTable}
+use Rattle.nodes.specs.Tables.{End, contents, leaf, renderNode, clipNode, leafIn, leafContents, nodesOf, tableOf, leafTable}
 use Rattle.nodes.specs.Fast as Fast
 use Rattle.nodes.specs.Fast.{partOf, tablesOf, placeIn, hereAt, renderNodeHere, clipNodeHere, planeRead, leafContentsHere}
 use Rattle.nodes.specs.declared.table.HullTable.{HullTable}

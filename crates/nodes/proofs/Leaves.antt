@@ -1,31 +1,27 @@
 -- A leaf's contents as its bytes: what the reader at a position makes of them.
 -- Assumes nothing.
-use Prim.Native.Nat.{ℕ, zero, suc, _+_, _-_, _^_, _<_, _≤_}
-use mathlib.Core.Path.{_≡_, refl, sym, ap, _∙_}
-use mathlib.Core.Bool.{Bool, true, false, cond}
+use Prim.Native.Nat.{ℕ, suc, _+_, _-_, _<_, _≤_}
+use mathlib.Core.Path.{_≡_}
 use mathlib.Core.List.{List}
 use native.Mathlib.Omega.{arith}
-use borrow.Author.Tests.{lt-ltb, le-ltb, ltb-true, ltb-false}
-use lib.Dec.{ltb}
-use lib.IntN.{ℤ, pos, negsuc}
+use borrow.Author.Tests.{lt-ltb, le-ltb}
+use lib.IntN.{pos, negsuc}
 use lib.ListN.{length}
-use lib.Signed.{ltZ}
 use mir.Syntax.{w32}
-use mir.Val.{SFits, toZ}
+use mir.Val.{toZ}
 use Rattle.format.specs.Answer as Ans
 use Rattle.format.specs.Answer.{Answer, answer, mapped}
-use Rattle.format.specs.Step.{Step, ok, refused}
+use Rattle.format.specs.Step.{ok, refused}
 use Rattle.format.specs.Code.{contentsOf, negatedContents}
 use Rattle.format.proofs.Codes.{above}
 use Rattle.format.specs.declared.contents.BspLeafContents.{BspLeafContents}
 use Rattle.format.specs.declared.code.CodedContents.the-variants.{Contents, Invalid}
 use Rattle.records.specs.Number.{offsetOf, offsetAt}
-use Rattle.records.specs.Node.{withContents}
 use Rattle.records.specs.Access.{reading}
 use Rattle.records.specs.Leaf.{contentsAt, leafEndAt, leafAt}
 use Rattle.records.specs.declared.number.OptionalOffset.{OptionalOffset}
 use Rattle.nodes.specs.Tables.{leafContents}
-use Rattle.nodes.specs.Fast.{u16, u32, leafContentsHere}
+use Rattle.nodes.specs.Fast.{u32, leafContentsHere}
 use Rattle.nodes.proofs.Numbers.{low, high, high-code, i32-is, u16-is}
 use Rattle.nodes.proofs.Renders.{point}
 

@@ -2,16 +2,14 @@
 -- Assumes nothing.
 use Prim.Native.Nat.{ℕ, suc, _+_, _-_, _^_, _<_, _≤_}
 use mathlib.Core.Path.{_≡_, refl, sym, ap, _∙_}
-use mathlib.Core.Bool.{Bool, true, false}
 use mathlib.Core.List.{List}
 use native.Mathlib.Omega.{arith}
 use borrow.Author.Tests.{lt-ltb, le-ltb, le-leb}
-use lib.IntN.{ℤ, pos, negsuc}
+use lib.IntN.{pos, negsuc}
 use lib.ListN.{length}
-use lib.Signed.{ltZ}
 use mir.Syntax.{Width, w16, w32}
-use mir.Val.{SFits, toZ, bits, hbits}
-use Rattle.format.specs.Step.{Step, ok, refused}
+use mir.Val.{toZ, bits, hbits}
+use Rattle.format.specs.Step.{ok, refused}
 use Rattle.format.specs.Field.{u16At, u32At, i16At, i32At, f32At, indexAt}
 use Rattle.format.specs.Code.{contentsOf, negatedContents}
 use Rattle.format.proofs.Codes.{below}

@@ -1,13 +1,13 @@
 -- Where a record lies, and that its bytes are there.
 -- Assumes nothing.
-use Prim.Native.Nat.{ℕ, _+_, _-_, _*_, _^_, _<_, _≤_}
+use Prim.Native.Nat.{ℕ, _+_, _-_, _*_, _<_, _≤_}
 use mathlib.Core.Path.{_≡_, refl, sym, ap, _∙_}
 use mathlib.Core.Bool.{Bool, true, false, cond}
 use native.Mathlib.Omega.{arith}
 use native.Mathlib.Nat.{mul-le-mul}
-use borrow.Author.Tests.{le-leb, lt-leb, leb-true, leb-false}
+use borrow.Author.Tests.{le-leb, lt-leb, leb-true}
 use lib.Dec.{leb}
-use Rattle.format.specs.Answer.{Answer, answer, refused}
+use Rattle.format.specs.Answer.{answer, refused}
 use Rattle.format.specs.Section.{placeAnswer}
 use Rattle.format.specs.declared.section.Place.{Place}
 use Rattle.format.specs.declared.section.Place.the-variants.{At}

@@ -1,21 +1,20 @@
 -- A plane as its bytes: what the reader at a position makes of them, and what a plane of a type says of a point.
 -- Assumes nothing.
-use Prim.Native.Nat.{ℕ, zero, suc, _+_, _-_, _^_, _<_, _≤_}
+use Prim.Native.Nat.{ℕ, zero, suc, _+_, _-_, _<_, _≤_}
 use mathlib.Core.Path.{_≡_, refl, sym, ap, _∙_}
-use mathlib.Core.Bool.{Bool, true, false, cond}
+use mathlib.Core.Bool.{Bool, true, false}
 use mathlib.Core.List.{List}
 use native.Mathlib.Omega.{arith}
-use borrow.Author.Tests.{lt-ltb, le-ltb, ltb-true, ltb-false, eq-eqb, ne-eqb}
+use borrow.Author.Tests.{lt-ltb, le-ltb, ltb-true, ltb-false, ne-eqb}
 use lib.Dec.{ltb}
 use lib.Ieee as Ieee
 use lib.Ieee.{Float, binary32}
-use lib.IntN.{ℤ, pos, negsuc}
 use lib.ListN.{length}
 use mir.Syntax.{w32}
 use mir.Val.{toZ}
 use Rattle.format.specs.Answer as Ans
 use Rattle.format.specs.Answer.{Answer, answer}
-use Rattle.format.specs.Step.{Step, ok, refused}
+use Rattle.format.specs.Step.{ok, refused}
 use Rattle.math.specs.Plane as Pl
 use Rattle.math.specs.declared.Vector3.{Vector3}
 use Rattle.math.specs.declared.Hyperplane.{Hyperplane}

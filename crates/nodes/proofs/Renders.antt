@@ -1,19 +1,19 @@
 -- A render node as its words: what the reader at a position makes of them.
 -- Assumes nothing.
-use Prim.Native.Nat.{ℕ, zero, suc, _+_, _-_, _^_, _<_, _≤_}
-use mathlib.Core.Path.{_≡_, refl, sym, ap, _∙_}
-use mathlib.Core.Bool.{Bool, true, false, cond}
+use Prim.Native.Nat.{ℕ, zero, suc, _+_, _-_, _<_, _≤_}
+use mathlib.Core.Path.{_≡_, refl, ap}
+use mathlib.Core.Bool.{Bool, true, false}
 use mathlib.Core.List.{List}
 use native.Mathlib.Omega.{arith}
-use borrow.Author.Tests.{lt-ltb, le-ltb, ltb-true, ltb-false}
+use borrow.Author.Tests.{le-ltb, ltb-true, ltb-false}
 use lib.Dec.{ltb}
-use lib.IntN.{ℤ, pos, negsuc, natAbs, _-ℤ_}
+use lib.IntN.{pos, negsuc, _-ℤ_}
 use lib.ListN.{length}
 use mir.Syntax.{w16}
 use mir.Val.{toZ}
 use Rattle.format.specs.Answer as Ans
-use Rattle.format.specs.Answer.{Answer, answer, mapped}
-use Rattle.format.specs.Step.{Step, ok, refused}
+use Rattle.format.specs.Answer.{Answer, answer}
+use Rattle.format.specs.Step.{ok, refused}
 use Rattle.records.specs.Triple.{pointAt}
 use Rattle.records.specs.Node as Rec
 use Rattle.records.specs.Node.{renderChildAt, renderNodeEndAt, renderNodeAt}
@@ -25,7 +25,6 @@ use Rattle.walk.specs.Table.{end}
 use Rattle.nodes.specs.Tables.{leaf, renderChild, renderNode}
 use Rattle.nodes.specs.Fast.{u16, u32, childOf, nodeOf, renderNodeHere}
 use Rattle.nodes.specs.declared.table.HullTable.the-variants.{Render}
-use Rattle.nodes.specs.declared.read.Words.{Words}
 use Rattle.nodes.proofs.Numbers.{low, high, i16-is, u16-is, index-is, index-not, index16-is, index16-not}
 
 -- -1 - f of the negative f

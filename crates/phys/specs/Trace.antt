@@ -11,7 +11,6 @@ use Rattle.format.specs.Contents as Contents
 use Rattle.format.specs.declared.contents.BspLeafContents.{BspLeafContents}
 use Rattle.format.specs.declared.contents.BspLeafContents.the-variants.{Empty, Solid}
 use Rattle.phys.specs.declared.TraceStart.{TraceStart}
-use Rattle.phys.specs.declared.TraceEndBoundary.{TraceEndBoundary}
 use Rattle.phys.specs.declared.TraceEndKind.{TraceEndKind}
 use Rattle.phys.specs.declared.TraceEndKind.the-variants.{Terminal, Boundary}
 use Rattle.phys.specs.declared.TraceEnd.{TraceEnd}

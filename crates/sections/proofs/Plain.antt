@@ -10,7 +10,7 @@ use borrow.Author.Tests.{leb-true, leb-false, ne-eqb}
 use lib.Dec.{leb}
 use lib.ListN.{length}
 use Rattle.format.specs.Step.{Step, ok, refused, andThen}
-use Rattle.format.specs.Field.{field, u8At, u16At, u32At, i16At, i32At, f32At}
+use Rattle.format.specs.Field.{field, u16At, u32At, i32At, f32At}
 use Rattle.format.specs.Section.{elementSize, recordCount}
 use Rattle.format.specs.declared.section.BspFileSection.{BspFileSection}
 use Rattle.format.specs.declared.section.BspFileSectionId.{BspFileSectionId}
@@ -102,11 +102,6 @@ pub plain-section : {A : Type 0} (one : List ℕ → ℕ → Step A) (id : BspFi
 unfolding section plainSection
 plain-section one id p s z = rw (row p s (some-bytes id) (recordCount id z) (z .offset))
 
--- the fields that are plain
-pub plain-u8 : Plain u8At 1
-unfolding u8At
-plain-u8 = of-field 1 _
-
 pub plain-u16 : Plain u16At 2
 unfolding u16At
 plain-u16 = of-field 2 _
@@ -114,10 +109,6 @@ plain-u16 = of-field 2 _
 plain-u32 : Plain u32At 4
 unfolding u32At
 plain-u32 = of-field 4 _
-
-pub plain-i16 : Plain i16At 2
-unfolding i16At
-plain-i16 = mapped plain-u16 _
 
 pub plain-i32 : Plain i32At 4
 unfolding i32At

@@ -3,7 +3,7 @@ use mathlib.Core.Path.{_≡_, refl}
 use mathlib.Core.List.{List, [], _∷_, _++_}
 use Prim.Native.Nat.{ℕ}
 use lib.ListN.{replicate}
-use Rattle.format.specs.Answer.{Answer, answer, refused}
+use Rattle.format.specs.Answer.{answer, refused}
 use Rattle.format.specs.Code.{contentsOf, negatedContents}
 use Rattle.format.specs.Field.{u16At, u32At, i16At, i32At}
 use Rattle.format.specs.Section.{recordCount, place}

@@ -3,7 +3,7 @@ use Prim.Native.Nat.{ℕ, zero, suc, _+_, _<_, _≤_, max}
 use native.Mathlib.Omega.{arith}
 use mathlib.Core.Bool.{Bool, true, false, cond}
 use mathlib.Core.List.{List}
-use mathlib.Core.Path.{_≡_, refl, _∙_, ap}
+use mathlib.Core.Path.{_≡_, refl}
 use lib.Dec.{ltb, eqb}
 use lib.ListN.{getD, set}
 use borrow.Author.Tests.{lt-ltb, le-ltb, eq-eqb, ne-eqb}
@@ -52,18 +52,6 @@ module _ {E : Type 0} (N : Nodes E) where
 
     pub child-end : (e : E) → c ≡ end e → N .leafIn e ≡ true → checkChild N go c ms ≡ checked (answer 0) ms
     child-end e q h = rw (q, h)
-
-    pub child-outside : (e : E) → c ≡ end e → N .leafIn e ≡ false → checkChild N go c ms ≡ checked (refused 30) ms
-    child-outside e q h = rw (q, h)
-
-  module _ (go : ℕ → List ℕ → Checked) (nd : Node E) (ms : List ℕ) where
-    pub front-refused : (n : ℕ) (m : List ℕ) → checkChild N go (nd .front) ms ≡ checked (refused n) m → checkChildren N go nd ms ≡ checked (refused n) m
-    front-refused n m f = ap (λ (x : Checked). thenBack (x .answer) (x .marks) (checkChild N go (nd .back))) f
-
-    pub both-children : (front : ℕ) (m : List ℕ) → checkChild N go (nd .front) ms ≡ checked (answer front) m
-        → (back : Answer ℕ) (m′ : List ℕ) → checkChild N go (nd .back) m ≡ checked back m′ → checkChildren N go nd ms ≡ checked (higher front back) m′
-    both-children front m f back m′ b =
-        ap (λ (x : Checked). thenBack (x .answer) (x .marks) (checkChild N go (nd .back))) f ∙ ap (λ (x : Checked). checked (higher front (x .answer)) (x .marks)) b
 
   -- ---- heights
 

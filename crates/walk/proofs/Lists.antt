@@ -10,9 +10,6 @@ use lib.ListN.{length}
 use borrow.Author.Tests.{eqb-true, eqb-false}
 use Rattle.walk.specs.Tree.{NoTwice}
 
-pub Apart : List ℕ → List ℕ → Type 0
-Apart a b = (x : ℕ) → List·Memᴰ x a → List·Memᴰ x b → ⊥
-
 pub append-once : (a b : List ℕ) → NoTwice a → NoTwice b → ((x : ℕ) → List·Memᴰ x a → List·Memᴰ x b → ⊥) → NoTwice (a ++ b)
 append-once [] b ha hb d = hb
 append-once (x ∷ a) b ha hb d =

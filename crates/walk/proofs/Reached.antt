@@ -22,10 +22,6 @@ end-node {e} {j} q = let z : _≡_ {A = ℕ} 0 1 = cc in omega arith
 node-node : {E : Type 0} {i j : ℕ} → _≡_ {A = Child E} (node i) (node j) → i ≡ j
 node-node q = cc
 
-pub root-in : {E : Type 0} (s : Shape E) (j : ℕ) → top s ≡ node j → List·Memᴰ j (nodesOf s)
-root-in (tip e) j q = absurd (end-node q)
-root-in (fork i p f b) j q = List·Memᴰ·head (sym (node-node q))
-
 module _ {E : Type 0} (N : Nodes E) where
   -- from Reach to InTree, for any table
   pub reach-from : (root : ℕ) (p : List HyperplaneSide) (i n : ℕ) → InTree N root i → Reach N i p n → InTree N root n

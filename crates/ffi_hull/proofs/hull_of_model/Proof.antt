@@ -1,6 +1,6 @@
 -- `ffi_hull::hull_of_model` meets its contract. Assumes nothing.
 use borrow.Author.Needs.{needs}
-use mathlib.Core.Path.{_≡_, ap, _∙_}
+use mathlib.Core.Path.{ap, _∙_}
 use borrow.Author.Tests.{lt-ltb, le-ltb}
 use Rattle.format.specs.Answer.{mapped}
 use Rattle.words.specs.Words.{given}

@@ -8,7 +8,7 @@ use Rattle.format.specs.Section.{recordCount}
 use Rattle.words.specs.Words.{Written, given}
 use Rattle.words.proofs.Giving.{gives}
 use Rattle.ffi_records.specs.Layout.{numberWords}
-use Rattle.ffi_records.specs.Calls.{countIn, sectionNumbered, bspCount}
+use Rattle.ffi_records.specs.Calls.{countIn, bspCount}
 use Rattle.ffi_records.proofs.count.Statement.{statement}
 use Rattle.ffi_records.proofs.count.Tie as tie
 

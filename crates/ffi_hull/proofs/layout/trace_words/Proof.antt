@@ -1,7 +1,7 @@
 -- `ffi_hull::layout::trace_words` meets its contract. Assumes nothing.
 use borrow.Author.Needs.{needs}
 use mathlib.Core.Path.{_≡_, refl}
-use mathlib.Core.List.{List, [], _∷_}
+use mathlib.Core.List.{[], _∷_}
 use lib.ListN.{getD}
 use Rattle.phys.specs.declared.TraceEndKind.{TraceEndKind}
 use Rattle.phys.specs.declared.TraceEndKind.the-variants.{Terminal, Boundary}

@@ -5,8 +5,7 @@ use native.Mathlib.Omega.{arith}
 use mathlib.Core.Bool.{true, false}
 use lib.Dec.{T}
 use lib.IntN.{pos}
-use lib.Ieee.{Float, binary32, fits, ofBits, neg, lt, ofInt, inFloat, toUnsigned}
-use Rattle.float.specs.Whole.{floorOf}
+use lib.Ieee.{binary32, fits, ofBits, neg, lt, ofInt, inFloat}
 use Rattle.float.proofs.WholeLaws.{Small, small-above, small-below, floor-above, floor-below, floor-zero, pos-asked, pos-in, pos-floor, neg-asked, neg-in, neg-lt, neg-in-next, neg-floor, neg-floor-whole}
 use Rattle.float.proofs.num.floor.Statement.{statement}
 use Rattle.float.proofs.num.floor.Tie as tie

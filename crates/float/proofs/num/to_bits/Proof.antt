@@ -3,7 +3,7 @@ use borrow.Author.Needs.{needs}
 use mathlib.Core.Path.{_≡_, refl, sym, ap, _∙_, subst}
 use mathlib.Core.Bool.{Bool, not}
 use lib.Dec.{T}
-use lib.Ieee.{Float, nan, binary32, toBits}
+use lib.Ieee.{nan, binary32, toBits}
 use lib.Ieee.Compare.{differs-from-itself}
 use Rattle.float.proofs.WholeLaws.{not-nan}
 use Rattle.float.proofs.num.to_bits.Statement.{statement}

@@ -1,10 +1,8 @@
 -- `float::root::nearest_root` meets its contract. The first loop goes up while the nearest root lies above, the second down while it lies below. Assumes nothing.
-use mathlib.Core.Path.{_≡_, refl, sym, ap, _∙_, subst}
+use mathlib.Core.Path.{_≡_, sym, subst}
 use Prim.Native.Nat.{ℕ, zero, suc, _+_, _-_, _*_, _^_, _≤_, _<_}
-use native.Mathlib.Nat.{mul-le-mul, suc-mul, mul-suc, le-trans, lt-of-not-le, not-le-of-lt}
+use native.Mathlib.Nat.{mul-le-mul, suc-mul, mul-suc, lt-of-not-le}
 use native.Mathlib.Omega.{arith}
-use mir.Syntax.{w64}
-use mir.Val.{Fits}
 use Rattle.float.proofs.RootLaws.{nearest-is}
 use Rattle.float.proofs.root.nearest_root.Statement.{statement}
 use Rattle.float.proofs.root.nearest_root.Tie as tie

@@ -1,13 +1,13 @@
 -- `float::root::root_of_pattern` meets its contract: `specs/RootPattern.antt` has its two cases. Assumes nothing.
 use borrow.Author.Needs.{needs}
-use mathlib.Core.Path.{_≡_, sym, ap, _∙_, subst}
+use mathlib.Core.Path.{_≡_, sym, _∙_, subst}
 use Prim.Native.Nat.{ℕ, _+_, _*_, _%_, _^_, _≤_, _<_}
 use native.Mathlib.Nat.{le-trans}
 use native.Mathlib.Omega.{arith}
 use lib.Count.{leading-le}
 use lib.Dec.{T, le→leb, lit≤}
 use lib.IntN.{pos}
-use lib.Ieee.{Float, binary32, binary64, ofBits, odd, inFloat, nanBits}
+use lib.Ieee.{binary32, binary64, ofBits, inFloat}
 use mir.Syntax.{w32}
 use mir.Val.{Fits}
 use Rattle.float.specs.Root.{nearestRoot, sqrt}

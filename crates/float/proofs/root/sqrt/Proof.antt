@@ -1,9 +1,8 @@
 -- `float::root::sqrt` meets its contract: each branch is a law of `specs/RootPattern.antt`. Assumes nothing.
-use mathlib.Core.Path.{_≡_, sym, ap, _∙_, subst}
-use Prim.Native.Nat.{ℕ, _<_}
+use mathlib.Core.Path.{sym, ap, _∙_, subst}
 use native.Mathlib.Omega.{arith}
 use lib.Dec.{T}
-use lib.Ieee.{Float, binary32, fits, ofBits, toBits, div}
+use lib.Ieee.{binary32, fits, ofBits, div}
 use lib.Ieee.Bits.{ofBits-toBits}
 use Rattle.float.specs.Root.{sqrt}
 use Rattle.float.proofs.RootPattern.{above-zero, infinite, zero-root, no-root}

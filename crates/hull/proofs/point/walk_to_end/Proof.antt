@@ -14,12 +14,12 @@ use Rattle.hull.proofs.point.walk_to_end.Statement.{statement}
 use Rattle.hull.proofs.point.walk_to_end.Tie as tie
 
 abbrev Inv-loop : tie.InvT-loop
-Inv-loop s t root point nodes limit node₀ visits₀ node visits =
+Inv-loop s t root x y z point nodes limit node₀ visits₀ node visits =
     (visits ≤ t .nodes .count)
     × (withVisits (pointWalk (ends (Fast.table s t)) root point) ≡ after visits (walk (ends (Fast.table s t)) (t .nodes .count - visits) node point))
 
 abbrev μ-loop : tie.MeasureT-loop
-μ-loop s t root point nodes limit node₀ visits₀ node visits = t .nodes .count - visits
+μ-loop s t root x y z point nodes limit node₀ visits₀ node visits = t .nodes .count - visits
 
 -- the nodes of the table, and those that may be entered after this one
 abbrev n : tie.At-loop Inv-loop μ-loop → ℕ

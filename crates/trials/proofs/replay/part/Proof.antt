@@ -1,7 +1,6 @@
 -- `trials::replay::part` meets its contract: the part lies in the file.
 -- Assumes nothing.
 use borrow.Author.Needs.{needs}
-use mathlib.Core.Path.{sym}
 use native.Mathlib.Omega.{arith}
 use lib.ListN.{length-take}
 use Rattle.trials.proofs.replay.part.Statement.{statement}

@@ -2,9 +2,9 @@
 -- Assumes nothing.
 use borrow.Author.Needs.{needs}
 use mathlib.Core.Path.{_≡_, refl, _∙_, subst}
-use Prim.Native.Nat.{ℕ, _+_, _-_, _≤_}
+use Prim.Native.Nat.{ℕ, _-_, _≤_}
 use native.Mathlib.Omega.{arith}
-use lib.ListN.{length, length-set}
+use lib.ListN.{length}
 use Rattle.trials.specs.Sample.{Lies}
 use Rattle.trials.specs.declared.replay.CaseAt.{CaseAt}
 use Rattle.trials.specs.declared.replay.CaseAt.the-variants.{Case}

@@ -1,10 +1,9 @@
 -- `trials::replay::same` meets its contract: it reads inside the list.
 -- Assumes nothing.
 use borrow.Author.Needs.{needs}
-use mathlib.Core.Path.{_≡_, refl, _∙_}
-use Prim.Native.Nat.{_+_, _-_, _≤_}
+use Prim.Native.Nat.{_-_, _≤_}
 use native.Mathlib.Omega.{arith}
-use lib.ListN.{length, length-set}
+use lib.ListN.{length}
 use Rattle.trials.proofs.replay.same.Statement.{statement}
 use Rattle.trials.proofs.replay.same.Tie as tie
 
