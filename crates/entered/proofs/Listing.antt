@@ -1,41 +1,48 @@
 -- The list that a call leaves, from the answer of the walk or the trace and from what was written. Assumes nothing.
 use Prim.Native.Nat.{ℕ, _^_, _<_, _≤_}
-use mathlib.Core.Path.{_≡_, sym, ap, _∙_}
+use mathlib.Core.Path.{_≡_, refl, sym, ap, _∙_, subst}
 use mathlib.Core.List.{List, _++_}
 use native.Mathlib.Omega.{arith}
-use borrow.Author.Tests.{lt-ltb, le-ltb}
 use lib.ListN.{length, take, drop}
 use lib.Seq.{length-take-le}
+use Rattle.format.proofs.Answers.{mapped-answer, mapped-refused}
+use Rattle.format.proofs.Listing.{into-short, into-list}
 use Rattle.format.specs.Answer as Ans
-use Rattle.format.specs.Answer.{answer}
+use Rattle.format.specs.Answer.{Answer, answer, mapped}
+use Rattle.format.specs.Listed.{listed, into}
 use Rattle.walk.specs.Walk.{Outcome, done, refused, held, withVisits}
-use Rattle.entered.specs.Lists.{listedWith, listed}
-use Rattle.entered.specs.Onward.{nodesOf, Fills}
+use Rattle.entered.specs.Lists.{nodesEntered}
+use Rattle.entered.specs.Onward.{Fills}
 
-module _ {A : Type 0} (l : List ℕ) where
-  -- a refusal leaves the list as it is
-  pub declined : (o : Outcome A) (n : ℕ) → Ans.refused n ≡ withVisits o → listedWith (Ans.refused n) l ≡ listed l o
-  unfolding listed
-  declined (done b ns) n e = let z : _≡_ {A = ℕ} 0 1 = cc in absurd (omega arith)
-  declined (refused m) n e = let z : n ≡ m = cc in rw z
+-- the visits that stand for so many nodes
+abbrev visits : List ℕ → ℕ
+visits ns = held (length ns)
 
-  module _ (a : A) (v : ℕ) (short : length l < 2 ^ 63) where
-    -- fewer entries than visits
-    pub too-short : (o : Outcome A) → answer (a, v) ≡ withVisits o → length l < v → listedWith (Ans.refused 22) l ≡ listed l o
-    unfolding listed
-    too-short (done b ns) e g =
-        let d : _≡_ {A = A × ℕ} (a, v) (b, held (length ns)) = cc in
-        let q : v ≡ held (length ns) = ap (λ (x : A × ℕ). x .1) d in
-        simp (lt-ltb (length l) (length ns) (omega arith))
-    too-short (refused n) e g = let z : _≡_ {A = ℕ} 0 1 = cc in absurd (omega arith)
+module _ {A : Type 0} where
+  counted : (o : Outcome A) → mapped visits (nodesEntered o) ≡ mapped (λ (x : A × ℕ). x .1) (withVisits o)
+  counted (done a ns) = refl
+  counted (refused n) = refl
 
-    -- as many entries as visits are filled: a count that is held is above every list's length, so the visits are all
-    pub filled : (o : Outcome A) → answer (a, v) ≡ withVisits o → v ≤ length l → (x : List ℕ) → Fills (nodesOf o) (take v l) x → listedWith (answer v) (x ++ drop v l) ≡ listed l o
-    unfolding listed
-    filled (done b ns) e g x f =
-        let d : _≡_ {A = A × ℕ} (a, v) (b, held (length ns)) = cc in
-        let q : v ≡ held (length ns) = ap (λ (x : A × ℕ). x .1) d in
-        let r : v ≡ length ns = omega arith in
-        let w : x ≡ ns = f (sym r ∙ sym (length-take-le v l g)) in
-        rw (w, r) (simp (le-ltb (length l) (length ns) (omega arith)))
-    filled (refused n) e g x f = let z : _≡_ {A = ℕ} 0 1 = cc in absurd (omega arith)
+  module _ (l : List ℕ) where
+    -- a refusal leaves the list as it is
+    pub declined : (o : Outcome A) (n : ℕ) → Ans.refused n ≡ withVisits o → listed (Ans.refused n) l ≡ into (nodesEntered o) l
+    declined o n e = ap (λ (a : Answer (List ℕ)). into a l) (sym (mapped-refused visits (nodesEntered o) n (counted o ∙ ap (mapped (λ (x : A × ℕ). x .1)) (sym e))))
+
+    module _ (a : A) (v : ℕ) (short : length l < 2 ^ 63) where
+      entries : (o : Outcome A) → answer (a, v) ≡ withVisits o → (ns : List ℕ) × (nodesEntered o ≡ answer ns) × (held (length ns) ≡ v)
+      entries o e = mapped-answer visits (nodesEntered o) v (counted o ∙ ap (mapped (λ (x : A × ℕ). x .1)) (sym e))
+
+      -- fewer entries than visits
+      pub too-short : (o : Outcome A) → answer (a, v) ≡ withVisits o → length l < v → listed (Ans.refused 22) l ≡ into (nodesEntered o) l
+      too-short o e g =
+          let k = entries o e in
+          into-short l (nodesEntered o) (length (k .0)) (sym (ap (mapped length) (k .1))) (omega (arith, k .2))
+
+      -- as many entries as visits are filled: a count that is held is above every list's length, so the visits are all
+      pub filled : (o : Outcome A) → answer (a, v) ≡ withVisits o → v ≤ length l → (x : List ℕ) → Fills (nodesEntered o) (take v l) x
+          → listed (answer v) (x ++ drop v l) ≡ into (nodesEntered o) l
+      filled o e g x f =
+          let k = entries o e in
+          let r : v ≡ length (k .0) = omega (arith, k .2) in
+          let w : x ≡ k .0 = subst (λ a. Fills a (take v l) x) (k .1) f (sym r ∙ sym (length-take-le v l g)) in
+          into-list l (nodesEntered o) v x (ap answer w ∙ sym (k .1)) (ap answer r ∙ sym (ap (mapped length) (k .1))) g

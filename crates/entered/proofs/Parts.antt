@@ -33,7 +33,8 @@ use Rattle.nodes.specs.declared.table.HullTable.{HullTable}
 use Rattle.nodes.specs.declared.table.Tables.{Tables}
 use Rattle.hull.proofs.Founds.{table-same}
 use Rattle.hull.specs.Traces.{stopsAt}
-use Rattle.entered.specs.Onward.{onwardTo, stepAcross, stepOf, nodesOf, Fills, nearFills, nodesFrom, nearCount}
+use Rattle.entered.specs.Lists.{nodesEntered}
+use Rattle.entered.specs.Onward.{onwardTo, stepAcross, stepOf, Fills, nearFills, nodesFrom, nearCount}
 use Rattle.entered.specs.declared.traced.Onward.{Onward}
 use Rattle.entered.specs.declared.traced.Onward.the-variants as O
 use Rattle.entered.specs.declared.traced.Step.{Step}
@@ -50,11 +51,11 @@ module _ {E : Type 0} (T : Table E BspLeafContents) where
     abbrev go : ℕ → Outcome TraceT
     go n = recursiveTrace T k n s e
 
-    at-end : (a : Answer BspLeafContents) (l x : List ℕ) → Fills (answer []) l x → Fills (nodesOf (ended T here a)) l x
+    at-end : (a : Answer BspLeafContents) (l x : List ℕ) → Fills (answer []) l x → Fills (nodesEntered (ended T here a)) l x
     at-end (answer c) l x f = f
     at-end (Ans.refused n) l x f = tt
 
-    fills-onto : (c : Child E) (l x : List ℕ) → Fills (nodesFrom T k s e (onwardTo c)) l x → Fills (nodesOf (onto T go here c)) l x
+    fills-onto : (c : Child E) (l x : List ℕ) → Fills (nodesFrom T k s e (onwardTo c)) l x → Fills (nodesEntered (onto T go here c)) l x
     fills-onto (node n) l x f = f
     fills-onto (end y) l x f = at-end (meet T y) l x f
 
@@ -101,7 +102,7 @@ module _ {E : Type 0} (T : Table E BspLeafContents) where
     abbrev far : Outcome TraceT
     far = farOf T call nd h s e x
 
-    module _ (l A B : List ℕ) (n : ℕ) (short : length l < 2 ^ 63) (as-long : length B ≡ length l - n) (in-A : Fills (nodesOf near) (take n l) A) (in-B : Fills (nodesOf far) (drop n l) B) (count : (y : TraceT) (ns : List ℕ) → near ≡ done y ns → n ≡ nearFills (x .point) (length l) (done y ns)) where
+    module _ (l A B : List ℕ) (n : ℕ) (short : length l < 2 ^ 63) (as-long : length B ≡ length l - n) (in-A : Fills (nodesEntered near) (take n l) A) (in-B : Fills (nodesEntered far) (drop n l) B) (count : (y : TraceT) (ns : List ℕ) → near ≡ done y ns → n ≡ nearFills (x .point) (length l) (done y ns)) where
       -- the near part fills all of the list
       stopped : (ms : List ℕ) → (length ms ≡ length (take n l) → A ≡ ms) → n ≡ length l → length ms ≡ length l → A ++ B ≡ ms
       stopped ms f q g =
@@ -116,24 +117,24 @@ module _ {E : Type 0} (T : Table E BspLeafContents) where
           ap₂ _++_ (f (sym n-is ∙ sym (length-take-le n l (omega arith)))) (f′ (omega (arith, length-drop n l)))
 
       by-join : (y : TraceT) (ms ps : List ℕ) → (length ms ≡ length (take n l) → A ≡ ms) → (length ps ≡ length (drop n l) → B ≡ ps) → n ≡ min (held (length ms)) (length l)
-          → (j : Answer TraceT) → Fills (nodesOf (joined (ms ++ ps) j)) l (A ++ B)
+          → (j : Answer TraceT) → Fills (nodesEntered (joined (ms ++ ps) j)) l (A ++ B)
       by-join y ms ps f f′ q (answer r) = both ms ps f f′ q
       by-join y ms ps f f′ q (Ans.refused m) = tt
 
       by-far : (y : TraceT) (ms : List ℕ) → (length ms ≡ length (take n l) → A ≡ ms) → n ≡ min (held (length ms)) (length l)
-          → (o : Outcome TraceT) → far ≡ o → Fills (nodesOf (withFar y ms o)) l (A ++ B)
-      by-far y ms f q (done u ps) z = by-join y ms ps f (subst (λ o. Fills (nodesOf o) (drop n l) B) z in-B) q (Tr.join y u)
+          → (o : Outcome TraceT) → far ≡ o → Fills (nodesEntered (withFar y ms o)) l (A ++ B)
+      by-far y ms f q (done u ps) z = by-join y ms ps f (subst (λ o. Fills (nodesEntered o) (drop n l) B) z in-B) q (Tr.join y u)
       by-far y ms f q (refused m) z = tt
 
-      by-stop : (y : TraceT) (ms : List ℕ) → near ≡ done y ms → (b : Bool) → stops y x ≡ b → Fills (nodesOf (afterNear T call nd h s e x y ms b)) l (A ++ B)
+      by-stop : (y : TraceT) (ms : List ℕ) → near ≡ done y ms → (b : Bool) → stops y x ≡ b → Fills (nodesEntered (afterNear T call nd h s e x y ms b)) l (A ++ B)
       by-stop y ms z true st =
-          stopped ms (subst (λ o. Fills (nodesOf o) (take n l) A) z in-A)
+          stopped ms (subst (λ o. Fills (nodesEntered o) (take n l) A) z in-A)
           (count y ms z ∙ ap (λ (b : Bool). cond b (length l) (min (held (length ms)) (length l))) st)
       by-stop y ms z false st =
-          by-far y ms (subst (λ o. Fills (nodesOf o) (take n l) A) z in-A)
+          by-far y ms (subst (λ o. Fills (nodesEntered o) (take n l) A) z in-A)
           (count y ms z ∙ ap (λ (b : Bool). cond b (length l) (min (held (length ms)) (length l))) st) far refl
 
-      by-near : (o : Outcome TraceT) → near ≡ o → Fills (nodesOf (withNear T call nd h s e x o)) l (A ++ B)
+      by-near : (o : Outcome TraceT) → near ≡ o → Fills (nodesEntered (withNear T call nd h s e x o)) l (A ++ B)
       by-near (done y ms) z = by-stop y ms z (stops y x) refl
       by-near (refused m) z = tt
 
@@ -148,7 +149,7 @@ module _ {E : Type 0} (T : Table E BspLeafContents) where
         → n ≡ nearCount T k s (x .point) (length l) (onwardTo (childOn nd (Pl.pointSide h s)))
         → Fills (nodesFrom T k s (x .point) (onwardTo (childOn nd (Pl.pointSide h s)))) (take n l) A
         → Fills (nodesFrom T k (x .point) e (onwardTo (childOn nd (Pl.pointSide h e)))) (drop n l) B
-        → Fills (nodesOf (withNear T call nd h s e x near)) l (A ++ B)
+        → Fills (nodesEntered (withNear T call nd h s e x near)) l (A ++ B)
     crossing-fills l A B n short as-long is-n f f′ =
         by-near l A B n short as-long
         (fills-onto k s (x .point) out-of (childOn nd (Pl.pointSide h s)) (take n l) A f)
@@ -163,35 +164,35 @@ module _ {E : Type 0} (T : Table E BspLeafContents) where
     deeper n a b = recursiveTrace T k n a b
 
     -- the node is the first entry
-    fills-entered : (o : Outcome TraceT) (y : ℕ) (l x : List ℕ) → Fills (nodesOf o) l x → Fills (nodesOf (entered i o)) (y ∷ l) (i ∷ x)
+    fills-entered : (o : Outcome TraceT) (y : ℕ) (l x : List ℕ) → Fills (nodesEntered o) l x → Fills (nodesEntered (entered i o)) (y ∷ l) (i ∷ x)
     fills-entered (done a ns) y l x f = λ g. ap (λ (z : List ℕ). i ∷ z) (f (omega arith))
     fills-entered (refused n) y l x f = tt
 
     whole-segment : (nd : Node E) (h : Hyperplane) (z : LinePlaneIntersect) (c : Onward) → S.Whole c ≡ stepAcross nd h s e z → (l x : List ℕ)
-        → Fills (nodesFrom T k s e c) l x → Fills (nodesOf (across T deeper nd h s e z)) l x
+        → Fills (nodesFrom T k s e c) l x → Fills (nodesEntered (across T deeper nd h s e z)) l x
     whole-segment nd h (NoIntersection side) c q l x f =
         let d : c ≡ onwardTo (childOn nd side) = cc in
         fills-onto k s e (λ c. Tr.newTrace (Tr.start s Vec.zero32) (Tr.terminal e) c) (childOn nd side) l x (subst (λ y. Fills (nodesFrom T k s e y) l x) d f)
     whole-segment nd h (PointIntersection p) c q l x f = let z : _≡_ {A = ℕ} 0 1 = cc in absurd (omega arith)
 
     whole-step : (a : Answer (Entered E)) (c : Onward) → S.Whole c ≡ stepOf s e a → (y : ℕ) (l x : List ℕ)
-        → Fills (nodesFrom T k s e c) l x → Fills (nodesOf (traceAt T deeper i s e a)) (y ∷ l) (i ∷ x)
+        → Fills (nodesFrom T k s e c) l x → Fills (nodesEntered (traceAt T deeper i s e a)) (y ∷ l) (i ∷ x)
     whole-step (answer m) c q y l x f =
         fills-entered (across T deeper (m .nd) (m .plane) s e (Pl.lineSegment (m .plane) s e)) y l x
         (whole-segment (m .nd) (m .plane) (Pl.lineSegment (m .plane) s e) c q l x f)
     whole-step (Ans.refused n) c q y l x f = tt
 
-    unread-step : (a : Answer (Entered E)) → S.Refused ≡ stepOf s e a → (l x : List ℕ) → Fills (nodesOf (traceAt T deeper i s e a)) l x
+    unread-step : (a : Answer (Entered E)) → S.Refused ≡ stepOf s e a → (l x : List ℕ) → Fills (nodesEntered (traceAt T deeper i s e a)) l x
     unread-step (answer m) q l x = at-segment (Pl.lineSegment (m .plane) s e) q
       where
-        at-segment : (z : LinePlaneIntersect) → S.Refused ≡ stepAcross (m .nd) (m .plane) s e z → Fills (nodesOf (entered i (across T deeper (m .nd) (m .plane) s e z))) l x
+        at-segment : (z : LinePlaneIntersect) → S.Refused ≡ stepAcross (m .nd) (m .plane) s e z → Fills (nodesEntered (entered i (across T deeper (m .nd) (m .plane) s e z))) l x
         at-segment (NoIntersection side) q = let z : _≡_ {A = ℕ} 0 1 = cc in absurd (omega arith)
         at-segment (PointIntersection p) q = let z : _≡_ {A = ℕ} 0 1 = cc in absurd (omega arith)
     unread-step (Ans.refused n) q l x = tt
 
     module _ (c c′ : Onward) (mid : Vector3) (l A B : List ℕ) (n : ℕ) (short : length l < 2 ^ 63) (as-long : length B ≡ length l - n) (is-n : n ≡ nearCount T k s mid (length l) c) (in-A : Fills (nodesFrom T k s mid c) (take n l) A) (in-B : Fills (nodesFrom T k mid e c′) (drop n l) B) where
       crossing-segment : (nd : Node E) (h : Hyperplane) (z : LinePlaneIntersect) → S.Crossing c c′ mid ≡ stepAcross nd h s e z
-          → Fills (nodesOf (across T deeper nd h s e z)) l (A ++ B)
+          → Fills (nodesEntered (across T deeper nd h s e z)) l (A ++ B)
       crossing-segment nd h (NoIntersection side) q = let z : _≡_ {A = ℕ} 0 1 = cc in absurd (omega arith)
       crossing-segment nd h (PointIntersection p) q =
           let d : c ≡ onwardTo (childOn nd (Pl.pointSide h s)) = cc in
@@ -202,7 +203,7 @@ module _ {E : Type 0} (T : Table E BspLeafContents) where
           (subst (λ b. Fills (nodesFrom T k s (p .point) b) (take n l) A) d (subst (λ a. Fills (nodesFrom T k s a c) (take n l) A) m in-A))
           (subst (λ b. Fills (nodesFrom T k (p .point) e b) (drop n l) B) d′ (subst (λ a. Fills (nodesFrom T k a e c′) (drop n l) B) m in-B))
 
-      crossing-step : (a : Answer (Entered E)) → S.Crossing c c′ mid ≡ stepOf s e a → (y : ℕ) → Fills (nodesOf (traceAt T deeper i s e a)) (y ∷ l) (i ∷ (A ++ B))
+      crossing-step : (a : Answer (Entered E)) → S.Crossing c c′ mid ≡ stepOf s e a → (y : ℕ) → Fills (nodesEntered (traceAt T deeper i s e a)) (y ∷ l) (i ∷ (A ++ B))
       crossing-step (answer m) q y =
           fills-entered (across T deeper (m .nd) (m .plane) s e (Pl.lineSegment (m .plane) s e)) y l (A ++ B)
           (crossing-segment (m .nd) (m .plane) (Pl.lineSegment (m .plane) s e) q)
@@ -234,23 +235,23 @@ none-to-fill T k s e c is-c l = subst (λ y. Fills (nodesFrom T k s e y) l l) (s
 -- at a child that is the node i
 
 module _ {E : Type 0} (T : Table E BspLeafContents) (k i : ℕ) (s e : Vector3) (c : Onward) (is-c : c ≡ O.Node i) where
-  from-node : (l x : List ℕ) → Fills (nodesOf (recursiveTrace T k i s e)) l x → Fills (nodesFrom T k s e c) l x
+  from-node : (l x : List ℕ) → Fills (nodesEntered (recursiveTrace T k i s e)) l x → Fills (nodesFrom T k s e c) l x
   from-node l x f = subst (λ y. Fills (nodesFrom T k s e y) l x) (sym is-c) f
 
   pub outside : T .nodes .count ≤ i → (l x : List ℕ) → Fills (nodesFrom T k s e c) l x
-  outside h l x = from-node l x (subst (λ o. Fills (nodesOf o) l x) (sym (trace-outside T s e k i h)) tt)
+  outside h l x = from-node l x (subst (λ o. Fills (nodesEntered o) l x) (sym (trace-outside T s e k i h)) tt)
 
   module _ (h : i < T .nodes .count) where
     pub spent : k ≡ 0 → (l x : List ℕ) → Fills (nodesFrom T k s e c) l x
-    spent z l x = from-node l x (subst (λ o. Fills (nodesOf o) l x) (sym (trace-spent T s e k i z h)) tt)
+    spent z l x = from-node l x (subst (λ o. Fills (nodesEntered o) l x) (sym (trace-spent T s e k i z h)) tt)
 
     module _ (left : k ≡ 0 → ⊥) where
       abbrev next : ℕ → Vector3 → Vector3 → Outcome TraceT
       next n a b = recursiveTrace T (k - 1) n a b
 
-      at-node : (l x : List ℕ) → Fills (nodesOf (traceAt T next i s e (enter T i))) l x → Fills (nodesFrom T k s e c) l x
+      at-node : (l x : List ℕ) → Fills (nodesEntered (traceAt T next i s e (enter T i))) l x → Fills (nodesFrom T k s e c) l x
       unfolding recursiveTrace
-      at-node l x f = from-node l x (subst (λ o. Fills (nodesOf o) l x) (sym (by-left (k - 1) (omega arith))) f)
+      at-node l x f = from-node l x (subst (λ o. Fills (nodesEntered o) l x) (sym (by-left (k - 1) (omega arith))) f)
         where
           by-left : (j : ℕ) → k ≡ suc j → recursiveTrace T k i s e ≡ traceAt T (λ n a b. recursiveTrace T j n a b) i s e (enter T i)
           by-left j p = rw p (simp (lt-ltb i (T .nodes .count) h))
@@ -259,11 +260,11 @@ module _ {E : Type 0} (T : Table E BspLeafContents) (k i : ℕ) (s e : Vector3) 
       pub no-entry : (l : List ℕ) → length l ≡ 0 → (x : List ℕ) → Fills (nodesFrom T k s e c) l x
       no-entry l z x = at-node l x (by-entered (enter T i))
         where
-          by-outcome : (o : Outcome TraceT) → Fills (nodesOf (entered i o)) l x
+          by-outcome : (o : Outcome TraceT) → Fills (nodesEntered (entered i o)) l x
           by-outcome (done a ns) = λ g. absurd (omega arith)
           by-outcome (refused n) = tt
 
-          by-entered : (a : Answer (Entered E)) → Fills (nodesOf (traceAt T next i s e a)) l x
+          by-entered : (a : Answer (Entered E)) → Fills (nodesEntered (traceAt T next i s e a)) l x
           by-entered (answer m) = by-outcome (across T next (m .nd) (m .plane) s e (Pl.lineSegment (m .plane) s e))
           by-entered (Ans.refused n) = tt
 
@@ -278,7 +279,7 @@ module _ {E : Type 0} (T : Table E BspLeafContents) (k i : ℕ) (s e : Vector3) 
         one-child only q (y ∷ m) z X f =
             let j : suc (length m) - 1 ≡ length m = omega arith in
             at-node (y ∷ m) (putMid 1 (suc (length m) - 1) (i ∷ m) X)
-            (subst (λ x. Fills (nodesOf (traceAt T next i s e (enter T i))) (y ∷ m) (i ∷ x)) (sym (ap (λ (x : List ℕ). X ++ x) (none-left (drop (suc (length m) - 1) m) (omega (arith, length-drop (suc (length m) - 1) m))) ∙ append-nil X))
+            (subst (λ x. Fills (nodesEntered (traceAt T next i s e (enter T i))) (y ∷ m) (i ∷ x)) (sym (ap (λ (x : List ℕ). X ++ x) (none-left (drop (suc (length m) - 1) m) (omega (arith, length-drop (suc (length m) - 1) m))) ∙ append-nil X))
             (whole-step T (k - 1) i s e (enter T i) only (sym q ∙ is-r) y m X (subst (λ x. Fills (nodesFrom T (k - 1) s e only) x X) (take-all (suc (length m) - 1) m (omega arith)) f)))
 
         pub two-children : (near far : Onward) (mid : Vector3) → r ≡ S.Crossing near far mid → (l : List ℕ) → (length l ≡ 0 → ⊥) → length l < 2 ^ 63
@@ -299,7 +300,7 @@ module _ {E : Type 0} (T : Table E BspLeafContents) (k i : ℕ) (s e : Vector3) 
             let part : midOf (1 + n) (length M - (1 + n)) M ≡ drop n m = ap₂ (λ a x. take (length x - a) (drop a x)) above M-is ∙ second i n m A as-many (length (one-back i n m A as-many) - suc n) (long-enough i n m A as-many) in
             let whole : putMid (1 + n) (length M - (1 + n)) M B ≡ i ∷ (A ++ B) = ap₂ (λ a x. putMid a (length x - a) x B) above M-is ∙ both-back i n m A as-many (length (one-back i n m A as-many) - suc n) (long-enough i n m A as-many) B in
             at-node (y ∷ m) (putMid (1 + n) (length M - (1 + n)) M B)
-            (subst (λ x. Fills (nodesOf (traceAt T next i s e (enter T i))) (y ∷ m) x) (sym whole)
+            (subst (λ x. Fills (nodesEntered (traceAt T next i s e (enter T i))) (y ∷ m) x) (sym whole)
             (crossing-step T (k - 1) i s e near far mid m A B n (omega arith) (len-B ∙ ap length part ∙ length-drop n m) count
             (subst (λ x. Fills (nodesFrom T (k - 1) s mid near) x A) (ap (λ (x : ℕ). take x m) below) in-A)
             (subst (λ x. Fills (nodesFrom T (k - 1) mid e far) x B) part in-B)
@@ -308,5 +309,5 @@ module _ {E : Type 0} (T : Table E BspLeafContents) (k i : ℕ) (s e : Vector3) 
 -- ---- the trace through a hull, with the tables that the readers go by
 
 pub in-hull : (f : List ℕ) (m : BspData) (tab : HullTable) (mins maxs : Vector3) (t : Tables) → t ≡ tablesOf m tab mins maxs → (root : ℕ) (s e : Vector3) (l x : List ℕ)
-    → Fills (nodesOf (trace (Fast.table f t) root s e)) l x → Fills (nodesOf (trace (tableOf f m tab mins maxs) root s e)) l x
-in-hull f m tab mins maxs t is-t root s e l x g = subst (λ T. Fills (nodesOf (trace T root s e)) l x) (table-same f m tab mins maxs t is-t) g
+    → Fills (nodesEntered (trace (Fast.table f t) root s e)) l x → Fills (nodesEntered (trace (tableOf f m tab mins maxs) root s e)) l x
+in-hull f m tab mins maxs t is-t root s e l x g = subst (λ T. Fills (nodesEntered (trace T root s e)) l x) (table-same f m tab mins maxs t is-t) g

@@ -38,7 +38,7 @@ use Rattle.nodes.specs.declared.read.ReadWords.the-variants.{Words, Refused}
 use Rattle.hull.specs.Traces.{stopsAt, tracedAnswer}
 use Rattle.hull.specs.declared.tracing.Traced.{Traced}
 use Rattle.hull.specs.declared.tracing.Traced.the-variants as T
-use Rattle.hull.proofs.Entering.{child-is, enter-not, enter-is, enter-no-plane}
+use Rattle.nodes.proofs.Entering.{child-is, enter-not, enter-is, enter-no-plane}
 use Rattle.entered.specs.Onward.{onwardTo, wordOnward, stepAcross, stepOf, nearFills, nearCount}
 use Rattle.entered.specs.declared.traced.Onward.{Onward}
 use Rattle.entered.specs.declared.traced.Onward.the-variants as O

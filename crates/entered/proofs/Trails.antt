@@ -11,8 +11,10 @@ use lib.Dec.{ltb}
 use lib.ListN.{length, take, drop, set}
 use lib.Seq.{take-suc-set, take-all, length-take-le}
 use Rattle.format.proofs.Answers.{mapped-answer, mapped-refused}
+use Rattle.format.proofs.Listing.{into-short, into-list}
 use Rattle.format.specs.Answer as Ans
 use Rattle.format.specs.Answer.{Answer, answer}
+use Rattle.format.specs.Listed.{listed, into}
 use Rattle.format.specs.Refusal.{numberOf}
 use Rattle.format.specs.declared.refusal.Refusal.{Refusal}
 use Rattle.math.specs.Plane as Pl
@@ -37,10 +39,10 @@ use Rattle.nodes.specs.declared.read.ReadWords.{ReadWords}
 use Rattle.nodes.specs.declared.read.ReadWords.the-variants.{Words, Refused}
 use Rattle.nodes.specs.declared.read.Sided.{Sided}
 use Rattle.nodes.specs.declared.read.Sided.the-variants as S
-use Rattle.hull.proofs.Entering.{child-node, child-end, enter-not, enter-is, enter-no-plane}
-use Rattle.entered.specs.Onward.{nodesOf, Fills}
+use Rattle.nodes.proofs.Entering.{child-node, child-end, enter-not, enter-is, enter-no-plane}
+use Rattle.entered.specs.Onward.{Fills}
 use Rattle.entered.proofs.Listing.{too-short, filled}
-use Rattle.entered.specs.Lists.{listedWith, listed, nodeOr0, onward, next, trail, trailed}
+use Rattle.entered.specs.Lists.{nodesEntered, nodeOr0, onward, next, trail, trailFrom}
 
 module _ {E A : Type 0} (T : Table E A) (p : Vector3) where
   -- the nodes of an outcome are the trail from i
@@ -82,23 +84,37 @@ module _ {E A : Type 0} (T : Table E A) (p : Vector3) where
 
   -- ---- the list that is left
 
+  trail-length : (n i : ℕ) → length (trail T p n i) ≡ n
+  unfolding trail
+  trail-length zero i = refl
+  trail-length (suc n) i = ap suc (trail-length n (next T p i))
+
+  module _ (l : List ℕ) (v root : ℕ) where
+    trail-short : length l < v → listed (Ans.refused 22) l ≡ into (answer (trail T p v root)) l
+    trail-short h = into-short l (answer (trail T p v root)) v (sym (ap answer (trail-length v root))) h
+
+    trail-fits : v ≤ length l → listed (answer v) (trail T p v root ++ drop v l) ≡ into (answer (trail T p v root)) l
+    trail-fits h = into-list l (answer (trail T p v root)) v (trail T p v root) refl (sym (ap answer (trail-length v root))) h
+
   module _ (l : List ℕ) (root : ℕ) where
-    fills-trail : (o : Outcome A) → Along root o → (v : ℕ) → length (take v l) ≡ v → Fills (nodesOf o) (take v l) (trail T p v root)
+    fills-trail : (o : Outcome A) → Along root o → (v : ℕ) → length (take v l) ≡ v → Fills (nodesEntered o) (take v l) (trail T p v root)
     fills-trail (done a ns) h v q = λ g. sym (h ∙ ap (λ (n : ℕ). trail T p n root) (g ∙ q))
     fills-trail (refused n) h v q = tt
 
-    by-visits : (o : Outcome A) → Along root o → (a : A) (v : ℕ) → answer (a, v) ≡ withVisits o → length l < 2 ^ 63 → root < T .nodes .count → (b : Bool) → ltb (length l) v ≡ b → trailed T p v root l ≡ listed l o
-    unfolding trailed
-    by-visits o h a v e f i true t = rw t (too-short l a v f o e (ltb-true (length l) v t))
-    by-visits o h a v e f i false t =
+    by-visits : (o : Outcome A) → Along root o → (a : A) (v : ℕ) → answer (a, v) ≡ withVisits o → length l < 2 ^ 63 → (b : Bool) → ltb (length l) v ≡ b → into (answer (trail T p v root)) l ≡ into (nodesEntered o) l
+    by-visits o h a v e f true t =
+        let g = ltb-true (length l) v t in
+        sym (trail-short l v root g) ∙ too-short l a v f o e g
+    by-visits o h a v e f false t =
         let g = ltb-false (length l) v t in
-        rw (t, lt-ltb root (T .nodes .count) i) (filled l a v f o e g (trail T p v root) (fills-trail o h v (length-take-le v l g)))
+        sym (trail-fits l v root g) ∙ filled l a v f o e g (trail T p v root) (fills-trail o h v (length-take-le v l g))
 
-    pub listed-trail : (a : A) (v : ℕ) → answer (a, v) ≡ withVisits (pointWalk T root p) → length l < 2 ^ 63 → trailed T p v root l ≡ listed l (pointWalk T root p)
+    pub listed-trail : (a : A) (v : ℕ) → answer (a, v) ≡ withVisits (pointWalk T root p) → length l < 2 ^ 63 → into (trailFrom T p v root) l ≡ into (nodesEntered (pointWalk T root p)) l
+    unfolding trailFrom
     listed-trail a v e f = by-root (ltb root (T .nodes .count)) refl
       where
-        by-root : (b : Bool) → ltb root (T .nodes .count) ≡ b → trailed T p v root l ≡ listed l (pointWalk T root p)
-        by-root true i = by-visits (pointWalk T root p) (along-walk (T .nodes .count) root) a v e f (ltb-true root (T .nodes .count) i) (ltb (length l) v) refl
+        by-root : (b : Bool) → ltb root (T .nodes .count) ≡ b → into (cond b (answer (trail T p v root)) (Ans.refused 30)) l ≡ into (nodesEntered (pointWalk T root p)) l
+        by-root true i = by-visits (pointWalk T root p) (along-walk (T .nodes .count) root) a v e f (ltb (length l) v) refl
         by-root false i =
             let n : _≡_ {A = Answer (A × ℕ)} (answer (a, v)) (Ans.refused 30) = e ∙ ap withVisits (walk-outside T p (T .nodes .count) root (ltb-false root (T .nodes .count) i)) in
             let z : _≡_ {A = ℕ} 0 1 = cc in
@@ -134,40 +150,42 @@ module _ (s : List ℕ) (t : Tables) (p : Vector3) where
   trail-same zero i = refl
   trail-same (suc n) i = ap (λ (l : List ℕ). i ∷ l) (trail-same n (next (Fast.table s t) p i))
 
-  trailed-same : (v root : ℕ) (l : List ℕ) → trailed (Fast.table s t) p v root l ≡ trailed (Fast.leaves s t) p v root l
-  unfolding trailed
-  trailed-same v root l = rw (trail-same v root)
+  from-same : (v root : ℕ) → trailFrom (Fast.table s t) p v root ≡ trailFrom (Fast.leaves s t) p v root
+  unfolding trailFrom
+  from-same v root = rw (trail-same v root)
 
 module _ (s : List ℕ) (m : BspData) (root : ℕ) (p : Vector3) (l : List ℕ) (short : length l < 2 ^ 63) where
   pub point-listed : (tab : HullTable) (mins maxs : Vector3) (t : Tables) → t ≡ tablesOf m tab mins maxs
       → (c : BspLeafContents) (v : ℕ) → answer (c, v) ≡ withVisits (pointWalk (tableOf s m tab mins maxs) root p)
-      → trailed (Fast.table s t) p v root l ≡ listed l (pointWalk (tableOf s m tab mins maxs) root p)
+      → into (trailFrom (Fast.table s t) p v root) l ≡ into (nodesEntered (pointWalk (tableOf s m tab mins maxs) root p)) l
   point-listed tab mins maxs t is-t c v e =
-      ap (λ (T : Table End BspLeafContents). trailed T p v root l) (table-same s m tab mins maxs t is-t) ∙ listed-trail (tableOf s m tab mins maxs) p l root c v e short
+      ap (λ (T : Table End BspLeafContents). into (trailFrom T p v root) l) (table-same s m tab mins maxs t is-t) ∙ listed-trail (tableOf s m tab mins maxs) p l root c v e short
 
   pub leaf-listed : (mins maxs : Vector3) (t : Tables) → t ≡ tablesOf m Render mins maxs
       → (n v : ℕ) → answer (n, v) ≡ withVisits (pointWalk (leafTable s m) root p)
-      → trailed (Fast.table s t) p v root l ≡ listed l (pointWalk (leafTable s m) root p)
+      → into (trailFrom (Fast.table s t) p v root) l ≡ into (nodesEntered (pointWalk (leafTable s m) root p)) l
   leaf-listed mins maxs t is-t n v e =
-      trailed-same s t p v root l ∙ ap (λ (T : Table End ℕ). trailed T p v root l) (ap (Fast.leaves s) is-t ∙ leaves-are s m mins maxs) ∙ listed-trail (leafTable s m) p l root n v e short
+      ap (λ (a : Answer (List ℕ)). into a l) (from-same s t p v root ∙ ap (λ (T : Table End ℕ). trailFrom T p v root) (ap (Fast.leaves s) is-t ∙ leaves-are s m mins maxs)) ∙ listed-trail (leafTable s m) p l root n v e short
 
 -- what `list_walk` answers
 module _ (s : List ℕ) (t : Tables) (p : Vector3) (v root : ℕ) (l : List ℕ) where
-  pub lacks-room : length l < v → listedWith (Ans.refused 22) l ≡ trailed (Fast.table s t) p v root l
-  unfolding trailed
-  lacks-room h = simp (lt-ltb (length l) v h)
+  pub root-outside : t .nodes .count ≤ root → listed (Ans.refused 30) l ≡ into (trailFrom (Fast.table s t) p v root) l
+  unfolding trailFrom
+  root-outside g = simp (le-ltb root (t .nodes .count) g)
 
-  module _ (h : v ≤ length l) where
-    pub root-outside : t .nodes .count ≤ root → listedWith (Ans.refused 30) l ≡ trailed (Fast.table s t) p v root l
-    unfolding trailed
-    root-outside g = simp (le-ltb (length l) v h, le-ltb root (t .nodes .count) g)
+  module _ (g : root < t .nodes .count) where
+    inside : trailFrom (Fast.table s t) p v root ≡ answer (trail (Fast.table s t) p v root)
+    unfolding trailFrom
+    inside = simp (lt-ltb root (t .nodes .count) g)
 
-    pub written : root < t .nodes .count → (x : List ℕ) → x ≡ trail (Fast.table s t) p (length (take v l)) root
-        → listedWith (answer v) (x ++ drop v l) ≡ trailed (Fast.table s t) p v root l
-    unfolding trailed
-    written g x is-x =
-        simp (le-ltb (length l) v h, lt-ltb root (t .nodes .count) g)
-        (ap (λ (y : List ℕ). listedWith (answer v) (y ++ drop v l)) (is-x ∙ ap (λ (k : ℕ). trail (Fast.table s t) p k root) (length-take-le v l h)))
+    pub lacks-room : length l < v → listed (Ans.refused 22) l ≡ into (trailFrom (Fast.table s t) p v root) l
+    lacks-room h = trail-short (Fast.table s t) p l v root h ∙ ap (λ (a : Answer (List ℕ)). into a l) (sym inside)
+
+    pub written : v ≤ length l → (x : List ℕ) → x ≡ trail (Fast.table s t) p (length (take v l)) root
+        → listed (answer v) (x ++ drop v l) ≡ into (trailFrom (Fast.table s t) p v root) l
+    written h x is-x =
+        ap (λ (y : List ℕ). listed (answer v) (y ++ drop v l)) (is-x ∙ ap (λ (k : ℕ). trail (Fast.table s t) p k root) (length-take-le v l h))
+        ∙ trail-fits (Fast.table s t) p l v root h ∙ ap (λ (a : Answer (List ℕ)). into a l) (sym inside)
 
 -- ---- the node that a walk goes on to, by what the readers answer
 

@@ -1,9 +1,8 @@
--- The list of nodes entered, as a call writes it into a lent list.
+-- The nodes that a walk or a trace enters, as a call lists them.
 use Prim.Native.Nat.{ℕ, zero, suc}
 use mathlib.Core.Bool.{cond}
-use mathlib.Core.List.{List, [], _∷_, _++_}
+use mathlib.Core.List.{List, [], _∷_}
 use lib.Dec.{ltb}
-use lib.ListN.{length, drop}
 use Rattle.format.specs.Answer as Ans
 use Rattle.format.specs.Answer.{Answer, answer}
 use Rattle.format.specs.Refusal.{numberOf}
@@ -14,19 +13,10 @@ use Rattle.walk.specs.Walk.{Outcome, done, refused, Entered, enter}
 use Rattle.entered.specs.declared.walked.EnteredAnswer.{EnteredAnswer}
 use Rattle.entered.specs.declared.walked.EnteredAnswer.the-variants as E
 
--- what a call answers, and the list that it leaves
-pub record Listed : Type 0 where
-  pub answer : Answer ℕ
-  pub list : List ℕ
-
-abbrev pub listedWith : Answer ℕ → List ℕ → Listed
-listedWith a l = record { answer = a; list = l }
-
--- the nodes entered at the front of the list, and the entries past them kept; 22 where the list is too short. A refusal leaves the list as it is.
-unfoldable pub listed : {A : Type 0} → List ℕ → Outcome A → Listed
-listed l (done a ns) =
-    cond (ltb (length l) (length ns)) (listedWith (Ans.refused 22) l) (listedWith (answer (length ns)) (ns ++ drop (length ns) l))
-listed l (refused n) = listedWith (Ans.refused n) l
+-- what a call lists: the nodes entered, in order, or a refusal's number
+abbrev pub nodesEntered : {A : Type 0} → Outcome A → Answer (List ℕ)
+nodesEntered (done a ns) = answer ns
+nodesEntered (refused n) = Ans.refused n
 
 abbrev pub enteredAnswer : EnteredAnswer → Answer ℕ
 enteredAnswer (E.Count n) = answer n
@@ -49,8 +39,6 @@ unfoldable pub trail : {E A : Type 0} → Table E A → Vector3 → ℕ → ℕ 
 trail T p zero i = []
 trail T p (suc n) i = i ∷ trail T p n (next T p i)
 
--- the trail of a walk of v visits from a root, as `listed` writes it: 22 where the list is too short, then 30 where the root is outside
-unfoldable pub trailed : {E A : Type 0} → Table E A → Vector3 → ℕ → ℕ → List ℕ → Listed
-trailed T p v root l =
-    cond (ltb (length l) v) (listedWith (Ans.refused 22) l)
-    (cond (ltb root (T .nodes .count)) (listedWith (answer v) (trail T p v root ++ drop v l)) (listedWith (Ans.refused 30) l))
+-- the trail of a walk of v visits from a root; 30 where the root is outside its table
+unfoldable pub trailFrom : {E A : Type 0} → Table E A → Vector3 → ℕ → ℕ → Answer (List ℕ)
+trailFrom T p v root = cond (ltb root (T .nodes .count)) (answer (trail T p v root)) (Ans.refused 30)

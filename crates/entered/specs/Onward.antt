@@ -19,6 +19,7 @@ use Rattle.walk.specs.Table.{Child, node, end, Node, Table, childOn}
 use Rattle.walk.specs.Walk.{Outcome, done, refused, held, Entered}
 use Rattle.walk.specs.Trace.{recursiveTrace}
 use Rattle.hull.specs.Traces.{stopsAt}
+use Rattle.entered.specs.Lists.{nodesEntered}
 use Rattle.entered.specs.declared.traced.Onward.{Onward}
 use Rattle.entered.specs.declared.traced.Onward.the-variants as O
 use Rattle.entered.specs.declared.traced.Step.{Step}
@@ -45,11 +46,6 @@ stepOf s e (Ans.refused n) = S.Refused
 
 -- ---- from a child on, with k calls left
 
--- the nodes entered
-abbrev pub nodesOf : {A : Type 0} → Outcome A → Answer (List ℕ)
-nodesOf (done a ns) = answer ns
-nodesOf (refused n) = Ans.refused n
-
 -- a list of just so many entries is filled with these nodes
 abbrev pub Fills : Answer (List ℕ) → List ℕ → List ℕ → Type 0
 Fills (answer ns) l x = length ns ≡ length l → x ≡ ns
@@ -62,7 +58,7 @@ nearFills m room (refused n) = room
 
 module _ {E : Type 0} (T : Table E BspLeafContents) (k : ℕ) (s e : Vector3) where
   abbrev pub nodesFrom : Onward → Answer (List ℕ)
-  nodesFrom (O.Node n) = nodesOf (recursiveTrace T k n s e)
+  nodesFrom (O.Node n) = nodesEntered (recursiveTrace T k n s e)
   nodesFrom O.End = answer []
 
   -- the near part from s to a crossing at e; a part that is an end stops only where that point is no number

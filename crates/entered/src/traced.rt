@@ -1,5 +1,6 @@
 // The nodes that the trace of a segment enters.
 ghost use mathlib.Core.Path.{_≡_};
+ghost use Rattle.format.specs.Listed.{listed, into};
 ghost use Rattle.walk.specs.Walk.{enter};
 ghost use Rattle.walk.specs.Trace as Tracing;
 ghost use Rattle.nodes.specs.Fast as Fast;
@@ -154,7 +155,7 @@ pub fn nodes_of_trace(
     end: Vector3,
     list: &mut [u32],
 ) -> EnteredAnswer
-    ensures { λ r. ⌜ Lists.listedWith (Lists.enteredAnswer r) (now (list .exit)) ≡ Lists.listed (now (list .entry)) (Tracing.trace (hullTable (now (s .entry)) map hull) (hull .«node_id») start end) ⌝ }
+    ensures { λ r. ⌜ listed (Lists.enteredAnswer r) (now (list .exit)) ≡ into (Lists.nodesEntered (Tracing.trace (hullTable (now (s .entry)) map hull) (hull .«node_id») start end)) (now (list .entry)) ⌝ }
 {
     match trace(s, map, hull, start, end) {
         Traced::Refused(e) => EnteredAnswer::Refused(e),

@@ -2,6 +2,7 @@
 ghost use mathlib.Core.Path.{_≡_};
 ghost use Prim.Native.Nat.{_<_};
 ghost use lib.ListN.{length};
+ghost use Rattle.format.specs.Listed.{listed, into};
 ghost use Rattle.walk.specs.Walk.{pointWalk};
 ghost use Rattle.nodes.specs.Tables.{leafTable};
 ghost use Rattle.nodes.specs.Fast as Fast;
@@ -62,7 +63,7 @@ fn write_walk(s: &[u8], t: Tables, root: usize, point: Vector3, list: &mut [u32]
     }
 }
 
-// The nodes of a walk of so many visits: 22 where the list is too short, 30 where the root is outside its table.
+// The nodes of a walk of so many visits: 30 where the root is outside its table, 22 where the list is too short.
 fn list_walk(
     s: &[u8],
     t: Tables,
@@ -71,14 +72,14 @@ fn list_walk(
     visits: u64,
     list: &mut [u32],
 ) -> EnteredAnswer
-    ensures { λ r. ⌜ Lists.listedWith (Lists.enteredAnswer r) (now (list .exit)) ≡ Lists.trailed (Fast.table (now (s .entry)) t) point visits root (now (list .entry)) ⌝ }
+    ensures { λ r. ⌜ listed (Lists.enteredAnswer r) (now (list .exit)) ≡ into (Lists.trailFrom (Fast.table (now (s .entry)) t) point visits root) (now (list .entry)) ⌝ }
 {
-    if (list.len() as u64) < visits {
-        return EnteredAnswer::Refused(Refusal::ListTooShort);
-    }
     let nodes = t.nodes;
     if (nodes.count as usize) <= root {
         return EnteredAnswer::Refused(Refusal::IndexOutsideTable);
+    }
+    if (list.len() as u64) < visits {
+        return EnteredAnswer::Refused(Refusal::ListTooShort);
     }
     let count = visits as usize;
     write_walk(s, t, root, point, &mut list[..count]);
@@ -94,7 +95,7 @@ pub fn nodes_to_point(
     point: Vector3,
     list: &mut [u32],
 ) -> EnteredAnswer
-    ensures { λ r. ⌜ Lists.listedWith (Lists.enteredAnswer r) (now (list .exit)) ≡ Lists.listed (now (list .entry)) (pointWalk (hullTable (now (s .entry)) map hull) (hull .«node_id») point) ⌝ }
+    ensures { λ r. ⌜ listed (Lists.enteredAnswer r) (now (list .exit)) ≡ into (Lists.nodesEntered (pointWalk (hullTable (now (s .entry)) map hull) (hull .«node_id») point)) (now (list .entry)) ⌝ }
 {
     match contents_at_point(s, map, hull, point) {
         PointContents::Refused(e) => EnteredAnswer::Refused(e),
@@ -114,7 +115,7 @@ pub fn nodes_to_leaf(
     point: Vector3,
     list: &mut [u32],
 ) -> EnteredAnswer
-    ensures { λ r. ⌜ Lists.listedWith (Lists.enteredAnswer r) (now (list .exit)) ≡ Lists.listed (now (list .entry)) (pointWalk (leafTable (now (s .entry)) map) root point) ⌝ }
+    ensures { λ r. ⌜ listed (Lists.enteredAnswer r) (now (list .exit)) ≡ into (Lists.nodesEntered (pointWalk (leafTable (now (s .entry)) map) root point)) (now (list .entry)) ⌝ }
 {
     match find_leaf_from(s, map, root, point) {
         FoundLeaf::Refused(e) => EnteredAnswer::Refused(e),

@@ -3,10 +3,11 @@ use Prim.Native.Nat.{ℕ}
 use mathlib.Core.List.{List}
 use lib.Dec.{eqb}
 use Rattle.format.specs.Answer.{mapped}
+use Rattle.format.specs.Listed.{into}
 use Rattle.format.specs.Step.{when}
-use Rattle.words.specs.Words.{Written, given, atLeast, Left, left, enough, beside, numberWords, mapWords, mapOf}
+use Rattle.words.specs.Words.{Written, given, atLeast, Left, left, enough, beside, listedIn, numberWords, mapWords, mapOf}
 use Rattle.load.specs.Load.{loadOf}
-use Rattle.vis.specs.Pvs.{Listed, pvsOf, into}
+use Rattle.vis.specs.Pvs.{pvsOf}
 use Rattle.walk.specs.TreeCheck.{Checked, treeCheck}
 use Rattle.nodes.specs.Tables.{nodesOf}
 use Rattle.nodes.specs.declared.table.HullTable.the-variants.{Render, Clip, Box}
@@ -17,9 +18,6 @@ unfoldable pub bspLoad : List ℕ → List ℕ → Written
 bspLoad s map = atLeast 31 map map (given (mapped mapWords (loadOf s)) map)
 
 -- the leaves in the list, and their count in `out`
-abbrev pub listedIn : Listed → List ℕ → Left
-listedIn l out = beside (l .list) (given (mapped numberWords (l .answered)) out)
-
 unfoldable pub bspPvs : List ℕ → List ℕ → ℕ → ℕ → List ℕ → List ℕ → Left
 bspPvs s map leaf count list out =
     enough 31 map list out (enough 1 out list out

@@ -13,7 +13,6 @@ use entered::walked::nodes_to_point;
 use ffi_hull::layout;
 use hull::collision::HullAnswer;
 use words::give;
-use words::map_of;
 
 fn give_count(entered: EnteredAnswer, out: &mut [u64]) -> u32
     requires { ⌜ 1 ≤ length (now out) ⌝ }
@@ -50,11 +49,12 @@ pub fn contents_nodes(
     if out.len() < 1 {
         return 22;
     }
-    match layout::hull_of(hull) {
+    match layout::walked_hull(hull) {
         HullAnswer::Refused(e) => e.number(),
         HullAnswer::Hull(h) => {
+            let m = layout::walked_map(map);
             let p = layout::first_point(point);
-            give_count(nodes_to_point(file, map_of(map), h, p, list), out)
+            give_count(nodes_to_point(file, m, h, p, list), out)
         }
     }
 }
@@ -79,11 +79,9 @@ pub fn find_leaf_nodes(
     if out.len() < 1 {
         return 22;
     }
+    let m = layout::walked_map(map);
     let p = layout::first_point(point);
-    give_count(
-        nodes_to_leaf(file, map_of(map), root as usize, p, list),
-        out,
-    )
+    give_count(nodes_to_leaf(file, m, root as usize, p, list), out)
 }
 
 // The same for the trace of a segment through a hull, of 6 floats.
@@ -109,12 +107,13 @@ pub fn trace_nodes(
     if out.len() < 1 {
         return 22;
     }
-    match layout::hull_of(hull) {
+    match layout::walked_hull(hull) {
         HullAnswer::Refused(e) => e.number(),
         HullAnswer::Hull(h) => {
+            let m = layout::walked_map(map);
             let start = layout::first_point(segment);
             let end = layout::second_point(segment);
-            give_count(nodes_of_trace(file, map_of(map), h, start, end, list), out)
+            give_count(nodes_of_trace(file, m, h, start, end, list), out)
         }
     }
 }

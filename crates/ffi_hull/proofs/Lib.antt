@@ -1,3 +1,2 @@
--- What the proofs of `ffi_hull` share.
-pub mod Asking
-mod Walked
+-- What the proofs of `ffi_hull` and of `ffi_entered` share.
+pub mod Walked

@@ -2,20 +2,14 @@
 use Prim.Native.Nat.{ℕ}
 use mathlib.Core.List.{List}
 use lib.Ieee.{Float}
-use Rattle.format.specs.Answer.{Answer, answer, refused, mapped}
+use Rattle.format.specs.Answer.{mapped, thenAnswer}
 use Rattle.words.specs.Words.{Written, given, atLeast, mapOf}
 use Rattle.walk.specs.Walk.{withVisits, pointWalk}
 use Rattle.walk.specs.Trace as Tracing
 use Rattle.nodes.specs.Tables.{leafTable}
 use Rattle.hull.specs.Hull as Hull
 use Rattle.hull.specs.Hull.{forBounds, hullTable}
-use Rattle.hull.specs.declared.collision.BspCollisionHull.{BspCollisionHull}
 use Rattle.ffi_hull.specs.Layout.{pointAt, hullFrom, hullWords, contentsWords, leafWords, traceWords}
-
--- what is asked of a hull, once it is taken from its words
-abbrev pub ofHull : {A : Type 0} → Answer BspCollisionHull → (BspCollisionHull → Answer A) → Answer A
-ofHull (answer h) ask = ask h
-ofHull (refused n) ask = refused n
 
 unfoldable pub bspHull : List ℕ → List ℕ → ℕ → ℕ → List ℕ → Written
 bspHull s map model i out = atLeast 31 map out (atLeast 9 out out (given (mapped hullWords (Hull.hull s (mapOf map) model i)) out))
@@ -26,7 +20,7 @@ bspBox bounds out = atLeast 6 bounds out (atLeast 9 out out (given (mapped hullW
 unfoldable pub bspContents : List ℕ → List ℕ → List ℕ → List Float → List ℕ → Written
 bspContents s map hull point out =
     atLeast 31 map out (atLeast 9 hull out (atLeast 3 point out (atLeast 2 out out
-    (given (mapped contentsWords (ofHull (hullFrom hull) (λ h.
+    (given (mapped contentsWords (thenAnswer (hullFrom hull) (λ h.
     withVisits (pointWalk (hullTable s (mapOf map) h) (h .«node_id») (pointAt point 0))))) out))))
 
 unfoldable pub bspFindLeaf : List ℕ → List ℕ → ℕ → List Float → List ℕ → Written
@@ -37,5 +31,5 @@ bspFindLeaf s map root point out =
 unfoldable pub bspTrace : List ℕ → List ℕ → List ℕ → List Float → List ℕ → Written
 bspTrace s map hull segment out =
     atLeast 31 map out (atLeast 9 hull out (atLeast 6 segment out (atLeast 17 out out
-    (given (mapped traceWords (ofHull (hullFrom hull) (λ h.
+    (given (mapped traceWords (thenAnswer (hullFrom hull) (λ h.
     withVisits (Tracing.trace (hullTable s (mapOf map) h) (h .«node_id») (pointAt segment 0) (pointAt segment 3))))) out))))

@@ -55,7 +55,7 @@ hullFrom ws =
     (when (eqb (getD ws 0 0) 2) (answer (hullIn Box ws))
     (refused 20)))
 
--- for private contracts: the same hull as a walk or a trace goes by it, its bounds read where it is a box
+-- for `walked_hull`: the same hull as a walk or a trace goes by it, its bounds read where it is a box
 abbrev pub flatHull : Bool → List ℕ → BspCollisionHull
 flatHull render ws =
     record { table = fileTable render; «node_id» = getD ws 1 0; «node_count» = 0; mins = vector zero32 zero32 zero32; maxs = vector zero32 zero32 zero32 }
@@ -69,7 +69,7 @@ walkedFrom ws =
 abbrev pub noSection : BspFileSection
 noSection = record { offset = 0; size = 0 }
 
--- and the map record with the sections that it goes by
+-- for `walked_map`: the map record with the sections that a walk or a trace goes by
 abbrev pub walkedMap : List ℕ → BspData
 walkedMap ws =
     record {

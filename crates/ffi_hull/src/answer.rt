@@ -15,13 +15,13 @@ use format::section::BspData;
 use hull::collision::BspCollisionHull;
 use hull::collision::HullAnswer;
 use hull::point::FoundLeaf;
-use hull::point::WalkEnd;
-use hull::point::walk_to_end;
 use hull::tracing::Traced;
 use math::Vector3;
 use nodes::read::EndContents;
 use nodes::read::end_contents;
 use nodes::table::Tables;
+use nodes::walking::WalkEnd;
+use nodes::walking::walk_to_end;
 use words::give;
 
 pub fn give_hull(hull: HullAnswer, out: &mut [u64]) -> u32

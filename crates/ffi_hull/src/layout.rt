@@ -2,6 +2,7 @@
 ghost use mathlib.Core.Path.{_≡_};
 ghost use lib.ListN.{getD};
 ghost use Rattle.nodes.specs.Fast.{fileTable};
+ghost use Rattle.nodes.specs.declared.table.HullTable.the-variants.{Box};
 ghost use Rattle.hull.specs.Hull.{hullAnswer};
 ghost use Rattle.ffi_hull.specs.Layout as Layout;
 use format::refusal::Refusal;
@@ -92,12 +93,12 @@ fn float_of(words: &[u64], at: usize) -> f32
     float::num::from_bits((word_at_u64(words, at) % 4294967296) as u32)
 }
 
-// The hull of a table and of nine words.
-fn hull_in(table: HullTable, words: &[u64]) -> BspCollisionHull
-    ensures { λ r. ⌜ r ≡ Layout.hullIn table (now (words .entry)) ⌝ }
+// The hull of nine words that are a box's.
+fn box_in(words: &[u64]) -> BspCollisionHull
+    ensures { λ r. ⌜ r ≡ Layout.hullIn Box (now (words .entry)) ⌝ }
 {
     BspCollisionHull {
-        table,
+        table: HullTable::Box,
         node_id: word_at_u64(words, 1) as usize,
         node_count: word_at_u64(words, 2) as usize,
         mins: Vector3 {
@@ -111,23 +112,6 @@ fn hull_in(table: HullTable, words: &[u64]) -> BspCollisionHull
             z: float_of(words, 8),
         },
     }
-}
-
-// The hull of nine words. 20: its table is above 2.
-pub fn hull_of(words: &[u64]) -> HullAnswer
-    ensures { λ r. ⌜ hullAnswer r ≡ Layout.hullFrom (now (words .entry)) ⌝ }
-{
-    let table = word_at_u64(words, 0);
-    if table == 0 {
-        return HullAnswer::Hull(hull_in(HullTable::Render, words));
-    }
-    if table == 1 {
-        return HullAnswer::Hull(hull_in(HullTable::Clip, words));
-    }
-    if table == 2 {
-        return HullAnswer::Hull(hull_in(HullTable::Box, words));
-    }
-    HullAnswer::Refused(Refusal::NoSuchRecord)
 }
 
 fn node_table(render: bool) -> HullTable
@@ -155,7 +139,7 @@ pub fn walked_hull(words: &[u64]) -> HullAnswer
         });
     }
     if table == 2 {
-        return HullAnswer::Hull(hull_in(HullTable::Box, words));
+        return HullAnswer::Hull(box_in(words));
     }
     HullAnswer::Refused(Refusal::NoSuchRecord)
 }

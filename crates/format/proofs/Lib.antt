@@ -7,3 +7,4 @@ pub mod Layouts
 pub mod Steps
 pub mod Chain
 pub mod Answers
+pub mod Listing

@@ -7,3 +7,4 @@ pub mod Field
 pub mod Code
 pub mod Section
 pub mod Layout
+pub mod Listed

@@ -63,6 +63,10 @@ module _ (f : List ℕ) (t : Tables) (w : WordsT) (s e : Vector3) (a b : Float) 
   abbrev x : Crossing
   x = Pl.crossing h s e a b (Pl.fromDist a)
 
+  -- the plane as the near part ends at it
+  abbrev turned : Hyperplane
+  turned = Pl.facing (Pl.pointSide h s) h
+
   abbrev pub nearPart : Outcome TraceT
   nearPart = nearOf table go nd h s e x
 
@@ -72,26 +76,27 @@ module _ (f : List ℕ) (t : Tables) (w : WordsT) (s e : Vector3) (a b : Float) 
   -- ---- the two parts, each at a node or at a leaf
 
   module _ (mid : Vector3) (is-mid : mid ≡ x .point) (v : ℕ) (small : v < 2 ^ 64) (side : HyperplaneSide) (fr : Bool) (is-fr : Pl.sideIf fr ≡ side) (m : MetChild) (is-m : metAnswer m ≡ metOn f t w fr) where
-    met-side : metAnswer m ≡ metChild table (childOn nd side)
+    met-on : (z : HyperplaneSide) → side ≡ z → metAnswer m ≡ metChild table (childOn nd z)
     unfolding metOn
-    met-side = is-m ∙ ap (λ (z : HyperplaneSide). metChild table (childOn nd z)) is-fr
+    met-on z is-z = is-m ∙ ap (λ (y : HyperplaneSide). metChild table (childOn nd y)) (is-fr ∙ is-z)
 
     -- visits that are counted already
-    counted-is : (y : TraceT) → answer (y, v) ≡ after v (done y [])
-    counted-is y = ap (λ (z : ℕ). answer (y, z)) {x = v} {y = held (v + 0)} (omega arith)
+    counted-is : (r : Traced) (y : TraceT) → r ≡ T.Trace y v → tracedAnswer r ≡ after v (done y [])
+    counted-is r y q = ap tracedAnswer q ∙ ap (λ (z : ℕ). answer (y, z)) {x = v} {y = held (v + 0)} (omega arith)
 
     module _ (is-side : side ≡ Pl.pointSide h s) where
-      near-met : (y : MetChild) → m ≡ y → nearPart ≡ onMet (λ i. go i s (x .point)) (λ c. outOfLeaf s (x .point) (x .ratio) (Pl.facing side h) c) (metAnswer y)
+      near-met : (y : MetChild) → m ≡ y → nearPart ≡ onMet (λ i. go i s (x .point)) (λ c. outOfLeaf s (x .point) (x .ratio) turned c) (metAnswer y)
       near-met y q =
-          rw (← is-side) (onto-met table (λ i. go i s (x .point)) (λ c. outOfLeaf s (x .point) (x .ratio) (Pl.facing side h) c) (childOn nd side)
-          ∙ ap (onMet (λ i. go i s (x .point)) (λ c. outOfLeaf s (x .point) (x .ratio) (Pl.facing side h) c)) (sym met-side ∙ ap metAnswer q))
+          onto-met table (λ i. go i s (x .point)) (λ c. outOfLeaf s (x .point) (x .ratio) turned c) (childOn nd (Pl.pointSide h s))
+          ∙ ap (onMet (λ i. go i s (x .point)) (λ c. outOfLeaf s (x .point) (x .ratio) turned c)) (sym (met-on (Pl.pointSide h s) is-side) ∙ ap metAnswer q)
 
       pub near-node : (i : ℕ) → m ≡ M.Node i → (r : Traced) → tracedAnswer r ≡ after v (go i s mid) → tracedAnswer r ≡ after v nearPart
       near-node i q r is-r = is-r ∙ ap (λ (z : Vector3). after v (go i s z)) is-mid ∙ sym (ap (after v) (near-met (M.Node i) q))
 
-      pub near-leaf : (c : BspLeafContents) → m ≡ M.Contents c → (p : Hyperplane) → p ≡ Pl.facing side h → (y : TraceT) → y ≡ outOfLeaf s mid (x .ratio) p c → answer (y, v) ≡ after v nearPart
-      near-leaf c q p is-p y is-y =
-          counted-is y ∙ ap (λ (z : TraceT). after v (done z [])) (rw (is-y, is-p, is-mid)) ∙ sym (ap (after v) (near-met (M.Contents c) q))
+      pub near-leaf : (c : BspLeafContents) → m ≡ M.Contents c → (r : Traced) → r ≡ T.Trace (outOfLeaf s mid (x .ratio) turned c) v → tracedAnswer r ≡ after v nearPart
+      near-leaf c q r is-r =
+          counted-is r (outOfLeaf s mid (x .ratio) turned c) is-r ∙ ap (λ (z : Vector3). after v (done (outOfLeaf s z (x .ratio) turned c) [])) is-mid
+          ∙ sym (ap (after v) (near-met (M.Contents c) q))
 
       pub near-none : (z : Refusal) → m ≡ M.Refused z → Ans.refused (numberOf z) ≡ after v nearPart
       near-none z q = sym (ap (after v) (near-met (M.Refused z) q))
@@ -99,15 +104,16 @@ module _ (f : List ℕ) (t : Tables) (w : WordsT) (s e : Vector3) (a b : Float) 
     module _ (is-side : side ≡ Pl.pointSide h e) where
       far-met : (y : MetChild) → m ≡ y → farPart ≡ onMet (λ i. go i (x .point) e) (λ c. withinLeaf (x .point) (x .ratio) e c) (metAnswer y)
       far-met y q =
-          rw (← is-side) (onto-met table (λ i. go i (x .point) e) (λ c. withinLeaf (x .point) (x .ratio) e c) (childOn nd side)
-          ∙ ap (onMet (λ i. go i (x .point) e) (λ c. withinLeaf (x .point) (x .ratio) e c)) (sym met-side ∙ ap metAnswer q))
+          onto-met table (λ i. go i (x .point) e) (λ c. withinLeaf (x .point) (x .ratio) e c) (childOn nd (Pl.pointSide h e))
+          ∙ ap (onMet (λ i. go i (x .point) e) (λ c. withinLeaf (x .point) (x .ratio) e c)) (sym (met-on (Pl.pointSide h e) is-side) ∙ ap metAnswer q)
 
       pub far-node : (i : ℕ) → m ≡ M.Node i → (r : Traced) → tracedAnswer r ≡ after v (go i mid e) → tracedAnswer r ≡ after v farPart
       far-node i q r is-r = is-r ∙ ap (λ (z : Vector3). after v (go i z e)) is-mid ∙ sym (ap (after v) (far-met (M.Node i) q))
 
-      pub far-leaf : (c : BspLeafContents) → m ≡ M.Contents c → (y : TraceT) → y ≡ withinLeaf mid (x .ratio) e c → answer (y, v) ≡ after v farPart
-      far-leaf c q y is-y =
-          counted-is y ∙ ap (λ (z : TraceT). after v (done z [])) (rw (is-y, is-mid)) ∙ sym (ap (after v) (far-met (M.Contents c) q))
+      pub far-leaf : (c : BspLeafContents) → m ≡ M.Contents c → (r : Traced) → r ≡ T.Trace (withinLeaf mid (x .ratio) e c) v → tracedAnswer r ≡ after v farPart
+      far-leaf c q r is-r =
+          counted-is r (withinLeaf mid (x .ratio) e c) is-r ∙ ap (λ (z : Vector3). after v (done (withinLeaf z (x .ratio) e c) [])) is-mid
+          ∙ sym (ap (after v) (far-met (M.Contents c) q))
 
       pub far-none : (z : Refusal) → m ≡ M.Refused z → Ans.refused (numberOf z) ≡ after v farPart
       far-none z q = sym (ap (after v) (far-met (M.Refused z) q))

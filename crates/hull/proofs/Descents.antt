@@ -22,23 +22,22 @@ use Rattle.math.specs.declared.LinePlaneIntersect.{LinePlaneIntersect}
 use Rattle.math.specs.declared.LinePlaneIntersect.the-variants.{NoIntersection, PointIntersection}
 use Rattle.phys.specs.declared.Trace.{Trace as TraceT}
 use Rattle.walk.specs.Table.{Child, node, end, Node, Table, childOn}
-use Rattle.walk.specs.Walk.{Outcome, done, refused, held, after, enter, meet, ended, onto}
+use Rattle.walk.specs.Walk.{Outcome, done, refused, held, after, Entered, enter, meet, ended, onto}
 use Rattle.walk.specs.Trace.{across, traceAt, recursiveTrace}
 use Rattle.walk.proofs.Steps.{after-one, after-held, trace-unread}
 use Rattle.nodes.specs.Tables.{End}
-use Rattle.nodes.specs.Fast.{wordsAnswer, nodeOf, planeIn, twoDists, distsFrom, distsAnswer, contentsMet}
+use Rattle.nodes.specs.Fast.{nodeOf, planeIn, twoDists, contentsMet}
 use Rattle.nodes.specs.Fast as Fast
 use Rattle.nodes.specs.declared.table.Tables.{Tables}
 use Rattle.nodes.specs.declared.read.Words.{Words as WordsT}
-use Rattle.nodes.specs.declared.read.ReadWords.{ReadWords}
-use Rattle.nodes.specs.declared.read.ReadWords.the-variants.{Words, Refused}
-use Rattle.nodes.specs.declared.read.Dists.{Dists}
-use Rattle.nodes.specs.declared.read.Dists.the-variants as D
 use Rattle.nodes.specs.declared.read.EndContents.{EndContents}
+use Rattle.nodes.specs.declared.walking.SegmentAt.{SegmentAt}
+use Rattle.nodes.specs.declared.walking.SegmentAt.the-variants as G
+use Rattle.nodes.specs.Walks.{madeFrom, nodeAndDists, segmentAnswer}
 use Rattle.hull.specs.Traces.{Met, metNode, metContents, metRefused, metAnswer, metEnd, metChild, metOn, withinLeaf, crossedAt}
 use Rattle.hull.specs.declared.tracing.MetChild.{MetChild}
 use Rattle.hull.specs.declared.tracing.MetChild.the-variants as M
-use Rattle.hull.proofs.Entering.{child-node, child-end, enter-not, enter-is, enter-no-plane}
+use Rattle.nodes.proofs.Entering.{child-node, child-end, planed}
 
 -- ---- a child that is met
 
@@ -83,7 +82,7 @@ agree false false e = refl
 
 -- ---- at a node of the table
 
-module _ (f : List ℕ) (t : Tables) (s e : Vector3) (v k i : ℕ) (left : k ≡ 0 → ⊥) (h : i < t .nodes .count) (r : ReadWords) (is-r : wordsAnswer (t .table) r ≡ Fast.nodeAt f t i) where
+module _ (f : List ℕ) (t : Tables) (s e : Vector3) (v k i : ℕ) (left : k ≡ 0 → ⊥) (h : i < t .nodes .count) (r : SegmentAt) (is-r : segmentAnswer (t .table) r ≡ madeFrom (nodeAndDists s e) f t i) where
   abbrev T : Table End BspLeafContents
   T = Fast.table f t
 
@@ -93,70 +92,75 @@ module _ (f : List ℕ) (t : Tables) (s e : Vector3) (v k i : ℕ) (left : k ≡
   more : k ≡ suc (k - 1)
   more = omega arith
 
-  pub unread : (x : Refusal) → r ≡ Refused x → Ans.refused (numberOf x) ≡ after v (recursiveTrace T k i s e)
-  unread x q = sym (ap (after v) (trace-unread T s e k (k - 1) i more h (numberOf x) (enter-not f t T refl refl refl i r is-r x q)))
+  pub unread : (x : Refusal) → r ≡ G.Refused x → Ans.refused (numberOf x) ≡ after v (recursiveTrace T k i s e)
+  unread x q =
+      sym (ap (after v) (trace-unread T s e k (k - 1) i more h (numberOf x) (mapped-refused (nodeAndDists s e) (enter T i) (numberOf x) (sym is-r ∙ ap (segmentAnswer (t .table)) q))))
 
-  module _ (w : WordsT) (q : r ≡ Words w) (d : Dists) (is-d : distsAnswer d ≡ distsFrom s e (planeIn f t (w .plane))) where
-    pub no-plane : (x : Refusal) → d ≡ D.Refused x → Ans.refused (numberOf x) ≡ after v (recursiveTrace T k i s e)
-    no-plane x q2 =
-        sym (ap (after v) (trace-unread T s e k (k - 1) i more h (numberOf x) (enter-no-plane f t T refl refl refl i r is-r w q (numberOf x) (mapped-refused (twoDists s e) (planeIn f t (w .plane)) (numberOf x) (sym is-d ∙ ap distsAnswer q2)))))
+  module _ (w : WordsT) (a b : Float) (q2 : r ≡ G.Dists w a b) where
+    abbrev nd : Node End
+    nd = nodeOf (t .table) w
 
-    module _ (a b : Float) (q2 : d ≡ D.Two a b) where
-      found : (h : Hyperplane) × (planeIn f t (w .plane) ≡ answer h) × (_≡_ {A = Float × Float} (twoDists s e h) (a, b))
-      found = mapped-answer (twoDists s e) (planeIn f t (w .plane)) (a, b) (sym is-d ∙ ap distsAnswer q2)
+    seen : (m : Entered End) × (enter T i ≡ answer m) × (_≡_ {A = Node End × (Float × Float)} (nodeAndDists s e m) (nd, (a, b)))
+    seen = mapped-answer (nodeAndDists s e) (enter T i) (nd, (a, b)) (sym is-r ∙ ap (segmentAnswer (t .table)) q2)
 
-      abbrev pl : Hyperplane
-      pl = found .0
+    abbrev pl : Hyperplane
+    pl = seen .0 .plane
 
-      abbrev nd : Node End
-      nd = nodeOf (t .table) w
+    its-node : seen .0 .nd ≡ nd
+    its-node = ap (λ (z : Node End × (Float × Float)). z .0) (seen .2)
 
-      met : enter T i ≡ answer (record { nd = nd; plane = pl })
-      met = enter-is f t T refl refl refl i r is-r w q pl (found .1)
+    its-dists : _≡_ {A = Float × Float} (twoDists s e pl) (a, b)
+    its-dists = ap (λ (z : Node End × (Float × Float)). z .1) (seen .2)
 
-      segment : Pl.lineSegment pl s e ≡ Pl.segmentAt pl s e a b
-      unfolding Pl.lineSegment
-      segment = rw (ap (λ (z : Float × Float). z .0) (found .2), ap (λ (z : Float × Float). z .1) (found .2))
+    its-plane : planeIn f t (w .plane) ≡ answer pl
+    its-plane = sym (ap (λ (z : Node End). planeIn f t (z .plane)) its-node) ∙ planed f t i (seen .0) (seen .1)
 
-      on-one-side : Pl.sameSide (Pl.fromDist a) (Pl.fromDist b) ≡ true → Pl.lineSegment pl s e ≡ NoIntersection (Pl.fromDist a)
-      on-one-side z = segment ∙ simp z
+    met : enter T i ≡ answer (record { nd = nd; plane = pl })
+    met = seen .1 ∙ ap (λ (z : Node End). answer (record { nd = z; plane = pl })) its-node
 
-      crossing : Pl.sameSide (Pl.fromDist a) (Pl.fromDist b) ≡ false → Pl.lineSegment pl s e ≡ PointIntersection (Pl.crossing pl s e a b (Pl.fromDist a))
-      crossing z = segment ∙ simp z
+    segment : Pl.lineSegment pl s e ≡ Pl.segmentAt pl s e a b
+    unfolding Pl.lineSegment
+    segment = rw (ap (λ (z : Float × Float). z .0) its-dists, ap (λ (z : Float × Float). z .1) its-dists)
 
-      -- ---- a crossing
+    on-one-side : Pl.sameSide (Pl.fromDist a) (Pl.fromDist b) ≡ true → Pl.lineSegment pl s e ≡ NoIntersection (Pl.fromDist a)
+    on-one-side z = segment ∙ simp z
 
-      step : recursiveTrace T k i s e ≡ traceAt T go i s e (enter T i)
-      unfolding recursiveTrace
-      step = by-left (k - 1) more
-        where
-          by-left : (j : ℕ) → k ≡ suc j → recursiveTrace T k i s e ≡ traceAt T (λ n x y. recursiveTrace T j n x y) i s e (enter T i)
-          by-left j p = rw p (simp (lt-ltb i (t .nodes .count) h))
+    crossing : Pl.sameSide (Pl.fromDist a) (Pl.fromDist b) ≡ false → Pl.lineSegment pl s e ≡ PointIntersection (Pl.crossing pl s e a b (Pl.fromDist a))
+    crossing z = segment ∙ simp z
 
-      passes : after v (recursiveTrace T k i s e) ≡ after (held (v + 1)) (across T go nd pl s e (Pl.lineSegment pl s e))
-      passes =
-          ap (after v) (step ∙ ap (traceAt T go i s e) met) ∙ after-one v i (across T go nd pl s e (Pl.lineSegment pl s e))
-          ∙ sym (after-held (v + 1) (across T go nd pl s e (Pl.lineSegment pl s e)))
+    -- ---- a crossing
 
-      pub crosses : not (Bool·beq (Ieee.le zero32 a) (Ieee.le zero32 b)) ≡ true → (u : ℕ) → u ≡ held (v + 1)
-          → after u (crossedAt T (k - 1) nd s e a b (planeIn f t (w .plane))) ≡ after v (recursiveTrace T k i s e)
-      crosses z u is-u =
-          rw (is-u, found .1) (sym (passes ∙ ap (λ (l : LinePlaneIntersect). after (held (v + 1)) (across T go nd pl s e l)) (crossing (differ (Ieee.le zero32 a) (Ieee.le zero32 b) z))))
+    step : recursiveTrace T k i s e ≡ traceAt T go i s e (enter T i)
+    unfolding recursiveTrace
+    step = by-left (k - 1) more
+      where
+        by-left : (j : ℕ) → k ≡ suc j → recursiveTrace T k i s e ≡ traceAt T (λ n x y. recursiveTrace T j n x y) i s e (enter T i)
+        by-left j p = rw p (simp (lt-ltb i (t .nodes .count) h))
 
-      -- ---- all on one side
+    passes : after v (recursiveTrace T k i s e) ≡ after (held (v + 1)) (across T go nd pl s e (Pl.lineSegment pl s e))
+    passes =
+        ap (after v) (step ∙ ap (traceAt T go i s e) met) ∙ after-one v i (across T go nd pl s e (Pl.lineSegment pl s e))
+        ∙ sym (after-held (v + 1) (across T go nd pl s e (Pl.lineSegment pl s e)))
 
-      module _ (z : not (Bool·beq (Ieee.le zero32 a) (Ieee.le zero32 b)) ≡ false) (m : MetChild) (is-m : metAnswer m ≡ metOn f t w (Ieee.le zero32 a)) (u : ℕ) (is-u : u ≡ held (v + 1)) where
-        whole : (y : MetChild) → m ≡ y → after v (recursiveTrace T k i s e) ≡ after u (onMet (λ n. go n s e) (λ c. withinLeaf s zero32 e c) (metAnswer y))
-        unfolding metOn
-        whole y qy =
-            passes ∙ ap (λ (l : LinePlaneIntersect). after (held (v + 1)) (across T go nd pl s e l)) (on-one-side (agree (Ieee.le zero32 a) (Ieee.le zero32 b) z))
-            ∙ rw (is-u, ← qy, is-m) (ap (after (held (v + 1))) (onto-met T (λ n. go n s e) (λ c. withinLeaf s zero32 e c) (childOn nd (Pl.sideIf (Ieee.le zero32 a)))))
+    pub crosses : not (Bool·beq (Ieee.le zero32 a) (Ieee.le zero32 b)) ≡ true → (u : ℕ) → u ≡ held (v + 1)
+        → after u (crossedAt T (k - 1) nd s e a b (planeIn f t (w .plane))) ≡ after v (recursiveTrace T k i s e)
+    crosses z u is-u =
+        rw (is-u, its-plane) (sym (passes ∙ ap (λ (l : LinePlaneIntersect). after (held (v + 1)) (across T go nd pl s e l)) (crossing (differ (Ieee.le zero32 a) (Ieee.le zero32 b) z))))
 
-        pub to-node : (n : ℕ) → m ≡ M.Node n → after v (recursiveTrace T k i s e) ≡ after u (go n s e)
-        to-node n qn = whole (M.Node n) qn
+    -- ---- all on one side
 
-        pub in-leaf : (c : BspLeafContents) → m ≡ M.Contents c → answer (withinLeaf s zero32 e c, u) ≡ after v (recursiveTrace T k i s e)
-        in-leaf c qc = sym (whole (M.Contents c) qc ∙ rw is-u (ap (λ (n : ℕ). answer (withinLeaf s zero32 e c, n)) {x = held (held (v + 1) + 0)} {y = held (v + 1)} (omega arith)))
+    module _ (z : not (Bool·beq (Ieee.le zero32 a) (Ieee.le zero32 b)) ≡ false) (m : MetChild) (is-m : metAnswer m ≡ metOn f t w (Ieee.le zero32 a)) (u : ℕ) (is-u : u ≡ held (v + 1)) where
+      whole : (y : MetChild) → m ≡ y → after v (recursiveTrace T k i s e) ≡ after u (onMet (λ n. go n s e) (λ c. withinLeaf s zero32 e c) (metAnswer y))
+      unfolding metOn
+      whole y qy =
+          passes ∙ ap (λ (l : LinePlaneIntersect). after (held (v + 1)) (across T go nd pl s e l)) (on-one-side (agree (Ieee.le zero32 a) (Ieee.le zero32 b) z))
+          ∙ rw (is-u, ← qy, is-m) (ap (after (held (v + 1))) (onto-met T (λ n. go n s e) (λ c. withinLeaf s zero32 e c) (childOn nd (Pl.sideIf (Ieee.le zero32 a)))))
 
-        pub no-leaf : (x : Refusal) → m ≡ M.Refused x → Ans.refused (numberOf x) ≡ after v (recursiveTrace T k i s e)
-        no-leaf x qx = sym (whole (M.Refused x) qx)
+      pub to-node : (n : ℕ) → m ≡ M.Node n → after v (recursiveTrace T k i s e) ≡ after u (go n s e)
+      to-node n qn = whole (M.Node n) qn
+
+      pub in-leaf : (c : BspLeafContents) → m ≡ M.Contents c → answer (withinLeaf s zero32 e c, u) ≡ after v (recursiveTrace T k i s e)
+      in-leaf c qc = sym (whole (M.Contents c) qc ∙ rw is-u (ap (λ (n : ℕ). answer (withinLeaf s zero32 e c, n)) {x = held (held (v + 1) + 0)} {y = held (v + 1)} (omega arith)))
+
+      pub no-leaf : (x : Refusal) → m ≡ M.Refused x → Ans.refused (numberOf x) ≡ after v (recursiveTrace T k i s e)
+      no-leaf x qx = sym (whole (M.Refused x) qx)

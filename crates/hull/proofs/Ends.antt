@@ -13,7 +13,7 @@ use Rattle.math.specs.Plane as Pl
 use Rattle.math.specs.declared.Vector3.{Vector3}
 use Rattle.walk.specs.Table.{Child, node, end, Table, childOn}
 use Rattle.walk.specs.Walk.{Outcome, done, refused, entered, held, withVisits, Entered, enter, meet, ended, onto, walkAt, walk, pointWalk}
-use Rattle.hull.specs.Walks.{ends}
+use Rattle.nodes.specs.Walks.{ends}
 
 -- what was met, with the nodes entered
 abbrev pub metWith : {A : Type 0} → List ℕ → Answer A → Outcome A

@@ -25,9 +25,9 @@ use Rattle.nodes.specs.declared.table.HullTable.the-variants.{Render}
 use Rattle.nodes.specs.declared.table.Tables.{Tables}
 use Rattle.nodes.specs.declared.read.EndContents.{EndContents}
 use Rattle.nodes.specs.declared.read.EndContents.the-variants as E
-use Rattle.hull.specs.Walks.{ends, endAnswer}
-use Rattle.hull.specs.declared.point.WalkEnd.{WalkEnd}
-use Rattle.hull.specs.declared.point.WalkEnd.the-variants.{Word, Refused}
+use Rattle.nodes.specs.Walks.{ends, endAnswer}
+use Rattle.nodes.specs.declared.walking.WalkEnd.{WalkEnd}
+use Rattle.nodes.specs.declared.walking.WalkEnd.the-variants.{Word, Refused}
 use Rattle.hull.proofs.Ends.{point-refused, point-met, point-unmet}
 
 module _ (s : List ℕ) (m : BspData) (tab : HullTable) (mins maxs : Vector3) (t : Tables) (is-t : t ≡ tablesOf m tab mins maxs) where

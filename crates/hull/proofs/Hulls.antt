@@ -6,7 +6,7 @@ use mathlib.Core.List.{List}
 use native.Mathlib.Omega.{arith}
 use borrow.Author.Tests.{lt-ltb, le-ltb}
 use Rattle.format.specs.Answer as Ans
-use Rattle.format.specs.Answer.{Answer, thenAnswer}
+use Rattle.format.specs.Answer.{thenAnswer}
 use Rattle.format.specs.Refusal.{numberOf}
 use Rattle.format.specs.declared.refusal.Refusal.{Refusal}
 use Rattle.format.specs.declared.section.BspData.{BspData}

@@ -1,6 +1,5 @@
 // The walk of a point: to the contents at it, and to the leaf that it is in.
 ghost use mathlib.Core.Path.{_≡_};
-ghost use Rattle.math.specs.Vector as Vec;
 ghost use Rattle.walk.specs.Walk.{withVisits, pointWalk};
 ghost use Rattle.nodes.specs.Tables.{leafTable};
 ghost use Rattle.nodes.specs.Fast as Fast;
@@ -12,22 +11,12 @@ use format::refusal::Refusal;
 use format::section::BspData;
 use math::Vector3;
 use nodes::read::EndContents;
-use nodes::read::ReadWords;
-use nodes::read::Sided;
 use nodes::read::end_contents;
-use nodes::read::file_side;
-use nodes::read::file_words;
-use nodes::read::read_words;
-use nodes::read::side_at;
 use nodes::table::HullTable;
 use nodes::table::Tables;
 use nodes::table::tables_of;
-
-// The word of the end that a walk comes to, and how many nodes it entered.
-pub enum WalkEnd {
-    Word(u16, u64),
-    Refused(Refusal),
-}
+use nodes::walking::WalkEnd;
+use nodes::walking::walk_to_end;
 
 // The contents at a point, and how many nodes were entered.
 pub enum PointContents {
@@ -39,77 +28,6 @@ pub enum PointContents {
 pub enum FoundLeaf {
     Leaf(usize, u64),
     Refused(Refusal),
-}
-
-// The walk down the file's nodes, render nodes or clip nodes. 30: the node is outside its table; 31: as many nodes as the table holds were
-// entered; then its record (23), its plane's number (30) and its plane (23).
-fn walk_file(s: &[u8], t: Tables, render: bool, root: usize, point: Vector3) -> WalkEnd
-    requires { ⌜ t .table ≡ Fast.fileTable render ⌝ }
-    ensures { λ r. ⌜ Walks.endAnswer (t .table) r ≡ withVisits (pointWalk (Walks.ends (Fast.table (now (s .entry)) t)) root point) ⌝ }
-{
-    let nodes = t.nodes;
-    let count = nodes.count as u64;
-    let mut node = root;
-    let mut visits: u64 = 0;
-    loop {
-        if (nodes.count as usize) <= node {
-            return WalkEnd::Refused(Refusal::IndexOutsideTable);
-        }
-        if count <= visits {
-            return WalkEnd::Refused(Refusal::WalkTooLong);
-        }
-        match file_words(s, nodes, render, node) {
-            ReadWords::Refused(e) => return WalkEnd::Refused(e),
-            ReadWords::Words(w) => match file_side(s, t.planes, w.plane as usize, point) {
-                Sided::Refused(e) => return WalkEnd::Refused(e),
-                Sided::Front(front) => {
-                    visits += 1;
-                    let word = w.on(front);
-                    if 32768 <= word {
-                        return WalkEnd::Word(word, visits);
-                    }
-                    node = word as usize;
-                }
-            },
-        }
-    }
-}
-
-// The walk of the point (x, y, z) down any table; here the loop is over a box's nodes, and refuses as the file's does.
-pub fn walk_to_end(s: &[u8], t: Tables, root: usize, x: f32, y: f32, z: f32) -> WalkEnd
-    ensures { λ r. ⌜ Walks.endAnswer (t .table) r ≡ withVisits (pointWalk (Walks.ends (Fast.table (now (s .entry)) t)) root (Vec.vector x y z)) ⌝ }
-{
-    let point = Vector3 { x, y, z };
-    let table = t.table;
-    if !table.is_box() {
-        return walk_file(s, t, table.is_render(), root, point);
-    }
-    let nodes = t.nodes;
-    let limit = nodes.count as u64;
-    let mut node = root;
-    let mut visits: u64 = 0;
-    loop {
-        if (nodes.count as usize) <= node {
-            return WalkEnd::Refused(Refusal::IndexOutsideTable);
-        }
-        if limit <= visits {
-            return WalkEnd::Refused(Refusal::WalkTooLong);
-        }
-        match read_words(s, t, node) {
-            ReadWords::Refused(e) => return WalkEnd::Refused(e),
-            ReadWords::Words(w) => match side_at(s, t, w.plane as usize, point) {
-                Sided::Refused(e) => return WalkEnd::Refused(e),
-                Sided::Front(front) => {
-                    visits += 1;
-                    let word = w.on(front);
-                    if 32768 <= word {
-                        return WalkEnd::Word(word, visits);
-                    }
-                    node = word as usize;
-                }
-            },
-        }
-    }
 }
 
 // The contents at a point, from a node of a table on.

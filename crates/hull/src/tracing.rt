@@ -1,6 +1,7 @@
 // The trace of a segment through a hull.
 ghost use mathlib.Core.Path.{_≡_};
 ghost use Prim.Native.Nat.{_+_};
+ghost use Rattle.math.specs.Plane as Pl;
 ghost use Rattle.walk.specs.Walk.{held, after, withVisits};
 ghost use Rattle.walk.specs.Trace as Tracing;
 ghost use Rattle.walk.specs.Trace.{recursiveTrace};
@@ -13,17 +14,18 @@ use format::refusal::Refusal;
 use format::section::BspData;
 use math::Hyperplane;
 use math::Vector3;
-use nodes::read::Dists;
 use nodes::read::EndContents;
-use nodes::read::ReadWords;
 use nodes::read::Words;
-use nodes::read::dists_at;
 use nodes::read::end_contents;
 use nodes::read::is_front;
 use nodes::read::plane_at;
-use nodes::read::read_words;
 use nodes::table::Tables;
 use nodes::table::tables_of;
+use nodes::walking::SegmentAt;
+use nodes::walking::are_whole;
+use nodes::walking::node_bytes;
+use nodes::walking::plane_bytes;
+use nodes::walking::segment_from;
 use phys::Joined;
 use phys::Trace;
 use phys::TraceEnd;
@@ -34,6 +36,12 @@ use records::plane::PlaneAnswer;
 pub enum Traced {
     Trace(Trace, u64),
     Refused(Refusal),
+}
+
+// The segment that is traced.
+struct Segment {
+    start: Vector3,
+    end: Vector3,
 }
 
 // Where a segment's way down comes to: the leaf that it all lies in; or a plane that it crosses, with the node's words, the distances of
@@ -77,79 +85,73 @@ fn meet_on(s: &[u8], t: Tables, w: Words, front: bool) -> MetChild
 }
 
 // Down from a node as long as the segment lies on one side of each plane.
-fn descend(
-    s: &[u8],
-    t: Tables,
-    node0: usize,
-    start: Vector3,
-    end: Vector3,
-    left0: u32,
-    visits0: u64,
-) -> Descent
-    ensures { λ r. ⌜ Traces.Descends (now (s .entry)) t start end left0 (after visits0 (recursiveTrace (Fast.table (now (s .entry)) t) left0 node0 start end)) r ⌝ }
+fn descend(s: &[u8], t: Tables, node0: usize, segment: Segment, left0: u32, visits0: u64) -> Descent
+    ensures { λ r. ⌜ Traces.Descends (now (s .entry)) t (segment .start) (segment .end) left0 (after visits0 (recursiveTrace (Fast.table (now (s .entry)) t) left0 node0 (segment .start) (segment .end))) r ⌝ }
 {
-    let nodes = t.nodes;
+    let whole = are_whole(t, s.len());
+    let nodes = node_bytes(s, t, whole);
+    let planes = plane_bytes(s, t, whole);
     let mut node = node0;
     let mut left = left0;
     let mut visits = visits0;
     loop {
-        if (nodes.count as usize) <= node {
+        if (t.nodes.count as usize) <= node {
             return Descent::Refused(Refusal::IndexOutsideTable);
         }
         if left == 0 {
             return Descent::Refused(Refusal::TooDeep);
         }
-        match read_words(s, t, node) {
-            ReadWords::Refused(e) => return Descent::Refused(e),
-            ReadWords::Words(w) => match dists_at(s, t, w.plane as usize, start, end) {
-                Dists::Refused(e) => return Descent::Refused(e),
-                Dists::Two(a, b) => {
-                    visits = one_more(visits);
-                    left -= 1;
-                    let front = a >= 0.0;
-                    if front != (b >= 0.0) {
-                        return Descent::Crossing(w, a, b, left, visits);
-                    }
-                    let word = w.on(front);
-                    if 32768 <= word {
-                        return match end_contents(s, t, word) {
-                            EndContents::Contents(c) => Descent::Leaf(c, visits),
-                            EndContents::Refused(e) => Descent::Refused(e),
-                        };
-                    }
-                    node = word as usize;
+        match segment_from(s, t, nodes, planes, whole, node, segment.start, segment.end) {
+            SegmentAt::Refused(e) => return Descent::Refused(e),
+            SegmentAt::Dists(w, a, b) => {
+                visits = one_more(visits);
+                left -= 1;
+                let front = a >= 0.0;
+                if front != (b >= 0.0) {
+                    return Descent::Crossing(w, a, b, left, visits);
                 }
-            },
+                let word = w.on(front);
+                if 32768 <= word {
+                    return match end_contents(s, t, word) {
+                        EndContents::Contents(c) => Descent::Leaf(c, visits),
+                        EndContents::Refused(e) => Descent::Refused(e),
+                    };
+                }
+                node = word as usize;
+            }
         }
     }
 }
 
-// The trace of a segment that all lies in one leaf, from a ratio on.
-fn within_leaf(start: Vector3, ratio: f32, end: Vector3, contents: BspLeafContents) -> Trace
-    ensures { λ r. ⌜ r ≡ Traces.withinLeaf start ratio end contents ⌝ }
+// The trace of a segment that all lies in one leaf, from a ratio on, and the nodes entered.
+fn within_leaf(
+    start: Vector3,
+    ratio: f32,
+    end: Vector3,
+    contents: BspLeafContents,
+    visits: u64,
+) -> Traced
+    ensures { λ r. ⌜ r ≡ Traced.Trace (Traces.withinLeaf start ratio end contents) visits ⌝ }
 {
-    Trace::new(
-        TraceStart::new(start, ratio),
-        TraceEnd::terminal(end),
-        contents,
-    )
+    let from = TraceStart::new(start, ratio);
+    let to = TraceEnd::terminal(end);
+    Traced::Trace(Trace::new(from, to, contents), visits)
 }
 
-// The trace of a segment that leaves a leaf through a plane.
+// The trace of a segment that leaves a leaf through a plane, which is turned to face its start, and the nodes entered.
 fn out_of_leaf(
     start: Vector3,
     end: Vector3,
     ratio: f32,
     plane: Hyperplane,
     contents: BspLeafContents,
-) -> Trace
-    ensures { λ r. ⌜ r ≡ Traces.outOfLeaf start end ratio plane contents ⌝ }
+    visits: u64,
+) -> Traced
+    ensures { λ r. ⌜ r ≡ Traced.Trace (Traces.outOfLeaf start end ratio (Pl.facing (Pl.pointSide plane start) plane) contents) visits ⌝ }
 {
-    Trace::new(
-        TraceStart::new(start, 0.0),
-        TraceEnd::boundary(end, ratio, plane),
-        contents,
-    )
+    let from = TraceStart::new(start, 0.0);
+    let to = TraceEnd::boundary(end, ratio, plane.facing(plane.point_side(start)));
+    Traced::Trace(Trace::new(from, to, contents), visits)
 }
 
 // Whether a trace ends with its near part.
@@ -187,20 +189,17 @@ pub fn recursive_trace(
 ) -> Traced
     ensures { λ r. ⌜ Traces.tracedAnswer r ≡ after visits (recursiveTrace (Fast.table (now (s .entry)) t) left node start end) ⌝ }
 {
-    match descend(s, t, node, start, end, left, visits) {
+    match descend(s, t, node, Segment { start, end }, left, visits) {
         Descent::Refused(e) => Traced::Refused(e),
-        Descent::Leaf(c, n) => Traced::Trace(within_leaf(start, 0.0, end, c), n),
+        Descent::Leaf(c, n) => within_leaf(start, 0.0, end, c, n),
         Descent::Crossing(w, a, b, below, n) => match plane_at(s, t, w.plane as usize) {
             PlaneAnswer::Refused(e) => Traced::Refused(e),
             PlaneAnswer::Value(plane) => {
                 let ratio = a / (a - b);
                 let mid = start.add(end.sub(start).scale(ratio));
-                let side = plane.point_side(start);
-                let near = match meet_on(s, t, w, is_front(side)) {
+                let near = match meet_on(s, t, w, is_front(plane.point_side(start))) {
                     MetChild::Node(i) => recursive_trace(s, t, i, start, mid, below, n),
-                    MetChild::Contents(c) => {
-                        Traced::Trace(out_of_leaf(start, mid, ratio, plane.facing(side), c), n)
-                    }
+                    MetChild::Contents(c) => out_of_leaf(start, mid, ratio, plane, c, n),
                     MetChild::Refused(e) => Traced::Refused(e),
                 };
                 let Traced::Trace(near_trace, near_visits) = near else {
@@ -211,10 +210,7 @@ pub fn recursive_trace(
                 }
                 let far = match meet_on(s, t, w, is_front(plane.point_side(end))) {
                     MetChild::Node(i) => recursive_trace(s, t, i, mid, end, below, near_visits),
-                    MetChild::Contents(c) => Traced::Trace(
-                        within_leaf(mid, ratio, end, c),
-                        near_visits,
-                    ),
+                    MetChild::Contents(c) => within_leaf(mid, ratio, end, c, near_visits),
                     MetChild::Refused(e) => Traced::Refused(e),
                 };
                 join_far(near_trace, far)

@@ -1,10 +1,12 @@
 -- Vectors and planes of f32: the results of the definitions hold values that an f32 has. Assumes nothing.
+use mathlib.Core.Path.{_≡_}
 use mathlib.Core.Bool.{Bool, true, false, cond}
 use lib.Dec.{T}
 use lib.Ieee as Ieee
 use lib.Ieee.{Float, binary32, fits}
 use lib.Ieee.Fits.{add-fits, mul-fits}
 use lib.Ieee.Bits.{ofBits-fits}
+use Rattle.float.proofs.Compare.{T-of}
 use Rattle.math.specs.Vector as Vec
 use Rattle.math.specs.Plane as Pl
 use Rattle.math.specs.declared.Vector3.{Vector3}
@@ -21,6 +23,10 @@ pub record Fits3 (v : Vector3) : Type 0 where
   pub x-fits : T (fits binary32 (v .x))
   pub y-fits : T (fits binary32 (v .y))
   pub z-fits : T (fits binary32 (v .z))
+
+-- what a function is told of a vector that it is given
+pub told-fits : {A B C D : Type 0} {v : Vector3} → (A × (fits binary32 (v .x) ≡ true)) × ((B × (fits binary32 (v .y) ≡ true)) × ((C × (fits binary32 (v .z) ≡ true)) × D)) → Fits3 v
+told-fits g = record { x-fits = T-of (g .0 .1); y-fits = T-of (g .1 .0 .1); z-fits = T-of (g .1 .1 .0 .1) }
 
 pub along-fits : (v : Vector3) → Fits3 v → (a : AxisT) → T (fits binary32 (Vec.along v a))
 along-fits v f X = f .x-fits

@@ -136,27 +136,25 @@ above-one (suc (suc k)) h = absurd (omega arith)
 
 -- ---- normalising there
 
-module _ (v : Vector3) where
-  -- the square's pattern is b, so that the square is the f32 of that pattern
-  square-is : (b : ℕ) → toBits binary32 (Vec.dot v v) ≡ b → Vec.dot v v ≡ ofBits binary32 b
-  square-is b e = sym (ofBits-toBits binary32 (Vec.dot v v) (dot-fits v v)) ∙ ap (ofBits binary32) e
+-- a vector, its square, and the square's pattern
+module _ (v : Vector3) {d : Float} {b : ℕ} (D : d ≡ Vec.dot v v) (B : b ≡ toBits binary32 d) where
+  -- the square is the f32 of its pattern
+  square-is : (n : ℕ) → b ≡ n → d ≡ ofBits binary32 n
+  square-is n e = sym (ofBits-toBits binary32 d (subst (λ (x : Float). T (fits binary32 x)) (sym D) (dot-fits v v))) ∙ ap (ofBits binary32) (sym B ∙ e)
 
-  normalize-by : (k : Float) → inverseRoot (Vec.dot v v) ≡ k → Vec.normalize v ≡ Vec.scaled k v
+  normalize-by : (k : Float) → inverseRoot d ≡ k → Vec.normalize v ≡ Vec.scaled k v
   unfolding Vec.normalize
-  normalize-by k e = ap (λ (i : Float). Vec.scaled i v) e
+  normalize-by k e = ap (λ (i : Float). Vec.scaled i v) (ap inverseRoot (sym D) ∙ e)
 
-  pub normalize-below : 0x3f7f_fffc ≤ toBits binary32 (Vec.dot v v) → toBits binary32 (Vec.dot v v) < 0x3f80_0000 → Vec.normalize v ≡ Vec.scaled (ofBits binary32 0x3f80_0001) v
+  pub normalize-below : 0x3f7f_fffc ≤ b → b < 0x3f80_0000 → Vec.normalize v ≡ Vec.scaled (ofBits binary32 0x3f80_0001) v
   normalize-below l u =
-      normalize-by (ofBits binary32 0x3f80_0001)
-      (ap inverseRoot (square-is (toBits binary32 (Vec.dot v v) - 0x3f7f_fffc + 0x3f7f_fffc) (omega arith)) ∙ below-one (toBits binary32 (Vec.dot v v) - 0x3f7f_fffc) (omega arith))
+      normalize-by (ofBits binary32 0x3f80_0001) (ap inverseRoot (square-is (b - 0x3f7f_fffc + 0x3f7f_fffc) (omega arith)) ∙ below-one (b - 0x3f7f_fffc) (omega arith))
 
-  pub normalize-at : Fits3 v → 0x3f80_0000 ≤ toBits binary32 (Vec.dot v v) → toBits binary32 (Vec.dot v v) < 0x3f80_0002 → Vec.normalize v ≡ v
+  pub normalize-at : Fits3 v → 0x3f80_0000 ≤ b → b < 0x3f80_0002 → Vec.normalize v ≡ v
   normalize-at f l u =
-      normalize-by Vec.one32
-      (ap inverseRoot (square-is (toBits binary32 (Vec.dot v v) - 0x3f80_0000 + 0x3f80_0000) (omega arith)) ∙ at-one (toBits binary32 (Vec.dot v v) - 0x3f80_0000) (omega arith))
+      normalize-by Vec.one32 (ap inverseRoot (square-is (b - 0x3f80_0000 + 0x3f80_0000) (omega arith)) ∙ at-one (b - 0x3f80_0000) (omega arith))
       ∙ simp (one-times (v .x) (f .x-fits), one-times (v .y) (f .y-fits), one-times (v .z) (f .z-fits))
 
-  pub normalize-above : 0x3f80_0002 ≤ toBits binary32 (Vec.dot v v) → toBits binary32 (Vec.dot v v) < 0x3f80_0004 → Vec.normalize v ≡ Vec.scaled (ofBits binary32 0x3f7f_fffe) v
+  pub normalize-above : 0x3f80_0002 ≤ b → b < 0x3f80_0004 → Vec.normalize v ≡ Vec.scaled (ofBits binary32 0x3f7f_fffe) v
   normalize-above l u =
-      normalize-by (ofBits binary32 0x3f7f_fffe)
-      (ap inverseRoot (square-is (toBits binary32 (Vec.dot v v) - 0x3f80_0002 + 0x3f80_0002) (omega arith)) ∙ above-one (toBits binary32 (Vec.dot v v) - 0x3f80_0002) (omega arith))
+      normalize-by (ofBits binary32 0x3f7f_fffe) (ap inverseRoot (square-is (b - 0x3f80_0002 + 0x3f80_0002) (omega arith)) ∙ above-one (b - 0x3f80_0002) (omega arith))

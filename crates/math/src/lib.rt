@@ -1,6 +1,7 @@
 // Vectors of three f32 and planes in space: cgmath's `Vector3<f32>`, as far as the map code uses it, and
 // the planes of math.rs.
 ghost use mathlib.Core.Path.{_≡_};
+ghost use mathlib.Core.Bool.{true};
 ghost use lib.Ieee as Ieee;
 ghost use lib.Ieee.{binary32};
 ghost use Rattle.math.specs.Vector as Vec;
@@ -121,6 +122,18 @@ impl Vector3 {
             }
         }
         self.scale(1.0 / float::root::sqrt(square))
+    }
+
+    // Whether the square is 1 or the f32 above 1: normalising leaves such a vector as it is.
+    fn is_unit(self) -> bool
+        ensures { λ r. ⌜ (r ≡ true → Vec.normalize self ≡ self) ⌝ }
+    {
+        let bits = float::num::to_bits(self.dot(self));
+        if 0x3f80_0000 <= bits {
+            bits < 0x3f80_0002
+        } else {
+            false
+        }
     }
 
     // Rust's `==`.
@@ -279,6 +292,12 @@ impl Hyperplane {
         }
         if normal.equals(Vector3::unit_z()) {
             return Hyperplane::axis_z(dist);
+        }
+        if normal.is_unit() {
+            return Hyperplane {
+                alignment: Alignment::Normal(normal),
+                dist,
+            };
         }
         Hyperplane::from_normal(normal.normalize(), dist)
     }

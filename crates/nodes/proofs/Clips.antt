@@ -1,6 +1,6 @@
 -- A clip node as its words: what the reader at a position makes of them.
 -- Assumes nothing.
-use Prim.Native.Nat.{ℕ, zero, suc, _+_, _-_, _<_, _≤_}
+use Prim.Native.Nat.{ℕ, zero, suc, _+_, _-_, _/_, _%_, _<_, _≤_}
 use mathlib.Core.Path.{_≡_, refl, sym, ap, _∙_, subst}
 use mathlib.Core.Bool.{Bool, true, false, cond}
 use mathlib.Core.List.{List}
@@ -10,7 +10,7 @@ use lib.Dec.{ltb}
 use lib.ListN.{length}
 use mir.Syntax.{w16}
 use Rattle.format.specs.Answer as Ans
-use Rattle.format.specs.Answer.{Answer, answer}
+use Rattle.format.specs.Answer.{answer}
 use Rattle.format.specs.Step.{ok, refused}
 use Rattle.format.specs.Code.{contentsOf}
 use Rattle.format.proofs.Codes.{high}
@@ -20,9 +20,10 @@ use Rattle.records.specs.Node.{withContents, collisionChildAt, collisionNodeAt}
 use Rattle.records.specs.declared.node.BspCollisionNodeChild.{BspCollisionNodeChild}
 use Rattle.records.specs.declared.node.BspCollisionNodeChild.the-variants as C
 use Rattle.nodes.specs.Tables.{clipChild}
-use Rattle.nodes.specs.Fast.{u16, u32, isInvalid, invalid, childOf, nodeOf, clipNodeHere}
+use Rattle.nodes.specs.Fast.{u16, u32, Pair, Within, isInvalid, invalid, childOf, nodeOf, clipNodeHere}
 use Rattle.nodes.specs.declared.table.HullTable.the-variants.{Clip}
 use Rattle.nodes.proofs.Numbers.{low, high-code, i16-is, index-is, index-not}
+use Rattle.nodes.proofs.Sections.{within-u16, within-u32}
 
 -- ---- which codes stand for contents: 1 to 5 and 9 to 14
 
@@ -70,9 +71,26 @@ module _ (w : ℕ) where
   pub a-current : 65522 ≤ w → w < 65528 → false ≡ invalid w
   a-current a b = by-code (omega arith) false (currents (65536 - w) (omega arith) (omega arith))
 
-  pub last : 65528 ≤ w → w < 65536 → (b : Bool) → ltb w 65531 ≡ b → b ≡ invalid w
-  last a f true q = let h = ltb-true w 65531 q in by-code (omega arith) true (between (65536 - w) (omega arith) (omega arith))
-  last a f false q = let h = ltb-false w 65531 q in by-code (omega arith) false (few (65536 - w) (omega arith) (omega arith))
+  pub no-contents : 65528 ≤ w → w < 65531 → true ≡ invalid w
+  no-contents a b = by-code (omega arith) true (between (65536 - w) (omega arith) (omega arith))
+
+  pub first-contents : 65531 ≤ w → w < 65536 → false ≡ invalid w
+  first-contents a b = by-code (omega arith) false (few (65536 - w) (omega arith) (omega arith))
+
+  -- the words in the order of 14 more than each
+  module _ (fits : w < 65536) (x : ℕ) (is-x : x ≡ (w + 14) % 65536) where
+    pub turned-high : 32781 < x → true ≡ invalid w
+    turned-high h = too-high (omega arith) (omega arith)
+
+    module _ (h : x ≤ 32781) (y : ℕ) (is-y : (y + 6) % 65536 ≡ x) (fits-y : y < 65536) where
+      by-half : 3 ≤ y → (b : Bool) → ltb w 32768 ≡ b → (c : Bool) → ltb w 65528 ≡ c → false ≡ invalid w
+      by-half g true q c r = is-node (ltb-true w 32768 q)
+      by-half g false q true r = let l = ltb-false w 32768 q in let m = ltb-true w 65528 r in a-current (omega arith) m
+      by-half g false q false r = let l = ltb-false w 65528 r in first-contents (omega arith) fits
+
+      pub turned-low : (b : Bool) → ltb y 3 ≡ b → b ≡ invalid w
+      turned-low true q = let g = ltb-true y 3 q in no-contents (omega arith) (omega arith)
+      turned-low false q = by-half (ltb-false y 3 q) (ltb w 32768) refl (ltb w 65528) refl
 
 -- a child's word w
 module _ (s : List ℕ) (at w : ℕ) (e : w ≡ u16 s at) (fits : w < 65536) (h : at + 2 ≤ length s) where
@@ -105,29 +123,44 @@ module _ (s : List ℕ) (at w : ℕ) (e : w ≡ u16 s at) (fits : w < 65536) (h 
   unfolding invalid
   good-child t = good-case (ltb w 32768) refl (contentsOf (65536 - w)) refl t
 
-module _ (s : List ℕ) (at p f b : ℕ) (h : at + 8 ≤ length s) (is-p : p ≡ u32 s at) where
-  pub bad-plane : 2147483648 ≤ p → Ans.refused 23 ≡ clipNodeHere s at
+-- the node at a place of the bytes n, which are a part of s
+module _ (n s : List ℕ) (a at p f b : ℕ) (w : Within n s a) (h : at + 8 ≤ length n) (is-p : p ≡ u32 n at) where
+  room : a + at + 8 ≤ length s
+  room = omega (arith, w .inside)
+
+  plane : p ≡ u32 s (a + at)
+  plane = is-p ∙ within-u32 n s a w at (omega arith)
+
+  pub bad-plane : 2147483648 ≤ p → Ans.refused 23 ≡ clipNodeHere s (a + at)
   unfolding clipNodeHere collisionNodeAt
-  bad-plane l = rw (index-not s at 10 (omega arith) (rw is-p at l))
+  bad-plane l = rw (index-not s (a + at) 10 (omega (arith, room)) (rw plane at l))
 
-  module _ (l : p < 2147483648) (is-f : f ≡ u16 s (at + 4)) (fits-f : f < 65536) where
-    pub bad-front : invalid f ≡ true → Ans.refused 23 ≡ clipNodeHere s at
+  module _ (l : p < 2147483648) (is-f : f ≡ u16 n (at + 4)) (fits-f : f < 65536) where
+    front : f ≡ u16 s (a + at + 4)
+    front = is-f ∙ within-u16 n s a w (at + 4) (omega arith) ∙ ap (u16 s) (omega arith)
+
+    pub bad-front : invalid f ≡ true → Ans.refused 23 ≡ clipNodeHere s (a + at)
     unfolding clipNodeHere collisionNodeAt
-    bad-front t = rw (index-is s at 10 (omega arith) (rw is-p at l), bad-child s (at + 4) f is-f fits-f (omega arith) t)
+    bad-front t = rw (index-is s (a + at) 10 (omega (arith, room)) (rw plane at l), bad-child s (a + at + 4) f front fits-f (omega (arith, room)) t)
 
-    module _ (ok-f : invalid f ≡ false) (is-b : b ≡ u16 s (at + 6)) (fits-b : b < 65536) where
-      back-place : at + 4 + 2 ≡ at + 6
+    module _ (ok-f : invalid f ≡ false) (is-b : b ≡ u16 n (at + 6)) (fits-b : b < 65536) where
+      back : b ≡ u16 s (a + at + 6)
+      back = is-b ∙ within-u16 n s a w (at + 6) (omega arith) ∙ ap (u16 s) (omega arith)
+
+      back-place : a + at + 4 + 2 ≡ a + at + 6
       back-place = omega arith
 
-      pub bad-back : invalid b ≡ true → Ans.refused 23 ≡ clipNodeHere s at
+      pub bad-back : invalid b ≡ true → Ans.refused 23 ≡ clipNodeHere s (a + at)
       unfolding clipNodeHere collisionNodeAt
       bad-back t =
-          let g = good-child s (at + 4) f is-f fits-f (omega arith) ok-f in
-          rw (index-is s at 10 (omega arith) (rw is-p at l), g .1, back-place, bad-child s (at + 6) b is-b fits-b (omega arith) t)
+          let g = good-child s (a + at + 4) f front fits-f (omega (arith, room)) ok-f in
+          rw (index-is s (a + at) 10 (omega (arith, room)) (rw plane at l), g .1, back-place, bad-child s (a + at + 6) b back fits-b (omega (arith, room)) t)
 
-      pub all-good : invalid b ≡ false → answer (nodeOf Clip (record { plane = p; front = f; back = b })) ≡ clipNodeHere s at
+      pub all-good : (c : ℕ) → Pair n (at + 4) c → invalid b ≡ false → answer (nodeOf Clip (record { plane = p; both = c })) ≡ clipNodeHere s (a + at)
       unfolding clipNodeHere collisionNodeAt
-      all-good t =
-          let g = good-child s (at + 4) f is-f fits-f (omega arith) ok-f in
-          let k = good-child s (at + 6) b is-b fits-b (omega arith) t in
-          rw (index-is s at 10 (omega arith) (rw is-p at l), g .1, back-place, k .1) (rw (g .2, k .2, is-p))
+      all-good c is-c t =
+          let g = good-child s (a + at + 4) f front fits-f (omega (arith, room)) ok-f in
+          let k = good-child s (a + at + 6) b back fits-b (omega (arith, room)) t in
+          let x : c % 65536 ≡ f = is-c .0 ∙ sym is-f in
+          let y : c / 65536 ≡ b = is-c .1 ∙ ap (u16 n) (omega arith) ∙ sym is-b in
+          rw (index-is s (a + at) 10 (omega (arith, room)) (rw plane at l), g .1, back-place, k .1) (rw (g .2, k .2, x, y, plane))

@@ -17,7 +17,7 @@ use Rattle.format.specs.declared.section.BspFileSectionId.{BspFileSectionId}
 use Rattle.format.specs.declared.section.BspFileSectionId.the-variants.{Planes, RenderNodes, CollisionNodes, Leaves}
 use Rattle.math.specs.declared.Vector3.{Vector3}
 use Rattle.math.specs.declared.Hyperplane.{Hyperplane}
-use Rattle.walk.specs.Table.{Node, Nodes, Table}
+use Rattle.walk.specs.Table.{Nodes, Table}
 use Rattle.records.specs.Access.{reading, readAt, recordOf}
 use Rattle.records.specs.Plane.{planeAt}
 use Rattle.records.specs.Node.{collisionNodeAt, renderNodeAt}
@@ -27,7 +27,6 @@ use Rattle.nodes.specs.Fast as Fast
 use Rattle.nodes.specs.Fast.{partOf, tablesOf, placeIn, hereAt, renderNodeHere, clipNodeHere, planeRead, leafContentsHere}
 use Rattle.nodes.specs.declared.table.HullTable.{HullTable}
 use Rattle.nodes.specs.declared.table.HullTable.the-variants.{Render, Clip, Box}
-use Rattle.nodes.specs.declared.table.Tables.{Tables}
 
 -- a part is a section: where a record lies
 module _ (id : BspFileSectionId) (z : BspFileSection) (limit n i : ℕ) (limited : (k : ℕ) → withinLimit id k ≡ leb k limit) where

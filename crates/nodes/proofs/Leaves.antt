@@ -10,7 +10,7 @@ use lib.ListN.{length}
 use mir.Syntax.{w32}
 use mir.Val.{toZ}
 use Rattle.format.specs.Answer as Ans
-use Rattle.format.specs.Answer.{Answer, answer, mapped}
+use Rattle.format.specs.Answer.{answer, mapped}
 use Rattle.format.specs.Step.{ok, refused}
 use Rattle.format.specs.Code.{contentsOf, negatedContents}
 use Rattle.format.proofs.Codes.{above}

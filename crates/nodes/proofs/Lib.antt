@@ -1,9 +1,14 @@
 -- Laws about the tables and their readers.
 mod Numbers
 mod Places
+mod Sections
 mod Clips
 mod Renders
 mod Planes
 mod Leaves
 mod Readers
+mod Wholes
+pub mod Entering
+mod Making
+mod Stepping
 pub mod Equal

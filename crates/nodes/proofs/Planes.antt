@@ -13,7 +13,7 @@ use lib.ListN.{length}
 use mir.Syntax.{w32}
 use mir.Val.{toZ}
 use Rattle.format.specs.Answer as Ans
-use Rattle.format.specs.Answer.{Answer, answer}
+use Rattle.format.specs.Answer.{answer}
 use Rattle.format.specs.Step.{ok, refused}
 use Rattle.math.specs.Plane as Pl
 use Rattle.math.specs.declared.Vector3.{Vector3}
@@ -25,10 +25,9 @@ use Rattle.format.specs.Section.{placeAnswer}
 use Rattle.format.specs.declared.refusal.Refusal.{Refusal}
 use Rattle.format.specs.declared.section.Place.{Place}
 use Rattle.format.specs.declared.section.Place.the-variants.{At, Refused}
-use Rattle.nodes.specs.Fast.{isBox, u32, f32, along, normal, placeIn, hereAt, planeWith, planeHere, planeRead, planeFor, planeOfIndex, planeOfFile, planeIn, boxPlane, twoDists}
+use Rattle.nodes.specs.Fast.{isBox, u32, f32, along, normal, placeIn, hereAt, planeWith, planeHere, planeRead, planeFor, planeOfIndex, planeIn, boxPlane, twoDists}
 use Rattle.nodes.specs.declared.table.HullTable.{HullTable}
 use Rattle.nodes.specs.declared.table.HullTable.the-variants.{Render, Clip, Box}
-use Rattle.nodes.specs.declared.table.Part.{Part}
 use Rattle.nodes.specs.declared.table.Tables.{Tables}
 use Rattle.nodes.proofs.Places.{within}
 use Rattle.nodes.proofs.Numbers.{low, high, i32-is, f32-is}
@@ -117,23 +116,6 @@ module _ (s : List ℕ) (at k : ℕ) (d : Float) (is-d : d ≡ f32 s (at + 12)) 
   unfolding planeHere planeWith
   here-z h is-h e = rw (← is-d, ← is-k, e, is-h)
 
--- the file's plane of an index: outside, at a place, at none
-module _ (s : List ℕ) (p : Part) (i : ℕ) where
-  pub file-none : p .count ≤ i → planeOfFile s p i ≡ Ans.refused 30
-  unfolding planeOfFile
-  file-none h = simp (le-ltb i (p .count) h)
-
-  module _ (h : i < p .count) (r : Place) (is-r : placeAnswer r ≡ placeIn p 20 (length s) i) where
-    there : (x : Place) → r ≡ x → planeOfFile s p i ≡ hereAt (placeAnswer x) (planeRead s)
-    unfolding planeOfFile
-    there x q = simp (lt-ltb i (p .count) h) (ap (λ a. hereAt a (planeRead s)) (sym is-r ∙ ap placeAnswer q))
-
-    pub file-at : (at : ℕ) → r ≡ At at → planeOfFile s p i ≡ answer (planeHere s at)
-    file-at at q = there (At at) q ∙ plane-is s at (within p 20 (length s) i r at is-r q)
-
-    pub file-not : (x : Refusal) → r ≡ Refused x → planeOfFile s p i ≡ Ans.refused (numberOf x)
-    file-not x q = there (Refused x) q
-
 -- the plane of an index: outside, of a box, of the file
 module _ (s : List ℕ) (t : Tables) (i : ℕ) where
   pub no-plane : t .planes .count ≤ i → planeIn s t i ≡ Ans.refused 30
@@ -155,13 +137,20 @@ module _ (s : List ℕ) (t : Tables) (i : ℕ) where
     unfolding planeIn planeOfIndex
     box-plane e = simp (lt-ltb i (t .planes .count) h) (of-box (t .table) (sym is-b ∙ e))
 
-    file-plane : b ≡ false → planeIn s t i ≡ planeOfFile s (t .planes) i
-    unfolding planeIn planeOfIndex planeOfFile
+    file-plane : b ≡ false → planeIn s t i ≡ hereAt (placeIn (t .planes) 20 (length s) i) (planeRead s)
+    unfolding planeIn planeOfIndex
     file-plane e = simp (lt-ltb i (t .planes .count) h) (of-file (t .table) (sym is-b ∙ e))
 
     module _ (e : b ≡ false) (r : Place) (is-r : placeAnswer r ≡ placeIn (t .planes) 20 (length s) i) where
+      there : (x : Place) → r ≡ x → planeIn s t i ≡ hereAt (placeAnswer x) (planeRead s)
+      there x q = file-plane e ∙ ap (λ a. hereAt a (planeRead s)) (sym is-r ∙ ap placeAnswer q)
+
       pub plane-at : (at : ℕ) → r ≡ At at → planeIn s t i ≡ answer (planeHere s at)
-      plane-at at q = file-plane e ∙ file-at s (t .planes) i h r is-r at q
+      plane-at at q = there (At at) q ∙ plane-is s at (within (t .planes) 20 (length s) i r at is-r q)
 
       pub plane-not : (x : Refusal) → r ≡ Refused x → planeIn s t i ≡ Ans.refused (numberOf x)
-      plane-not x q = file-plane e ∙ file-not s (t .planes) i h r is-r x q
+      plane-not x q = there (Refused x) q
+
+-- two distances, one after the other
+pub with-two : (p q : Vector3) (h : Hyperplane) (x y : Float) → x ≡ Pl.pointDist h p → y ≡ Pl.pointDist h q → _≡_ {A = Float × Float} (x, y) (twoDists p q h)
+with-two p q h x y e f = rw (e, f)

@@ -1,6 +1,6 @@
 -- A node and an end, by which table it is of.
 -- Assumes nothing.
-use Prim.Native.Nat.{ℕ, zero, suc, _-_, _<_, _≤_}
+use Prim.Native.Nat.{ℕ, zero, suc, _-_, _/_, _%_, _^_, _<_, _≤_}
 use mathlib.Core.Path.{_≡_, refl, sym, ap, _∙_}
 use mathlib.Core.Bool.{Bool, true, false}
 use mathlib.Core.List.{List, [], _∷_}
@@ -19,11 +19,12 @@ use Rattle.format.specs.declared.section.Place.{Place}
 use Rattle.format.specs.declared.section.Place.the-variants.{At, Refused}
 use Rattle.walk.specs.Walk.{meet}
 use Rattle.nodes.specs.Tables.{nth}
-use Rattle.nodes.specs.Fast.{isRender, isBox, fileTable, placeIn, hereAt, coded, wordsAnswer, renderNodeHere, clipNodeHere, boxNode, nodeIn, nodeAt, leafContentsHere, endOf, table, contentsMet}
+use Rattle.nodes.specs.Fast.{isRender, isBox, fileTable, placeIn, hereAt, coded, wordOn, wordsAnswer, renderNodeHere, clipNodeHere, boxNode, nodeIn, nodeAt, leafContentsHere, endOf, table, contentsMet}
 use Rattle.nodes.specs.declared.table.HullTable.{HullTable}
 use Rattle.nodes.specs.declared.table.HullTable.the-variants.{Render, Clip, Box}
 use Rattle.nodes.specs.declared.table.Part.{Part}
 use Rattle.nodes.specs.declared.table.Tables.{Tables}
+use Rattle.nodes.specs.declared.read.Words.{Words}
 use Rattle.nodes.specs.declared.read.ReadWords.{ReadWords}
 use Rattle.nodes.proofs.Places.{none}
 
@@ -40,6 +41,14 @@ nth-past (x ∷ xs) zero h = absurd (omega arith)
 nth-past (x ∷ xs) (suc i) h = nth-past xs i (omega arith)
 
 -- ---- the words of a node
+
+-- a child's word, shifted down
+module _ (w : Words) (b : Bool) (by : ℕ) where
+  pub shifted-front : b ≡ true → by ≡ 0 → w .both / 2 ^ by % 65536 ≡ wordOn w b
+  shifted-front e q = rw (e, q) (omega arith)
+
+  pub shifted-back : b ≡ false → by ≡ 16 → w .both < 4294967296 → w .both / 2 ^ by % 65536 ≡ wordOn w b
+  shifted-back e q h = rw (e, q) (omega arith)
 
 -- of the file: by which table it is of
 module _ (s : List ℕ) (p : Part) (i : ℕ) (b : Bool) where

@@ -1,7 +1,7 @@
 -- A render node as its words: what the reader at a position makes of them.
 -- Assumes nothing.
-use Prim.Native.Nat.{ℕ, zero, suc, _+_, _-_, _<_, _≤_}
-use mathlib.Core.Path.{_≡_, refl, ap}
+use Prim.Native.Nat.{ℕ, zero, suc, _+_, _-_, _/_, _%_, _<_, _≤_}
+use mathlib.Core.Path.{_≡_, refl, sym, ap, _∙_}
 use mathlib.Core.Bool.{Bool, true, false}
 use mathlib.Core.List.{List}
 use native.Mathlib.Omega.{arith}
@@ -12,7 +12,7 @@ use lib.ListN.{length}
 use mir.Syntax.{w16}
 use mir.Val.{toZ}
 use Rattle.format.specs.Answer as Ans
-use Rattle.format.specs.Answer.{Answer, answer}
+use Rattle.format.specs.Answer.{answer}
 use Rattle.format.specs.Step.{ok, refused}
 use Rattle.records.specs.Triple.{pointAt}
 use Rattle.records.specs.Node as Rec
@@ -23,9 +23,10 @@ use Rattle.records.specs.declared.node.BspRenderNodeChild.the-variants as R
 use Rattle.records.specs.declared.node.BspRenderNode.{BspRenderNode}
 use Rattle.walk.specs.Table.{end}
 use Rattle.nodes.specs.Tables.{leaf, renderChild, renderNode}
-use Rattle.nodes.specs.Fast.{u16, u32, childOf, nodeOf, renderNodeHere}
+use Rattle.nodes.specs.Fast.{u16, u32, Pair, Within, childOf, nodeOf, renderNodeHere}
 use Rattle.nodes.specs.declared.table.HullTable.the-variants.{Render}
 use Rattle.nodes.proofs.Numbers.{low, high, i16-is, u16-is, index-is, index-not, index16-is, index16-not}
+use Rattle.nodes.proofs.Sections.{within-u16, within-u32}
 
 -- -1 - f of the negative f
 mirrored : (k : ℕ) → negsuc 0 -ℤ negsuc k ≡ pos k
@@ -86,32 +87,48 @@ module _ (s : List ℕ) (at p : ℕ) (f b : BspRenderNodeChild) (h : at + 16 ≤
     refl,
   )
 
-module _ (s : List ℕ) (at p f b : ℕ) (h : at + 24 ≤ length s) (is-p : p ≡ u32 s at) where
-  pub bad-plane : 2147483648 ≤ p → Ans.refused 23 ≡ renderNodeHere s at
-  unfolding renderNodeHere renderNodeAt
-  bad-plane l = rw (index-not s at 10 (omega arith) (rw is-p at l))
+-- the node at a place of the bytes n, which are a part of s
+module _ (n s : List ℕ) (a at p : ℕ) (w : Within n s a) (h : at + 24 ≤ length n) (is-p : p ≡ u32 n at) where
+  room : a + at + 24 ≤ length s
+  room = omega (arith, w .inside)
 
-  module _ (l : p < 2147483648) where
-    back-place : at + 4 + 2 ≡ at + 6
+  plane : p ≡ u32 s (a + at)
+  plane = is-p ∙ within-u32 n s a w at (omega arith)
+
+  -- the word j places on
+  word : (j : ℕ) → at + j + 2 ≤ length n → u16 n (at + j) ≡ u16 s (a + at + j)
+  word j g = within-u16 n s a w (at + j) g ∙ ap (u16 s) (omega arith)
+
+  pub bad-plane : 2147483648 ≤ p → Ans.refused 23 ≡ renderNodeHere s (a + at)
+  unfolding renderNodeHere renderNodeAt
+  bad-plane l = rw (index-not s (a + at) 10 (omega (arith, room)) (rw plane at l))
+
+  module _ (l : p < 2147483648) (v : ℕ) (is-v : v ≡ u16 n (at + 20)) where
+    back-place : a + at + 4 + 2 ≡ a + at + 6
     back-place = omega arith
 
-    end-place : at + 6 + 2 ≡ at + 8
+    end-place : a + at + 6 + 2 ≡ a + at + 8
     end-place = omega arith
 
-    face-at : at + 8 + 12 ≡ at + 20
+    face-at : a + at + 8 + 12 ≡ a + at + 20
     face-at = omega arith
 
-    pub bad-face : (v : ℕ) → v ≡ u16 s (at + 20) → 32768 ≤ v → Ans.refused 23 ≡ renderNodeHere s at
-    unfolding renderNodeHere renderNodeAt
-    bad-face v is-v t =
-        let g = child s (at + 4) (u16 s (at + 4)) refl (omega arith) in
-        let k = child s (at + 6) (u16 s (at + 6)) refl (omega arith) in
-        rw (index-is s at 10 (omega arith) (rw is-p at l), g .1, back-place, k .1, end-place, bad-end s (at + 8) (u32 s at) (g .0) (k .0) (omega arith) (rw (face-at, ← is-v) t))
+    face : v ≡ u16 s (a + at + 8 + 12)
+    face = is-v ∙ word 20 (omega arith) ∙ ap (u16 s) (sym face-at)
 
-    pub all-good : (v : ℕ) → v ≡ u16 s (at + 20) → v < 32768 → f ≡ u16 s (at + 4) → b ≡ u16 s (at + 6) → answer (nodeOf Render (record { plane = p; front = f; back = b })) ≡ renderNodeHere s at
+    pub bad-face : 32768 ≤ v → Ans.refused 23 ≡ renderNodeHere s (a + at)
     unfolding renderNodeHere renderNodeAt
-    all-good v is-v t is-f is-b =
-        let g = child s (at + 4) f is-f (omega arith) in
-        let k = child s (at + 6) b is-b (omega arith) in
-        let n = good-end s (at + 8) (u32 s at) (g .0) (k .0) (omega arith) (rw (face-at, ← is-v) t) in
-        rw (index-is s at 10 (omega arith) (rw is-p at l), g .1, back-place, k .1, end-place, n .1) (rw (n .2, g .2, k .2, is-p))
+    bad-face t =
+        let g = child s (a + at + 4) (u16 s (a + at + 4)) refl (omega (arith, room)) in
+        let k = child s (a + at + 6) (u16 s (a + at + 6)) refl (omega (arith, room)) in
+        rw (index-is s (a + at) 10 (omega (arith, room)) (rw plane at l), g .1, back-place, k .1, end-place, bad-end s (a + at + 8) (u32 s (a + at)) (g .0) (k .0) (omega (arith, room)) (rw face at t))
+
+    pub all-good : v < 32768 → (c : ℕ) → Pair n (at + 4) c → answer (nodeOf Render (record { plane = p; both = c })) ≡ renderNodeHere s (a + at)
+    unfolding renderNodeHere renderNodeAt
+    all-good t c is-c =
+        let x : c % 65536 ≡ u16 s (a + at + 4) = is-c .0 ∙ word 4 (omega arith) in
+        let y : c / 65536 ≡ u16 s (a + at + 6) = is-c .1 ∙ ap (u16 n) (omega arith) ∙ word 6 (omega arith) in
+        let g = child s (a + at + 4) (c % 65536) x (omega (arith, room)) in
+        let k = child s (a + at + 6) (c / 65536) y (omega (arith, room)) in
+        let e = good-end s (a + at + 8) (u32 s (a + at)) (g .0) (k .0) (omega (arith, room)) (rw face at t) in
+        rw (index-is s (a + at) 10 (omega (arith, room)) (rw plane at l), g .1, back-place, k .1, end-place, e .1) (rw (e .2, g .2, k .2, plane))

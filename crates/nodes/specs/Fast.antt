@@ -1,6 +1,6 @@
 -- The same tables as the readers of this crate go by: where the parts lie, and a node as its words in the file. No contract of a call
 -- outside walks and traces cites these; `table` is equal to `tableOf` of Tables.antt (proofs/Equal.antt).
-use Prim.Native.Nat.{ℕ, _+_, _-_, _*_, _/_, _<_}
+use Prim.Native.Nat.{ℕ, _+_, _-_, _*_, _/_, _%_, _<_, _≤_}
 use mathlib.Core.Path.{_≡_}
 use mathlib.Core.Bool.{Bool, true, false, cond}
 use mathlib.Core.List.{List}
@@ -74,8 +74,17 @@ u16 s at = getD s at 0 + 256 * getD s (at + 1) 0
 unfoldable pub u32 : List ℕ → ℕ → ℕ
 u32 s at = getD s at 0 + 256 * getD s (at + 1) 0 + 65536 * getD s (at + 2) 0 + 16777216 * getD s (at + 3) 0
 
+-- a number that is two words: the one at a place, and 65536 times the next
+abbrev pub Pair : List ℕ → ℕ → ℕ → Type 0
+Pair s at n = (n % 65536 ≡ u16 s at) × (n / 65536 ≡ u16 s (at + 2))
+
 abbrev pub f32 : List ℕ → ℕ → Float
 f32 s at = ofBits binary32 (u32 s at)
+
+-- the bytes n are those of s from the place a on
+pub record Within (n s : List ℕ) (a : ℕ) : Type 0 where
+  pub inside : a + length n ≤ length s
+  pub same : (i : ℕ) → i < length n → getD n i 0 ≡ getD s (a + i) 0
 
 -- ---- parts of the file
 
@@ -137,12 +146,19 @@ endOf Box w = contents (coded (contentsOf (65536 - w)))
 abbrev pub childOf : HullTable → ℕ → Child End
 childOf t w = cond (ltb w 32768) (node w) (end (endOf t w))
 
+-- the children's words
+abbrev pub frontOf : Words → ℕ
+frontOf w = w .both % 65536
+
+abbrev pub backOf : Words → ℕ
+backOf w = w .both / 65536
+
 abbrev pub nodeOf : HullTable → Words → Node End
-nodeOf t w = nodeWith (w .plane) (childOf t (w .front)) (childOf t (w .back))
+nodeOf t w = nodeWith (w .plane) (childOf t (frontOf w)) (childOf t (backOf w))
 
 abbrev pub wordOn : Words → Bool → ℕ
-wordOn w true = w .front
-wordOn w false = w .back
+wordOn w true = frontOf w
+wordOn w false = backOf w
 
 abbrev pub isInvalid : CodedContents → Bool
 isInvalid (Contents c) = false
@@ -161,6 +177,18 @@ clipNodeHere s at = mapped clipNode (reading (collisionNodeAt s at))
 
 unfoldable pub renderNodeHere : List ℕ → ℕ → Answer (Node End)
 renderNodeHere s at = mapped renderNode (reading (renderNodeAt s at))
+
+-- for private contracts: a render node or a clip node, its size, and what a reader says of one in the bytes n, which are a file's
+abbrev pub nodeHere : Bool → List ℕ → ℕ → Answer (Node End)
+nodeHere true s at = renderNodeHere s at
+nodeHere false s at = clipNodeHere s at
+
+abbrev pub nodeSize : Bool → ℕ
+nodeSize true = 24
+nodeSize false = 8
+
+abbrev pub ReadsNode : Bool → List ℕ → ℕ → ReadWords → Type 0
+ReadsNode render n at r = (s : List ℕ) (a : ℕ) → Within n s a → wordsAnswer (fileTable render) r ≡ nodeHere render s (a + at)
 
 unfoldable pub boxNode : ℕ → Answer (Node End)
 boxNode i = nth boxNodes i
@@ -205,10 +233,6 @@ planeFor Box s t i = boxPlane (t .mins) (t .maxs) i
 
 unfoldable pub planeOfIndex : List ℕ → Tables → ℕ → Answer Hyperplane
 planeOfIndex s t i = planeFor (t .table) s t i
-
--- the file's plane of an index: its number (30), then its record
-unfoldable pub planeOfFile : List ℕ → Part → ℕ → Answer Hyperplane
-planeOfFile s p i = cond (ltb i (p .count)) (hereAt (placeIn p 20 (length s) i) (planeRead s)) (refused 30)
 
 -- the plane's number (30), then the plane
 unfoldable pub planeIn : List ℕ → Tables → ℕ → Answer Hyperplane

@@ -1,3 +1,4 @@
 -- What the contracts of `nodes` cite.
 pub mod Tables
 pub mod Fast
+pub mod Walks

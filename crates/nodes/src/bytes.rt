@@ -18,11 +18,19 @@ pub fn u16_at(s: &[u8], at: usize) -> u16
     (wide(s[at]) + 256 * wide(s[at + 1])) as u16
 }
 
+// Two words as one number.
+pub fn pair_at(s: &[u8], at: usize) -> u32
+    requires { ⌜ at + 4 ≤ length (now s) ⌝ }
+    ensures { λ r. ⌜ Fast.Pair (now (s .entry)) at r ⌝ }
+{
+    wide(s[at]) + 256 * wide(s[at + 1]) + 65536 * wide(s[at + 2]) + 16777216 * wide(s[at + 3])
+}
+
 pub fn u32_at(s: &[u8], at: usize) -> u32
     requires { ⌜ at + 4 ≤ length (now s) ⌝ }
     ensures { λ r. ⌜ r ≡ Fast.u32 (now (s .entry)) at ⌝ }
 {
-    wide(s[at]) + 256 * wide(s[at + 1]) + 65536 * wide(s[at + 2]) + 16777216 * wide(s[at + 3])
+    pair_at(s, at)
 }
 
 pub fn f32_at(s: &[u8], at: usize) -> f32

@@ -1,14 +1,12 @@
 // What a walk or a trace reads of a node, of its plane and of an end.
 ghost use mathlib.Core.Path.{_≡_};
-ghost use Prim.Native.Nat.{_+_, _≤_};
-ghost use lib.ListN.{length};
-ghost use Rattle.format.specs.Answer.{answer};
 ghost use Rattle.math.specs.Plane as Pl;
 ghost use Rattle.records.specs.Plane.{planeAnswer};
 ghost use Rattle.nodes.specs.Fast as Fast;
-use crate::bytes::f32_at;
-use crate::bytes::u16_at;
-use crate::bytes::u32_at;
+use crate::here::clip_words;
+use crate::here::leaf_contents;
+use crate::here::plane_here;
+use crate::here::render_words;
 use crate::table::HullTable;
 use crate::table::Part;
 use crate::table::Tables;
@@ -22,11 +20,11 @@ use math::HyperplaneSide;
 use math::Vector3;
 use records::plane::PlaneAnswer;
 
-// A node's plane and its children as they stand in the file: a word below 2^15 is a node, any other an end.
+// A node's plane, and its children's words as one number: the front one's and 65536 times the back one's. A word below 2^15 is a node, any
+// other an end.
 pub struct Words {
     pub plane: u32,
-    pub front: u16,
-    pub back: u16,
+    pub both: u32,
 }
 
 pub enum ReadWords {
@@ -57,61 +55,19 @@ impl Words {
     pub fn on(self, front: bool) -> u16
         ensures { λ r. ⌜ r ≡ Fast.wordOn self front ⌝ }
     {
-        let a = self.front;
-        let b = self.back;
-        if front { a } else { b }
+        if front {
+            return (self.both % 65536) as u16;
+        }
+        (self.both / 65536) as u16
     }
-}
 
-// Whether the word of a clip node's child is neither a node nor contents: the codes are 65536 less it, 1 to 5 and 9 to 14.
-fn is_invalid(word: u16) -> bool
-    ensures { λ r. ⌜ r ≡ Fast.invalid word ⌝ }
-{
-    if word < 32768 {
-        return false;
+    // The same without a branch.
+    pub fn on_shifted(self, front: bool) -> u16
+        ensures { λ r. ⌜ r ≡ Fast.wordOn self front ⌝ }
+    {
+        let by: u32 = if front { 0 } else { 16 };
+        ((self.both >> by) % 65536) as u16
     }
-    if word < 65522 {
-        return true;
-    }
-    if word < 65528 {
-        return false;
-    }
-    word < 65531
-}
-
-fn clip_words(s: &[u8], at: usize) -> ReadWords
-    requires { ⌜ at + 8 ≤ length (now s) ⌝ }
-    ensures { λ r. ⌜ Fast.wordsAnswer HullTable.Clip r ≡ Fast.clipNodeHere (now (s .entry)) at ⌝ }
-{
-    let plane = u32_at(s, at);
-    if 2147483648 <= plane {
-        return ReadWords::Refused(Refusal::Unreadable);
-    }
-    let front = u16_at(s, at + 4);
-    let back = u16_at(s, at + 6);
-    if is_invalid(front) {
-        return ReadWords::Refused(Refusal::Unreadable);
-    }
-    if is_invalid(back) {
-        return ReadWords::Refused(Refusal::Unreadable);
-    }
-    ReadWords::Words(Words { plane, front, back })
-}
-
-fn render_words(s: &[u8], at: usize) -> ReadWords
-    requires { ⌜ at + 24 ≤ length (now s) ⌝ }
-    ensures { λ r. ⌜ Fast.wordsAnswer HullTable.Render r ≡ Fast.renderNodeHere (now (s .entry)) at ⌝ }
-{
-    let plane = u32_at(s, at);
-    if 2147483648 <= plane {
-        return ReadWords::Refused(Refusal::Unreadable);
-    }
-    if 32768 <= u16_at(s, at + 20) {
-        return ReadWords::Refused(Refusal::Unreadable);
-    }
-    let front = u16_at(s, at + 4);
-    let back = u16_at(s, at + 6);
-    ReadWords::Words(Words { plane, front, back })
 }
 
 // The nodes of a box, in the order of `for_bounds`; 65535 is Empty and 65534 Solid.
@@ -121,33 +77,27 @@ fn box_words(index: usize) -> ReadWords
     match index {
         0 => ReadWords::Words(Words {
             plane: 0,
-            front: 65535,
-            back: 1,
+            both: 131071,
         }),
         1 => ReadWords::Words(Words {
             plane: 1,
-            front: 2,
-            back: 65535,
+            both: 4294901762,
         }),
         2 => ReadWords::Words(Words {
             plane: 2,
-            front: 65535,
-            back: 3,
+            both: 262143,
         }),
         3 => ReadWords::Words(Words {
             plane: 3,
-            front: 4,
-            back: 65535,
+            both: 4294901764,
         }),
         4 => ReadWords::Words(Words {
             plane: 4,
-            front: 65535,
-            back: 5,
+            both: 393215,
         }),
         5 => ReadWords::Words(Words {
             plane: 5,
-            front: 65534,
-            back: 65535,
+            both: 4294967294,
         }),
         _ => ReadWords::Refused(Refusal::NoSuchRecord),
     }
@@ -183,26 +133,6 @@ pub fn read_words(s: &[u8], t: Tables, index: usize) -> ReadWords
     file_words(s, t.nodes, table.is_render(), index)
 }
 
-// The coordinate along the axis 0, 1 or 2.
-fn along(p: Vector3, axis: u32) -> f32
-    ensures { λ r. ⌜ r ≡ Fast.along p axis ⌝ }
-{
-    if axis == 0 {
-        p.x
-    } else if axis == 1 {
-        p.y
-    } else {
-        p.z
-    }
-}
-
-fn normal_at(s: &[u8], at: usize) -> Vector3
-    requires { ⌜ at + 12 ≤ length (now s) ⌝ }
-    ensures { λ r. ⌜ r ≡ Fast.normal (now (s .entry)) at ⌝ }
-{
-    Vector3::new(f32_at(s, at), f32_at(s, at + 4), f32_at(s, at + 8))
-}
-
 // Whether a side is the positive one.
 pub fn is_front(side: HyperplaneSide) -> bool
     ensures { λ r. ⌜ Pl.sideIf r ≡ side ⌝ }
@@ -210,44 +140,6 @@ pub fn is_front(side: HyperplaneSide) -> bool
     match side {
         HyperplaneSide::Positive => true,
         HyperplaneSide::Negative => false,
-    }
-}
-
-fn side_here(s: &[u8], at: usize, p: Vector3) -> bool
-    requires { ⌜ at + 20 ≤ length (now s) ⌝ }
-    ensures { λ r. ⌜ Pl.sideIf r ≡ Pl.pointSide (Fast.planeHere (now (s .entry)) at) p ⌝ }
-{
-    let dist = f32_at(s, at + 12);
-    let kind = u32_at(s, at + 16);
-    if kind < 3 {
-        return along(p, kind) >= dist;
-    }
-    is_front(Hyperplane::new(normal_at(s, at), dist).point_side(p))
-}
-
-fn dists_here(s: &[u8], at: usize, p: Vector3, q: Vector3) -> Dists
-    requires { ⌜ at + 20 ≤ length (now s) ⌝ }
-    ensures { λ r. ⌜ Fast.distsAnswer r ≡ answer (Fast.twoDists p q (Fast.planeHere (now (s .entry)) at)) ⌝ }
-{
-    let dist = f32_at(s, at + 12);
-    let kind = u32_at(s, at + 16);
-    if kind < 3 {
-        return Dists::Two(along(p, kind) - dist, along(q, kind) - dist);
-    }
-    let plane = Hyperplane::new(normal_at(s, at), dist);
-    Dists::Two(plane.point_dist(p), plane.point_dist(q))
-}
-
-fn plane_here(s: &[u8], at: usize) -> Hyperplane
-    requires { ⌜ at + 20 ≤ length (now s) ⌝ }
-    ensures { λ r. ⌜ r ≡ Fast.planeHere (now (s .entry)) at ⌝ }
-{
-    let dist = f32_at(s, at + 12);
-    match u32_at(s, at + 16) {
-        0 => Hyperplane::axis_x(dist),
-        1 => Hyperplane::axis_y(dist),
-        2 => Hyperplane::axis_z(dist),
-        _ => Hyperplane::new(normal_at(s, at), dist),
     }
 }
 
@@ -263,46 +155,6 @@ fn box_plane(mins: Vector3, maxs: Vector3, index: usize) -> PlaneAnswer
         4 => PlaneAnswer::Value(Hyperplane::axis_z(maxs.z)),
         5 => PlaneAnswer::Value(Hyperplane::axis_z(mins.z)),
         _ => PlaneAnswer::Refused(Refusal::NoSuchRecord),
-    }
-}
-
-fn box_dists(mins: Vector3, maxs: Vector3, index: usize, p: Vector3, q: Vector3) -> Dists
-    ensures { λ r. ⌜ Fast.distsAnswer r ≡ Fast.distsFrom p q (Fast.boxPlane mins maxs index) ⌝ }
-{
-    match box_plane(mins, maxs, index) {
-        PlaneAnswer::Value(h) => Dists::Two(h.point_dist(p), h.point_dist(q)),
-        PlaneAnswer::Refused(e) => Dists::Refused(e),
-    }
-}
-
-// On which side of the file's plane of an index a point lies. What a walk needs of the plane's record is read, and no more.
-pub fn file_side(s: &[u8], planes: Part, index: usize, p: Vector3) -> Sided
-    ensures { λ r. ⌜ Fast.sidedAnswer r ≡ Fast.sideFrom p (Fast.planeOfFile (now (s .entry)) planes index) ⌝ }
-{
-    if (planes.count as usize) <= index {
-        return Sided::Refused(Refusal::IndexOutsideTable);
-    }
-    match planes.place(20, s.len(), index) {
-        Place::At(at) => Sided::Front(side_here(s, at, p)),
-        Place::Refused(e) => Sided::Refused(e),
-    }
-}
-
-// How far two points are from the plane of an index.
-pub fn dists_at(s: &[u8], t: Tables, index: usize, p: Vector3, q: Vector3) -> Dists
-    ensures { λ r. ⌜ Fast.distsAnswer r ≡ Fast.distsFrom p q (Fast.planeIn (now (s .entry)) t index) ⌝ }
-{
-    let table = t.table;
-    let planes = t.planes;
-    if (planes.count as usize) <= index {
-        return Dists::Refused(Refusal::IndexOutsideTable);
-    }
-    if table.is_box() {
-        return box_dists(t.mins, t.maxs, index, p, q);
-    }
-    match planes.place(20, s.len(), index) {
-        Place::At(at) => dists_here(s, at, p, q),
-        Place::Refused(e) => Dists::Refused(e),
     }
 }
 
@@ -324,6 +176,16 @@ pub fn plane_at(s: &[u8], t: Tables, index: usize) -> PlaneAnswer
     }
 }
 
+// How far two points are from the plane of an index.
+pub fn dists_at(s: &[u8], t: Tables, index: usize, p: Vector3, q: Vector3) -> Dists
+    ensures { λ r. ⌜ Fast.distsAnswer r ≡ Fast.distsFrom p q (Fast.planeIn (now (s .entry)) t index) ⌝ }
+{
+    match plane_at(s, t, index) {
+        PlaneAnswer::Value(h) => Dists::Two(h.point_dist(p), h.point_dist(q)),
+        PlaneAnswer::Refused(e) => Dists::Refused(e),
+    }
+}
+
 // On which side of the plane of an index a point lies.
 pub fn side_at(s: &[u8], t: Tables, index: usize, p: Vector3) -> Sided
     ensures { λ r. ⌜ Fast.sidedAnswer r ≡ Fast.sideFrom p (Fast.planeIn (now (s .entry)) t index) ⌝ }
@@ -331,28 +193,6 @@ pub fn side_at(s: &[u8], t: Tables, index: usize, p: Vector3) -> Sided
     match plane_at(s, t, index) {
         PlaneAnswer::Value(h) => Sided::Front(is_front(h.point_side(p))),
         PlaneAnswer::Refused(e) => Sided::Refused(e),
-    }
-}
-
-fn leaf_contents(s: &[u8], at: usize) -> EndContents
-    requires { ⌜ at + 28 ≤ length (now s) ⌝ }
-    ensures { λ r. ⌜ Fast.endAnswer r ≡ Fast.leafContentsHere (now (s .entry)) at ⌝ }
-{
-    let code = u32_at(s, at);
-    let offset = u32_at(s, at + 4);
-    if code < 2147483648 {
-        return EndContents::Refused(Refusal::Unreadable);
-    }
-    match contents_of(4294967295 - code + 1) {
-        CodedContents::Invalid => EndContents::Refused(Refusal::Unreadable),
-        CodedContents::Contents(c) => {
-            if 2147483648 <= offset {
-                if offset < 4294967295 {
-                    return EndContents::Refused(Refusal::Unreadable);
-                }
-            }
-            EndContents::Contents(c)
-        }
     }
 }
 

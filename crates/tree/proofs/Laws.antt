@@ -34,6 +34,10 @@ pub ends-front : (r : TreeChecked) (x : Refusal) (ms : List ℕ) (back : List �
     → checked (heightAnswer r) ms ≡ thenBack (heightAnswer r) ms back
 ends-front r x ms back e = rw e
 
+pub goes-back : (r : TreeChecked) (a : ℕ) (ms : List ℕ) (back : List ℕ → Checked) → r ≡ Height a
+    → withFront a (back ms) ≡ thenBack (heightAnswer r) ms back
+goes-back r a ms back e = rw e
+
 pub both : (a b : Answer ℕ) (m n : List ℕ) → a ≡ b → m ≡ n → checked a m ≡ checked b n
 both a b m n e f = rw (e, f)
 

@@ -12,7 +12,7 @@ use lib.Ieee.Bits.{ofBits-fits}
 use lib.IntN.{ℤ, pos, negsuc}
 use Rattle.format.proofs.Answers.{mapped-answer}
 use Rattle.format.specs.Answer as Ans
-use Rattle.format.specs.Answer.{Answer, answer, mapped}
+use Rattle.format.specs.Answer.{answer, mapped}
 use Rattle.format.specs.Step.{Step, ok, refused, andThen, when}
 use Rattle.format.specs.Field.{u32At, i32At, f32At}
 use Rattle.format.specs.Section.{sectionOf, recordCount, withinLimit}

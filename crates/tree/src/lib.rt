@@ -59,11 +59,11 @@ fn check_node(file: &[u8], t: Tables, node: usize, levels: u32, marks: &mut [u8]
     if planes.count <= words.plane {
         return TreeChecked::Refused(Refusal::IndexOutsideTable);
     }
-    let front = check_child(file, t, words.front, levels - 1, marks);
+    let front = check_child(file, t, words.on(true), levels - 1, marks);
     let TreeChecked::Height(a) = front else {
         return front;
     };
-    let back = check_child(file, t, words.back, levels - 1, marks);
+    let back = check_child(file, t, words.on(false), levels - 1, marks);
     let TreeChecked::Height(b) = back else {
         return back;
     };

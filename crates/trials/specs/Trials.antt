@@ -11,6 +11,7 @@ use Rattle.math.specs.Vector.{vector}
 use Rattle.math.specs.Plane.{withNormal}
 use Rattle.math.specs.declared.Vector3.{Vector3}
 use Rattle.format.specs.Answer.{Answer, answer, refused, thenAnswer}
+use Rattle.format.specs.Listed.{Listed, listed, into}
 use Rattle.format.specs.declared.contents.BspLeafContents.{BspLeafContents}
 use Rattle.format.specs.declared.contents.BspLeafContents.the-variants.{Empty, Solid}
 use Rattle.format.specs.declared.section.BspData.{BspData}
@@ -27,7 +28,6 @@ use Rattle.nodes.specs.declared.table.HullTable.the-variants.{Clip, Box}
 use Rattle.hull.specs.Hull.{forBounds, hull, hullTable}
 use Rattle.hull.specs.declared.collision.BspCollisionHull.{BspCollisionHull}
 use Rattle.vis.specs.Row.{rowAt}
-use Rattle.vis.specs.Pvs.{Listed, listed, into}
 use Rattle.load.specs.Extents.{isBad}
 use Rattle.load.specs.Load.{loadOf}
 

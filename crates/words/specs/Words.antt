@@ -14,7 +14,8 @@ use Rattle.math.specs.declared.Axis.the-variants.{X, Y, Z}
 use Rattle.math.specs.declared.Alignment.{Alignment}
 use Rattle.math.specs.declared.Alignment.the-variants.{Axis, Normal}
 use Rattle.math.specs.declared.Hyperplane.{Hyperplane}
-use Rattle.format.specs.Answer.{Answer, answer, refused}
+use Rattle.format.specs.Answer.{Answer, answer, refused, mapped}
+use Rattle.format.specs.Listed.{Listed}
 use Rattle.format.specs.declared.section.BspData.{BspData}
 use Rattle.format.specs.declared.section.BspFileSection.{BspFileSection}
 
@@ -43,6 +44,10 @@ given (refused n) out = written n out
 abbrev pub atLeast : {A : Type 0} → ℕ → List A → List ℕ → Written → Written
 atLeast n ws out rest = cond (ltb (length ws) n) (written 22 out) rest
 
+-- a number is its own word
+abbrev pub numberWords : ℕ → List ℕ
+numberWords n = n ∷ []
+
 -- ---- calls with two lists
 
 -- what a call says, what is in the list that it fills or marks, and in the list `out`
@@ -62,11 +67,11 @@ enough n ws list out rest = cond (ltb (length ws) n) (left 22 list out) rest
 abbrev pub beside : List ℕ → Written → Left
 beside list w = left (w .status) list (w .list)
 
--- ---- the words of numbers and planes
+-- the entries in the list that a call fills, and their count in `out`
+abbrev pub listedIn : Listed → List ℕ → Left
+listedIn l out = beside (l .list) (given (mapped numberWords (l .answered)) out)
 
--- a number is its own word
-abbrev pub numberWords : ℕ → List ℕ
-numberWords n = n ∷ []
+-- ---- the words of flags, floats, signed numbers and planes
 
 abbrev pub flagWord : Bool → ℕ
 flagWord false = 0

@@ -1,7 +1,10 @@
 //! The time of each call beside the published Rust, in one run over the same generated maps.
 //!
 //! Each slice runs both sides over the same inputs, one after the other; the least time of many
-//! slices counts. Build without the feature `notes`: the marked lines take time.
+//! slices counts. Both sides take a point or a segment as a value that the compiler knows nothing
+//! of; a slice handed through `black_box` would be stored as two words and read back as one, which
+//! stalls the processor on one side only. Build without the feature `notes`: the marked lines take
+//! time.
 
 use std::hint::black_box;
 use std::time::Instant;
@@ -15,11 +18,16 @@ use crate::calls;
 use crate::calls_stub::TRACE_WORDS;
 use crate::words;
 
-/// Points and segments asked a slice.
-const INPUTS: usize = 1000;
+/// Points and segments asked a slice: as many that no processor learns them by heart. With a
+/// thousand, asked over and over, the branch predictor learns the points themselves, and the Rust's
+/// times move by a quarter with what runs between.
+const INPUTS: usize = 50_000;
 
 /// Leaves asked for their lists a slice.
-const LISTS: usize = 50;
+const LISTS: usize = 1_000;
+
+/// Loading and the tree check, one call a slice, take so many times the slices.
+const SINGLE: u64 = 10;
 
 pub fn run(plan: &Plan) -> bool {
     if cfg!(feature = "notes") {
@@ -40,7 +48,11 @@ pub fn run(plan: &Plan) -> bool {
             },
         ),
     ];
-    println!("least of {} slices; ratio: proved / Rust", plan.cases);
+    println!(
+        "least of {} slices, of load and tree check {}; ratio: proved / Rust",
+        plan.cases,
+        SINGLE * plan.cases
+    );
     println!(
         "{:<9} {:<22} {:>12} {:>12} {:>7} {:>10} {:>10}",
         "map", "call", "ns a call", "Rust", "ratio", "ns a part", "Rust"
@@ -159,7 +171,7 @@ fn segment(seed: &mut Seed, p: [f32; 3], length: f32) -> [f32; 6] {
 fn load(table: &mut Table, file: &[u8]) {
     let mut map = [0u32; 31];
     let mut least = [f64::MAX; 2];
-    for _ in 0..(table.slices / 10).max(3) {
+    for _ in 0..SINGLE * table.slices {
         least[0] = least[0].min(timed(&mut || calls::load(black_box(file), &mut map) as u64));
         let start = Instant::now();
         let loaded = black_box(richter::load(black_box(file)));
@@ -187,7 +199,8 @@ fn contents(
     let ours = || {
         let mut sum = 0;
         for p in points {
-            calls::contents(file, map, words, black_box(p), &mut out);
+            let point = black_box(*p);
+            calls::contents(file, map, words, &point, &mut out);
             sum += out[0];
         }
         sum
@@ -221,7 +234,8 @@ fn traces(
     let ours = || {
         let mut sum = 0;
         for s in segments {
-            calls::trace(file, map, words, black_box(s), &mut out);
+            let segment = black_box(*s);
+            calls::trace(file, map, words, &segment, &mut out);
             sum += out[2];
         }
         sum
@@ -253,7 +267,8 @@ fn find_leaf(
     let ours = || {
         let mut sum = 0;
         for p in points {
-            calls::find_leaf(file, map, 0, black_box(p), &mut out);
+            let point = black_box(*p);
+            calls::find_leaf(file, map, 0, &point, &mut out);
             sum += out[0];
         }
         sum
@@ -300,7 +315,7 @@ fn tree_check(table: &mut Table, (file, map): (&[u8], &[u32]), number: u32, node
     let mut out = [0; 1];
     let ours = || calls::tree_check(file, map, number, 0, &mut marks, &mut out) as u64 + out[0];
     let slices = table.slices;
-    table.slices = (slices / 10).max(3);
+    table.slices = SINGLE * slices;
     table.line(&format!("tree check, {nodes}"), (1, count as u64), ours, None);
     table.slices = slices;
 }

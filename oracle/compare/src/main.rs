@@ -100,7 +100,7 @@ fn run(mode: &str, given: &Arguments) -> bool {
         "pvs" => pvs::run(&given.plan(20_000)),
         "loads" => loads::run(&given.plan(5_000)),
         "sample" => sample::run(given.path(), given.number("--seed", 1), !given.has("--no-nodes")),
-        "bench" => bench::run(&given.plan(1_000)),
+        "bench" => bench::run(&given.plan(30)),
         "rust-facts" => facts::run(),
         "notes" => notes::run(),
         _ => wrong("compare: a mode of oracle/run"),

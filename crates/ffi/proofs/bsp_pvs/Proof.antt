@@ -2,9 +2,10 @@
 use borrow.Author.Needs.{needs}
 use mathlib.Core.Path.{ap, _∙_}
 use borrow.Author.Tests.{lt-ltb, le-ltb}
-use Rattle.words.specs.Words.{beside}
-use Rattle.vis.specs.Pvs.{pvsOf, into}
-use Rattle.ffi.specs.Calls.{listedIn, bspPvs}
+use Rattle.format.specs.Listed.{into}
+use Rattle.words.proofs.Giving.{counts}
+use Rattle.vis.specs.Pvs.{lengthOf, pvsOf}
+use Rattle.ffi.specs.Calls.{bspPvs}
 use Rattle.ffi.proofs.bsp_pvs.Statement.{statement}
 use Rattle.ffi.proofs.bsp_pvs.Tie as tie
 
@@ -36,8 +37,8 @@ unfolding bspPvs
 returns-3 c =
     let s = c .before .before .before .before .before .before .before .before .before .before .before .before .before .before .before .args in
     simp (le-ltb _ _ (c .before .before .before .before .before .before .before .before .before .before .if1 .left), le-ltb _ _ (c .before .before .before .before .before .before .before .before .before .if2 .left))
-    (ap (beside (c .before .before .before .before .before .before .get-pvs .last .1 .1 .1 .1 .0)) (c .before .before .give-length .ensures)
-    ∙ ap (λ l. listedIn l (s .out .now)) (c .before .before .before .before .before .before .get-pvs .ensures ∙ ap (λ m. into (pvsOf (s .file .now) m (s .leaf) (s .leaf-count)) (s .list .now)) (c .before .before .before .before .before .before .before .before .map-of .ensures)))
+    (counts (lengthOf (c .before .before .before .before .before .before .get-pvs .result)) _ (s .out .now) (c .before .before .give-length .ensures)
+    (c .before .before .before .before .before .before .get-pvs .ensures ∙ ap (λ m. into (pvsOf (s .file .now) m (s .leaf) (s .leaf-count)) (s .list .now)) (c .before .before .before .before .before .before .before .before .map-of .ensures)))
 
 pub bsp-pvs-spec : {M : Type 1} → statement M
 bsp-pvs-spec =

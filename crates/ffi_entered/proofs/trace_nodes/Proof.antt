@@ -1,34 +1,38 @@
 -- `ffi_entered::trace_nodes` meets its contract. Assumes nothing.
 use Prim.Native.Nat.{ℕ}
 use mathlib.Core.List.{List}
-use borrow.Author.Tests.{lt-ltb, le-ltb}
-use Rattle.format.specs.declared.section.BspData.{BspData}
-use Rattle.math.specs.declared.Vector3.{Vector3}
-use Rattle.words.specs.Words.{Left, mapOf}
 use mathlib.Core.Path.{_≡_, ap, ap₂, _∙_}
-use Rattle.hull.specs.Hull.{hullTable, hullAnswer}
-use Rattle.hull.specs.declared.collision.BspCollisionHull.{BspCollisionHull}
+use borrow.Author.Tests.{lt-ltb, le-ltb}
+use Rattle.format.specs.Answer.{Answer, refused, thenAnswer}
+use Rattle.format.specs.Listed.{into}
+use Rattle.format.specs.declared.contents.BspLeafContents.{BspLeafContents}
+use Rattle.math.specs.declared.Vector3.{Vector3}
+use Rattle.words.specs.Words.{listedIn, mapOf}
+use Rattle.words.proofs.Giving.{counts}
+use Rattle.walk.specs.Table.{Table}
 use Rattle.walk.specs.Trace as Tracing
-use Rattle.entered.specs.Lists.{Listed, listed}
-use Rattle.ffi_hull.specs.Layout.{pointAt}
-use Rattle.ffi_entered.specs.Calls.{ofHull, bspTraceNodes}
-use Rattle.ffi_entered.proofs.Asking.{counted, no-hull, the-hull}
+use Rattle.nodes.specs.Tables.{End}
+use Rattle.hull.specs.Hull.{hullTable}
+use Rattle.entered.specs.Lists.{nodesEntered, enteredAnswer}
+use Rattle.ffi_hull.specs.Layout.{pointAt, hullFrom}
+use Rattle.ffi_hull.proofs.Walked.{no-hull, the-hull}
+use Rattle.ffi_entered.specs.Calls.{bspTraceNodes}
 use borrow.Author.Needs.{needs}
 use Rattle.ffi_entered.proofs.trace_nodes.Statement.{statement}
 use Rattle.ffi_entered.proofs.trace_nodes.Tie as tie
 
--- what is asked of a hull
-abbrev asked : List ℕ → BspData → Vector3 → Vector3 → List ℕ → BspCollisionHull → Listed
-asked s m p q l h = listed l (Tracing.trace (hullTable s m h) (h .«node_id») p q)
+-- what is asked of a hull's table and root
+abbrev asked : Vector3 → Vector3 → Table End BspLeafContents → ℕ → Answer (List ℕ)
+asked p q T root = nodesEntered (Tracing.trace T root p q)
 
 -- where the lists are long enough
-at-hull : (c : tie.After-hull-of) (v : Left) → let s = c .before .before .before .before .before .before .before .before .before .before .before .args in
-    v ≡ ofHull (hullAnswer (c .hull-of .result)) (s .list .now) (s .out .now) (asked (s .file .now) (mapOf (s .map .now)) (pointAt (s .segment .now) 0) (pointAt (s .segment .now) 3) (s .list .now))
-    → v ≡ bspTraceNodes (s .file .now) (s .map .now) (s .hull .now) (s .segment .now) (s .list .now) (s .out .now)
+at-hull : (c : tie.After-walked-hull) (a : Answer (List ℕ)) → let s = c .before .before .before .before .before .before .before .before .before .before .before .args in
+    a ≡ thenAnswer (hullFrom (s .hull .now)) (λ h. asked (pointAt (s .segment .now) 0) (pointAt (s .segment .now) 3) (hullTable (s .file .now) (mapOf (s .map .now)) h) (h .«node_id»))
+    → listedIn (into a (s .list .now)) (s .out .now) ≡ bspTraceNodes (s .file .now) (s .map .now) (s .hull .now) (s .segment .now) (s .list .now) (s .out .now)
 unfolding bspTraceNodes
-at-hull c v g =
+at-hull c a g =
     simp (le-ltb _ _ (c .before .before .before .before .if1 .left), le-ltb _ _ (c .before .before .before .if2 .left), le-ltb _ _ (c .before .before .if3 .left), le-ltb _ _ (c .before .if4 .left))
-    (rw (← c .hull-of .ensures) g)
+    (let s = c .before .before .before .before .before .before .before .before .before .before .before .args in ap (λ (a : Answer (List ℕ)). listedIn (into a (s .list .now)) (s .out .now)) g)
 
 returns : tie.Need-returns
 unfolding bspTraceNodes
@@ -46,8 +50,8 @@ returns-4 : tie.Need-returns-4
 unfolding bspTraceNodes
 returns-4 c = simp (le-ltb _ _ (c .before .before .before .if1 .left), le-ltb _ _ (c .before .before .if2 .left), le-ltb _ _ (c .before .if3 .left), lt-ltb _ _ (c .if4 .taken))
 
-hull-of-requires : tie.Need-hull-of-requires
-hull-of-requires c κs = search needs
+walked-hull-requires : tie.Need-walked-hull-requires
+walked-hull-requires c κs = search needs
 
 enum-known-e : tie.Need-enum-known-e
 enum-known-e c = search needs
@@ -58,14 +62,14 @@ number-requires c κs = search needs
 enum-known-h : tie.Need-enum-known-h
 enum-known-h c = search needs
 
+walked-map-requires : tie.Need-walked-map-requires
+walked-map-requires c κs = search needs
+
 first-point-requires : tie.Need-first-point-requires
 first-point-requires c κs = search needs
 
 second-point-requires : tie.Need-second-point-requires
 second-point-requires c κs = search needs
-
-map-of-requires : tie.Need-map-of-requires
-map-of-requires c κs = search needs
 
 nodes-of-trace-requires : tie.Need-nodes-of-trace-requires
 nodes-of-trace-requires c κs = search needs
@@ -75,8 +79,10 @@ give-count-requires c κs = search needs
 
 returns-5 : tie.Need-returns-5
 returns-5 c =
-    let s = c .before .before .before .before .before .before .before .before .before .before .before .before .before .before .before .args in
-    at-hull (c .before .before .before .before) _ (no-hull (asked (s .file .now) (mapOf (s .map .now)) (pointAt (s .segment .now) 0) (pointAt (s .segment .now) 3) (s .list .now)) (s .list .now) (s .out .now) (c .before .before .e .given .1) (c .number .ensures))
+    let w = c .before .before .before .before in
+    let s = w .before .before .before .before .before .before .before .before .before .before .before .args in
+    at-hull w (refused _)
+    (no-hull (s .file .now) (s .map .now) (s .hull .now) (asked (pointAt (s .segment .now) 0) (pointAt (s .segment .now) 3)) _ (w .walked-hull .ensures) _ (c .before .before .e .given .1) _ (c .number .ensures))
 
 same-length : tie.Need-same-length
 same-length c = search needs
@@ -86,13 +92,13 @@ same-length-2 c = search needs
 
 returns-6 : tie.Need-returns-6
 returns-6 c =
-    let s = c .before .before .before .before .before .before .before .before .before .before .before .before .before .before .before .before .before .before .before .before .before .before .before .before .before .args in
-    at-hull (c .before .before .before .before .before .before .before .before .before .before .before .before .before .before) _
-    (the-hull (asked (s .file .now) (mapOf (s .map .now)) (pointAt (s .segment .now) 0) (pointAt (s .segment .now) 3) (s .list .now)) (s .list .now) (s .out .now) (c .before .before .before .before .before .before .before .before .before .before .before .before .h .given .1)
-    (counted (c .before .before .before .before .before .before .nodes-of-trace .last .1 .1 .1 .1 .1 .0) (s .out .now) (c .before .before .before .before .before .before .nodes-of-trace .result) (c .before .before .give-count .ensures)
-    (c .before .before .before .before .before .before .nodes-of-trace .ensures
-    ∙ ap (λ m. asked (s .file .now) m (c .before .before .before .before .before .before .before .before .before .before .first-point .result) (c .before .before .before .before .before .before .before .before .before .second-point .result) (s .list .now) (c .before .before .before .before .before .before .before .before .before .before .before .before .h .given .0 .0)) (c .before .before .before .before .before .before .before .before .map-of .ensures)
-    ∙ ap₂ (λ p q. asked (s .file .now) (mapOf (s .map .now)) p q (s .list .now) (c .before .before .before .before .before .before .before .before .before .before .before .before .h .given .0 .0)) (c .before .before .before .before .before .before .before .before .before .before .first-point .ensures) (c .before .before .before .before .before .before .before .before .before .second-point .ensures))))
+    let w = c .before .before .before .before .before .before .before .before .before .before .before .before .before .before in
+    let s = w .before .before .before .before .before .before .before .before .before .before .before .args in
+    let h = c .before .before .before .before .before .before .before .before .before .before .before .before .h .given .0 .0 in
+    counts (enteredAnswer (c .before .before .before .before .before .before .nodes-of-trace .result)) (c .before .before .before .before .before .before .nodes-of-trace .last .1 .1 .1 .1 .1 .0) (s .out .now) (c .before .before .give-count .ensures) (c .before .before .before .before .before .before .nodes-of-trace .ensures)
+    ∙ at-hull w _
+    (ap₂ (λ (p q : Vector3). asked p q (hullTable (s .file .now) (c .before .before .before .before .before .before .before .before .before .before .walked-map .result) h) (h .«node_id»)) (c .before .before .before .before .before .before .before .before .before .first-point .ensures) (c .before .before .before .before .before .before .before .before .second-point .ensures)
+    ∙ the-hull (s .file .now) (s .map .now) (s .hull .now) (asked (pointAt (s .segment .now) 0) (pointAt (s .segment .now) 3)) _ (w .walked-hull .ensures) h (c .before .before .before .before .before .before .before .before .before .before .before .before .h .given .1) _ (c .before .before .before .before .before .before .before .before .before .before .walked-map .ensures))
 
 pub trace-nodes-spec : {M : Type 1} → statement M
 trace-nodes-spec =
@@ -102,13 +108,13 @@ trace-nodes-spec =
     returns-2
     returns-3
     returns-4
-    hull-of-requires
+    walked-hull-requires
     enum-known-e
     number-requires
     enum-known-h
+    walked-map-requires
     first-point-requires
     second-point-requires
-    map-of-requires
     nodes-of-trace-requires
     give-count-requires
     returns-5

@@ -1,41 +1,35 @@
 -- `ffi_hull::contents` meets its contract. Assumes nothing.
 use borrow.Author.Needs.{needs}
 use Prim.Native.Nat.{ℕ}
-use mathlib.Core.List.{List}
-use mathlib.Core.Path.{_≡_, ap, ap₂, _∙_}
+use mathlib.Core.Path.{_≡_, ap, _∙_}
 use borrow.Author.Tests.{lt-ltb, le-ltb}
-use Rattle.format.specs.Answer.{Answer, mapped}
-use Rattle.format.specs.declared.section.BspData.{BspData}
+use Rattle.format.specs.Answer.{Answer, refused, mapped, thenAnswer}
 use Rattle.math.specs.declared.Vector3.{Vector3}
-use Rattle.words.specs.Words.{Written, given, mapOf}
-use Rattle.hull.specs.Hull.{hullTable, hullAnswer}
-use Rattle.hull.specs.declared.collision.BspCollisionHull.{BspCollisionHull}
-use Rattle.ffi_hull.proofs.Asking.{no-hull, the-hull}
-use Rattle.ffi_hull.proofs.Walked.{in-tables, as-walked, contents-flat}
+use Rattle.words.specs.Words.{given, mapOf}
+use Rattle.hull.specs.Hull.{hullTable}
+use Rattle.ffi_hull.proofs.Walked.{no-hull, the-tables}
 use Rattle.walk.specs.Table.{Table}
 use Rattle.nodes.specs.Tables.{End}
+use Rattle.nodes.specs.Fast as Fast
 use Rattle.walk.specs.Walk.{withVisits, pointWalk}
 use Rattle.format.specs.declared.contents.BspLeafContents.{BspLeafContents}
-use Rattle.ffi_hull.specs.Layout.{pointAt, contentsWords}
-use Rattle.ffi_hull.specs.Calls.{ofHull, bspContents}
+use Rattle.ffi_hull.specs.Layout.{pointAt, hullFrom, contentsWords}
+use Rattle.ffi_hull.specs.Calls.{bspContents}
 use Rattle.ffi_hull.proofs.contents.Statement.{statement}
 use Rattle.ffi_hull.proofs.contents.Tie as tie
 
--- what is asked of a hull
-abbrev asked : List ℕ → BspData → Vector3 → BspCollisionHull → Answer (BspLeafContents × ℕ)
-asked s m p h = withVisits (pointWalk (hullTable s m h) (h .«node_id») p)
+-- what is asked of a hull's table and root
+abbrev asked : Vector3 → Table End BspLeafContents → ℕ → Answer (BspLeafContents × ℕ)
+asked p T root = withVisits (pointWalk T root p)
 
 -- where the lists are long enough
-at-hull : (c : tie.After-walked-hull) (w : Written) → let s = c .before .before .before .before .before .before .before .before .before .before .args in
-    w ≡ given (mapped contentsWords (ofHull (hullAnswer (c .walked-hull .result)) (asked (s .file .now) (mapOf (s .map .now)) (pointAt (s .point .now) 0)))) (s .out .now)
-    → w ≡ bspContents (s .file .now) (s .map .now) (s .hull .now) (s .point .now) (s .out .now)
+at-hull : (c : tie.After-walked-hull) (a : Answer (BspLeafContents × ℕ)) → let s = c .before .before .before .before .before .before .before .before .before .before .args in
+    a ≡ thenAnswer (hullFrom (s .hull .now)) (λ h. asked (pointAt (s .point .now) 0) (hullTable (s .file .now) (mapOf (s .map .now)) h) (h .«node_id»))
+    → given (mapped contentsWords a) (s .out .now) ≡ bspContents (s .file .now) (s .map .now) (s .hull .now) (s .point .now) (s .out .now)
 unfolding bspContents
-at-hull c w g =
+at-hull c a g =
     simp (le-ltb _ _ (c .before .before .before .before .if1 .left), le-ltb _ _ (c .before .before .before .if2 .left), le-ltb _ _ (c .before .before .if3 .left), le-ltb _ _ (c .before .if4 .left))
-    (g
-    ∙ ap (λ (a : Answer (BspLeafContents × ℕ)). given (mapped contentsWords a) (c .before .before .before .before .before .before .before .before .before .before .args .out .now))
-    (ap (λ (x : Answer BspCollisionHull). ofHull x (asked (c .before .before .before .before .before .before .before .before .before .before .args .file .now) (mapOf (c .before .before .before .before .before .before .before .before .before .before .args .map .now)) (pointAt (c .before .before .before .before .before .before .before .before .before .before .args .point .now) 0))) (c .walked-hull .ensures)
-    ∙ as-walked (c .before .before .before .before .before .before .before .before .before .before .args .hull .now) (asked (c .before .before .before .before .before .before .before .before .before .before .args .file .now) (mapOf (c .before .before .before .before .before .before .before .before .before .before .args .map .now)) (pointAt (c .before .before .before .before .before .before .before .before .before .before .args .point .now) 0)) (contents-flat (c .before .before .before .before .before .before .before .before .before .before .args .file .now) (c .before .before .before .before .before .before .before .before .before .before .args .hull .now) (mapOf (c .before .before .before .before .before .before .before .before .before .before .args .map .now)) (pointAt (c .before .before .before .before .before .before .before .before .before .before .args .point .now) 0))))
+    (ap (λ (a : Answer (BspLeafContents × ℕ)). given (mapped contentsWords a) (c .before .before .before .before .before .before .before .before .before .before .args .out .now)) g)
 
 returns : tie.Need-returns
 unfolding bspContents
@@ -80,19 +74,21 @@ give-contents-requires c κs = search needs
 returns-5 : tie.Need-returns-5
 returns-5 c =
     let s = c .before .before .before .before .before .before .before .before .before .before .before .before .before .before .args in
-    at-hull (c .before .before .before .before) _ (no-hull contentsWords (asked (s .file .now) (mapOf (s .map .now)) (pointAt (s .point .now) 0)) (s .out .now) (c .before .before .e .given .1) (c .number .ensures))
+    at-hull (c .before .before .before .before) (refused _)
+    (no-hull (s .file .now) (s .map .now) (s .hull .now) (asked (pointAt (s .point .now) 0)) _ (c .before .before .before .before .walked-hull .ensures) _ (c .before .before .e .given .1) _ (c .number .ensures))
 
 same-length : tie.Need-same-length
 same-length c = search needs
 
 returns-6 : tie.Need-returns-6
 returns-6 c =
-    let s = c .before .before .before .before .before .before .before .before .before .before .before .before .before .before .before .before .before .before .before .before .args in
+    let w = c .before .before .before .before .before .before .before .before .before .before in
+    let s = w .before .before .before .before .before .before .before .before .before .before .args in
     let h = c .before .before .before .before .before .before .before .before .h .given .0 .0 in
-    at-hull (c .before .before .before .before .before .before .before .before .before .before) _
-    (the-hull contentsWords (asked (s .file .now) (mapOf (s .map .now)) (pointAt (s .point .now) 0)) (s .out .now) (c .before .before .before .before .before .before .before .before .h .given .1)
-    (c .before .before .give-contents .ensures
-    ∙ ap₂ (λ (T : Table End BspLeafContents) (p : Vector3). given (mapped contentsWords (withVisits (pointWalk T (h .«node_id») p))) (s .out .now)) (in-tables (s .file .now) (s .map .now) h _ _ (c .before .before .before .before .before .tables-of .ensures) (c .before .before .before .before .before .before .walked-map .ensures)) (c .before .before .before .before .first-point .ensures)))
+    c .before .before .give-contents .ensures
+    ∙ at-hull w _
+    (ap (λ (p : Vector3). asked p (Fast.table (s .file .now) (c .before .before .before .before .before .tables-of .result)) (h .«node_id»)) (c .before .before .before .before .first-point .ensures)
+    ∙ the-tables (s .file .now) (s .map .now) (s .hull .now) (asked (pointAt (s .point .now) 0)) _ (w .walked-hull .ensures) h (c .before .before .before .before .before .before .before .before .h .given .1) _ (c .before .before .before .before .before .before .walked-map .ensures) _ (c .before .before .before .before .before .tables-of .ensures))
 
 pub contents-spec : {M : Type 1} → statement M
 contents-spec =

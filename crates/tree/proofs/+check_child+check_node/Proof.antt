@@ -17,9 +17,9 @@ use Rattle.walk.proofs.CheckSteps.{check-outside, check-twice, check-deep, reco
 use Rattle.nodes.specs.Tables.{End}
 use Rattle.nodes.specs.Fast as Fast
 use Rattle.nodes.specs.declared.read.Words.{Words}
-use Rattle.tree.specs.Check.{heightAnswer}
+use Rattle.tree.specs.Check.{heightAnswer, checkWord}
 use Rattle.tree.specs.declared.TreeChecked.the-variants.{Height}
-use Rattle.tree.proofs.Laws.{ends-front, ends-back, higher-back, higher-front, opens, low, word-node, word-end, word-outside}
+use Rattle.tree.proofs.Laws.{ends-front, goes-back, ends-back, higher-back, higher-front, opens, low, word-node, word-end, word-outside}
 use Rattle.tree.proofs.check_child.Reads as check-child
 use Rattle.tree.proofs.check_child.Kinds as check-child-kinds
 use Rattle.tree.proofs.+check_child+check_node.Lts-check_child as check-child-lts
@@ -27,6 +27,7 @@ use Rattle.tree.proofs.check_node.Reads as check-node
 use Rattle.tree.proofs.check_node.Kinds as check-node-kinds
 use Rattle.tree.proofs.+check_child+check_node.Lts-check_node as check-node-lts
 use Rattle.nodes.proofs.read.read_words.Reads as read-words-reads
+use Rattle.nodes.proofs.read.Words.on.Reads as on-reads
 use Rattle.tree.proofs.end_in_range.Reads as end-in-range-reads
 use Rattle.tree.proofs.+check_child+check_node.{statement}
 use Rattle.tree.proofs.+check_child+check_node.Tie.{close}
@@ -55,7 +56,7 @@ check-node-below t =
 
 -- what `check_node` is handed of the functions that it calls, and `check_child`
 abbrev called : ℕ → check-node-lts.Claims
-called t = (read-words-reads.Asked, read-words-reads.Learnt, check-child-below t, check-child.Post)
+called t = (read-words-reads.Asked, read-words-reads.Learnt, on-reads.Asked, on-reads.Learnt, check-child-below t, check-child.Post)
 
 abbrev called′ : ℕ → check-child-lts.Claims
 called′ t = (check-node-below t, check-node.Post, end-in-range-reads.Asked, end-in-range-reads.Learnt)
@@ -101,11 +102,17 @@ module _ (t : ℕ) where
   abbrev from-planed : Planed → Start
   from-planed c = from-read (c .before .before .before .before)
 
+  abbrev planed : Front → Planed
+  planed c = c .before .before .before
+
   abbrev from-front : Front → Start
-  from-front c = from-planed (c .before .before)
+  from-front c = from-planed (planed c)
+
+  abbrev front-at : Back → Front
+  front-at c = c .before .before .before .before .before .before .before .before
 
   abbrev from-back : Back → Start
-  from-back c = from-front (c .before .before .before .before .before .before .before)
+  from-back c = from-front (front-at c)
 
   -- the node's record, once it is read
   abbrev words : Read → Words
@@ -115,10 +122,10 @@ module _ (t : ℕ) where
   record-of c = Fast.nodeOf (from-read c .args .t .table) (words c)
 
   abbrev front-of : Front → Child End
-  front-of c = record-of (c .before .before .before .before .before .before) .front
+  front-of c = record-of (planed c .before .before .before .before) .front
 
   abbrev back-of : Front → Child End
-  back-of c = record-of (c .before .before .before .before .before .before) .back
+  back-of c = record-of (planed c .before .before .before .before) .back
 
   is-read : (c : Read) → let s = from-read c in nodes s .nodeAt (s .args .node) ≡ answer (record-of c)
   is-read c = sym (c .before .before .read-words .ensures) ∙ ap (Fast.wordsAnswer (from-read c .args .t .table)) (c .w .given .1)
@@ -139,33 +146,48 @@ module _ (t : ℕ) where
       let s = from-planed c in
       sym (record-children (nodes s) (deeper s) (nodes s .nodeAt (s .args .node)) (marks₁ s) (record-of (c .before .before .before .before)) (is-read (c .before .before .before .before)) (c .if4 .left)) ∙ at-marked (c .before .before .before .before .before .before .before)
 
+  -- a child's check by its word
+  abbrev of-word : Start → ℕ → List ℕ → Checked
+  of-word s = checkWord (nodes s) (s .args .t .table) (s .args .levels - 1)
+
   -- the front child is checked
+  front-checked : (c : Front) →
+      let s = from-front c in
+      checked (heightAnswer (c .check-child .result)) (c .check-child .last .1 .1 .1 .1 .0) ≡ checkChild (nodes s) (deeper s) (front-of c) (marks₁ s)
+  front-checked c = let s = from-front c in c .check-child .ensures ∙ ap (λ (k : ℕ). of-word s k (marks₁ s)) (c .before .before .on .ensures)
+
   at-front : (c : Front) →
       let s = from-front c in
       thenBack (heightAnswer (c .check-child .result)) (c .check-child .last .1 .1 .1 .1 .0) (checkChild (nodes s) (deeper s) (back-of c)) ≡ whole s
   at-front c =
       let s = from-front c in
-      ap (λ (v : Checked). thenBack (v .answer) (v .marks) (checkChild (nodes s) (deeper s) (back-of c))) (c .check-child .ensures) ∙ at-planed (c .before .before)
+      ap (λ (v : Checked). thenBack (v .answer) (v .marks) (checkChild (nodes s) (deeper s) (back-of c))) (front-checked c) ∙ at-planed (planed c)
 
   kept-front : (c : Front) → length (c .check-child .last .1 .1 .1 .1 .0) ≡ length (now (from-front c .args .marks))
   kept-front c = c .check-child .kept .1 .1 .1 .1 .0 ∙ simp length-set
 
   -- the back child is checked
+  back-checked : (c : Back) →
+      let s = from-back c in
+      checked (heightAnswer (c .check-child2 .result)) (c .check-child2 .last .1 .1 .1 .1 .0)
+      ≡ checkChild (nodes s) (deeper s) (back-of (front-at c)) (front-at c .check-child .last .1 .1 .1 .1 .0)
+  back-checked c = c .check-child2 .ensures ∙ ap (λ (k : ℕ). of-word (from-back c) k (front-at c .check-child .last .1 .1 .1 .1 .0)) (c .before .before .on2 .ensures)
+
   at-back : (c : Back) →
-      withFront (c .before .before .before .front .given .0 .0) (checked (heightAnswer (c .check-child2 .result)) (c .check-child2 .last .1 .1 .1 .1 .0)) ≡ whole (from-back c)
-  at-back c = ap (withFront (c .before .before .before .front .given .0 .0)) (c .check-child2 .ensures) ∙ rw (c .before .before .before .front .given .1) at (at-front (c .before .before .before .before .before .before .before))
+      withFront (c .before .before .before .before .front .given .0 .0) (checked (heightAnswer (c .check-child2 .result)) (c .check-child2 .last .1 .1 .1 .1 .0)) ≡ whole (from-back c)
+  at-back c = ap (withFront (c .before .before .before .before .front .given .0 .0)) (back-checked c) ∙ goes-back _ _ _ _ (c .before .before .before .before .front .given .1) ∙ at-front (front-at c)
 
   kept-back : (c : Back) → length (c .check-child2 .last .1 .1 .1 .1 .0) ≡ length (now (from-back c .args .marks))
-  kept-back c = c .check-child2 .kept .1 .1 .1 .1 .0 ∙ kept-front (c .before .before .before .before .before .before .before)
+  kept-back c = c .check-child2 .kept .1 .1 .1 .1 .0 ∙ kept-front (front-at c)
 
   -- heights of the children, where they have one
   low-front : (c : Front) (a : ℕ) → c .check-child .result ≡ Height a → a ≤ from-front c .args .levels - 1
-  low-front c a e = let s = from-front c in low (nodes s) (s .args .levels - 1) (front-of c) (marks₁ s) _ _ a e (c .check-child .ensures)
+  low-front c a e = let s = from-front c in low (nodes s) (s .args .levels - 1) (front-of c) (marks₁ s) _ _ a e (front-checked c)
 
   low-back : (c : Back) (b : ℕ) → c .check-child2 .result ≡ Height b → b ≤ from-back c .args .levels - 1
   low-back c b e =
       let s = from-back c in
-      low (nodes s) (s .args .levels - 1) (back-of (c .before .before .before .before .before .before .before)) (c .before .before .before .before .before .before .before .check-child .last .1 .1 .1 .1 .0) _ _ b e (c .check-child2 .ensures)
+      low (nodes s) (s .args .levels - 1) (back-of (front-at c)) (front-at c .check-child .last .1 .1 .1 .1 .0) _ _ b e (back-checked c)
 
   check-child-check-node-requires : check-child-lts.Need-check-node-requires (called′ t) (check-child-at t) check-child.Post
   check-child-check-node-requires c κs = search needs
@@ -224,6 +246,9 @@ module _ (t : ℕ) where
   check-node-returns-5 : check-node-lts.Need-returns-5 (called t) (check-node-at t) check-node.Post
   check-node-returns-5 c = let s = from-read (c .before .before .before .before) in sym (record-outside (nodes s) (deeper s) (nodes s .nodeAt (s .args .node)) (marks₁ s) (record-of (c .before .before .before .before)) (is-read (c .before .before .before .before)) (c .if4 .taken)) ∙ at-marked (c .before .before .before .before .before .before .before)
 
+  check-node-on-requires : check-node-lts.Need-on-requires (called t) (check-node-at t) check-node.Post
+  check-node-on-requires c κs = search needs
+
   check-node-sub-check-child : check-node-lts.Need-sub-check-child (called t) (check-node-at t) check-node.Post
   check-node-sub-check-child c = search needs
 
@@ -242,11 +267,16 @@ module _ (t : ℕ) where
   check-node-returns-6 : check-node-lts.Need-returns-6 (called t) (check-node-at t) check-node.Post
   check-node-returns-6 c = ends-front _ _ _ (checkChild (nodes (from-front (c .before .before .before .before))) (deeper (from-front (c .before .before .before .before))) (back-of (c .before .before .before .before))) (c .enum-told .given .1) ∙ at-front (c .before .before .before .before)
 
+  check-node-on-requires-2 : check-node-lts.Need-on-requires-2 (called t) (check-node-at t) check-node.Post
+  check-node-on-requires-2 c κs = search needs
+
   check-node-sub-check-child-2 : check-node-lts.Need-sub-check-child-2 (called t) (check-node-at t) check-node.Post
   check-node-sub-check-child-2 c = search needs
 
   check-node-check-child-requires-2 : check-node-lts.Need-check-child-requires-2 (called t) (check-node-at t) check-node.Post
-  check-node-check-child-requires-2 c κs = (less (c .before .before .before .before .before .before .before .before .before .before .before .before .before .before .before), omega (arith, kept-front (c .before .before .before .before .before .before), from-front (c .before .before .before .before .before .before) .pre .1))
+  check-node-check-child-requires-2 c κs =
+      let f = c .before .before .before .before .before .before .before in
+      (less (planed f .before .before .before .before .before .before .before), omega (arith, kept-front f, from-front f .pre .1))
 
   check-node-enum-known-back : check-node-lts.Need-enum-known-back (called t) (check-node-at t) check-node.Post
   check-node-enum-known-back c = search needs
@@ -260,11 +290,11 @@ module _ (t : ℕ) where
   check-node-returns-7 : check-node-lts.Need-returns-7 (called t) (check-node-at t) check-node.Post
   check-node-returns-7 c = ends-back _ _ _ _ (c .enum-told2 .given .1) ∙ at-back (c .before .before .before .before)
 
-  check-node-add-t33 : check-node-lts.Need-add-t33 (called t) (check-node-at t) check-node.Post
-  check-node-add-t33 c = omega (arith, low-back (c .before .before .before .before .before .before) _ (c .before .before .back .given .1), from-back (c .before .before .before .before .before .before) .fits .levels .fits)
-
   check-node-add-t34 : check-node-lts.Need-add-t34 (called t) (check-node-at t) check-node.Post
-  check-node-add-t34 c = omega (arith, low-front (c .before .before .before .before .before .before .before .before .before .before .before .before .before) _ (c .before .before .before .before .before .before .before .before .before .front .given .1), from-back (c .before .before .before .before .before .before) .fits .levels .fits)
+  check-node-add-t34 c = omega (arith, low-back (c .before .before .before .before .before .before) _ (c .before .before .back .given .1), from-back (c .before .before .before .before .before .before) .fits .levels .fits)
+
+  check-node-add-t35 : check-node-lts.Need-add-t35 (called t) (check-node-at t) check-node.Post
+  check-node-add-t35 c = omega (arith, low-front (front-at (c .before .before .before .before .before .before)) _ (c .before .before .before .before .before .before .before .before .before .before .front .given .1), from-back (c .before .before .before .before .before .before) .fits .levels .fits)
 
   check-node-same-length-5 : check-node-lts.Need-same-length-5 (called t) (check-node-at t) check-node.Post
   check-node-same-length-5 c = kept-back (c .before .before .before .before .before .before)
@@ -302,20 +332,22 @@ pub +check-child+check-node-spec : {M : Type 1} → statement M
     (check-node-returns-4 t)
     (check-node-same-length-2 t)
     (check-node-returns-5 t)
+    (check-node-on-requires t)
     (check-node-sub-check-child t)
     (check-node-check-child-requires t)
     (check-node-enum-known-front t)
     (check-node-enum-told t)
     (check-node-same-length-3 t)
     (check-node-returns-6 t)
+    (check-node-on-requires-2 t)
     (check-node-sub-check-child-2 t)
     (check-node-check-child-requires-2 t)
     (check-node-enum-known-back t)
     (check-node-enum-told-2 t)
     (check-node-same-length-4 t)
     (check-node-returns-7 t)
-    (check-node-add-t33 t)
     (check-node-add-t34 t)
+    (check-node-add-t35 t)
     (check-node-same-length-5 t)
     (check-node-returns-8 t)
     (check-node-same-length-6 t)

@@ -1,10 +1,15 @@
 -- `nodes_of_trace` meets its contract: first the trace for its answer and its length, then the trace that writes.
 -- Assumes nothing.
-use Prim.Native.Nat.{_^_, _<_}
+use Prim.Native.Nat.{ℕ, _^_, _<_}
+use mathlib.Core.List.{List}
 use native.Mathlib.Omega.{arith}
 use mathlib.Core.Path.{sym, ap, _∙_}
 use lib.ListN.{length}
 use lib.Seq.{length-take-le}
+use Rattle.phys.specs.declared.Trace.{Trace}
+use Rattle.walk.specs.Walk.{Outcome}
+use Rattle.walk.specs.Trace as Tracing
+use Rattle.hull.specs.Hull.{hullTable}
 use Rattle.hull.specs.Traces.{tracedAnswer}
 use Rattle.entered.proofs.Listing.{declined, too-short, filled}
 use Rattle.entered.proofs.Parts.{in-hull}
@@ -12,9 +17,16 @@ use borrow.Author.Needs.{needs}
 use Rattle.entered.proofs.traced.nodes_of_trace.Statement.{statement}
 use Rattle.entered.proofs.traced.nodes_of_trace.Tie as tie
 
+abbrev lent : tie.After-slice-known → List ℕ
+lent c = c .before .before .args .list .now
+
 -- a slice is shorter than 2^63
-short : (c : tie.After-slice-known) → length (c .before .before .args .list .now) < 2 ^ 63
+short : (c : tie.After-slice-known) → length (lent c) < 2 ^ 63
 short c = omega arith
+
+-- how the trace ends
+abbrev outcome : tie.After-slice-known → Outcome Trace
+outcome c = let a = c .before .before .args in Tracing.trace (hullTable (a .s .now) (a .map) (a .hull)) (a .hull .«node_id») (a .start) (a .end)
 
 trace-requires : tie.Need-trace-requires
 trace-requires c κs = search needs
@@ -26,7 +38,7 @@ enum-known-visits : tie.Need-enum-known-visits
 enum-known-visits c = search needs
 
 returns : tie.Need-returns
-returns c = too-short _ _ _ (short (c .before .before .before .before .before)) _ (sym (ap tracedAnswer (c .before .before .visits .given .1)) ∙ c .before .before .before .before .trace .ensures) (c .if1 .taken)
+returns c = let k = c .before .before .before .before .before in too-short (lent k) _ _ (short k) (outcome k) (sym (ap tracedAnswer (c .before .before .visits .given .1)) ∙ c .before .before .before .before .trace .ensures) (c .if1 .taken)
 
 tables-of-requires : tie.Need-tables-of-requires
 tables-of-requires c κs = search needs
@@ -41,13 +53,13 @@ write-onward-requires : tie.Need-write-onward-requires
 write-onward-requires c κs = search needs
 
 returns-2 : tie.Need-returns-2
-returns-2 c = declined _ _ _ (sym (ap tracedAnswer (c .before .e .given .1)) ∙ c .before .before .before .trace .ensures)
+returns-2 c = let k = c .before .before .before .before in declined (lent k) (outcome k) _ (sym (ap tracedAnswer (c .before .e .given .1)) ∙ c .before .before .before .trace .ensures)
 
 same-length : tie.Need-same-length
 same-length c = search needs
 
 returns-3 : tie.Need-returns-3
-returns-3 c = filled _ _ _ (short (c .before .before .before .before .before .before .before .before .before .before)) _ (sym (ap tracedAnswer (c .before .before .before .before .before .before .before .visits .given .1)) ∙ c .before .before .before .before .before .before .before .before .before .trace .ensures) (c .before .before .before .before .before .if1 .left) _ (in-hull _ _ _ _ _ _ (c .before .before .before .before .tables-of .ensures) _ _ _ _ _ (c .before .before .write-onward .ensures))
+returns-3 c = let k = c .before .before .before .before .before .before .before .before .before .before in filled (lent k) _ _ (short k) (outcome k) (sym (ap tracedAnswer (c .before .before .before .before .before .before .before .visits .given .1)) ∙ c .before .before .before .before .before .before .before .before .before .trace .ensures) (c .before .before .before .before .before .if1 .left) _ (in-hull _ _ _ _ _ _ (c .before .before .before .before .tables-of .ensures) _ _ _ _ _ (c .before .before .write-onward .ensures))
 
 pub nodes-of-trace-spec : {M : Type 1} → statement M
 nodes-of-trace-spec =

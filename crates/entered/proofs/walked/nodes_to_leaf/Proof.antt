@@ -1,9 +1,12 @@
 -- `nodes_to_leaf` meets its contract: first the walk for its answer and its length, then the walk that writes.
 -- Assumes nothing.
-use Prim.Native.Nat.{_^_, _<_}
+use Prim.Native.Nat.{ℕ, _^_, _<_}
+use mathlib.Core.List.{List}
 use native.Mathlib.Omega.{arith}
 use lib.ListN.{length}
 use mathlib.Core.Path.{sym, ap, _∙_}
+use Rattle.walk.specs.Walk.{Outcome, pointWalk}
+use Rattle.nodes.specs.Tables.{leafTable}
 use Rattle.hull.specs.Walks.{leafAnswer}
 use Rattle.entered.proofs.Listing.{declined}
 use Rattle.entered.proofs.Trails.{leaf-listed}
@@ -11,9 +14,16 @@ use borrow.Author.Needs.{needs}
 use Rattle.entered.proofs.walked.nodes_to_leaf.Statement.{statement}
 use Rattle.entered.proofs.walked.nodes_to_leaf.Tie as tie
 
+abbrev lent : tie.After-slice-known → List ℕ
+lent c = c .before .before .args .list .now
+
 -- a slice is shorter than 2^63
-short : (c : tie.After-slice-known) → length (c .before .before .args .list .now) < 2 ^ 63
+short : (c : tie.After-slice-known) → length (lent c) < 2 ^ 63
 short c = omega arith
+
+-- how the walk ends
+abbrev outcome : tie.After-slice-known → Outcome ℕ
+outcome c = let a = c .before .before .args in pointWalk (leafTable (a .s .now) (a .map)) (a .root) (a .point)
 
 find-leaf-from-requires : tie.Need-find-leaf-from-requires
 find-leaf-from-requires c κs = search needs
@@ -31,7 +41,7 @@ list-walk-requires : tie.Need-list-walk-requires
 list-walk-requires c κs = search needs
 
 returns : tie.Need-returns
-returns c = declined _ _ _ (sym (ap leafAnswer (c .before .e .given .1)) ∙ c .before .before .before .find-leaf-from .ensures)
+returns c = let k = c .before .before .before .before in declined (lent k) (outcome k) _ (sym (ap leafAnswer (c .before .e .given .1)) ∙ c .before .before .before .find-leaf-from .ensures)
 
 same-length : tie.Need-same-length
 same-length c = search needs

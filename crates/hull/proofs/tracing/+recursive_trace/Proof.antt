@@ -7,7 +7,6 @@ use mathlib.Core.Path.{_≡_, sym, ap, _∙_, subst}
 use mathlib.Core.Logic.{⊎-elim}
 use mathlib.Core.List.{List}
 use lib.Ieee.{Float}
-use Rattle.format.specs.Answer.{answer}
 use Rattle.math.specs.Plane as Pl
 use Rattle.math.specs.Plane.{axisX}
 use Rattle.math.specs.declared.Vector3.{Vector3}
@@ -30,7 +29,6 @@ use Rattle.hull.proofs.tracing.meet_on.Reads as meet-on-reads
 use Rattle.hull.proofs.tracing.out_of_leaf.Reads as out-of-leaf-reads
 use Rattle.hull.proofs.tracing.stops.Reads as stops-reads
 use Rattle.hull.proofs.tracing.within_leaf.Reads as within-leaf-reads
-use Rattle.math.proofs.Hyperplane.facing.Reads as facing-reads
 use Rattle.math.proofs.Hyperplane.point_side.Reads as point-side-reads
 use Rattle.math.proofs.Vector3.add.Reads as add-reads
 use Rattle.math.proofs.Vector3.scale.Reads as scale-reads
@@ -53,7 +51,7 @@ below t = and 1 kinds.ps (falls 1 kinds.ps _<_ μ t) self.Pre
 -- what each call asks and gives
 abbrev claims : ℕ → lts.Claims
 claims t =
-    (descend-reads.Asked, descend-reads.Learnt, within-leaf-reads.Asked, within-leaf-reads.Learnt, plane-at-reads.Asked, plane-at-reads.Learnt, sub-reads.Asked, sub-reads.Learnt, scale-reads.Asked, scale-reads.Learnt, add-reads.Asked, add-reads.Learnt, point-side-reads.Asked, point-side-reads.Learnt, is-front-reads.Asked, is-front-reads.Learnt, meet-on-reads.Asked, meet-on-reads.Learnt, below t, self.Post, facing-reads.Asked, facing-reads.Learnt, out-of-leaf-reads.Asked, out-of-leaf-reads.Learnt, stops-reads.Asked, stops-reads.Learnt, join-far-reads.Asked, join-far-reads.Learnt)
+    (descend-reads.Asked, descend-reads.Learnt, within-leaf-reads.Asked, within-leaf-reads.Learnt, plane-at-reads.Asked, plane-at-reads.Learnt, sub-reads.Asked, sub-reads.Learnt, scale-reads.Asked, scale-reads.Learnt, add-reads.Asked, add-reads.Learnt, point-side-reads.Asked, point-side-reads.Learnt, is-front-reads.Asked, is-front-reads.Learnt, meet-on-reads.Asked, meet-on-reads.Learnt, below t, self.Post, out-of-leaf-reads.Asked, out-of-leaf-reads.Learnt, stops-reads.Asked, stops-reads.Learnt, join-far-reads.Asked, join-far-reads.Learnt)
 
 module _ (t : ℕ) where
   -- ---- at a crossing: the call's arguments, the node's words, the distances, the calls left below, the visits
@@ -114,7 +112,7 @@ module _ (t : ℕ) where
       ⊎-elim
       (λ z. ap tracedAnswer (z .4) ∙ near-node _ _ _ _ _ _ _ (k (c .before .before .before .before .before .before .before .before .before .before .before .before .before)) (h (c .before)) _ (mid-is (c .before)) _ (small-n (c .before .before .before .before .before .before .before .before .before .before .before .before)) _ _ (c .before .before .is-front .ensures) _ (c .before .meet-on .ensures) (c .before .before .before .point-side .ensures) _ (z .1 .given .1) (z .3 .result) (z .3 .ensures))
       (⊎-elim
-      (λ z. ap tracedAnswer (z .5) ∙ near-leaf _ _ _ _ _ _ _ (k (c .before .before .before .before .before .before .before .before .before .before .before .before .before)) (h (c .before)) _ (mid-is (c .before)) _ (small-n (c .before .before .before .before .before .before .before .before .before .before .before .before)) _ _ (c .before .before .is-front .ensures) _ (c .before .meet-on .ensures) (c .before .before .before .point-side .ensures) _ (z .1 .given .1) _ (z .3 .ensures) _ (z .4 .ensures))
+      (λ z. ap tracedAnswer (z .4) ∙ near-leaf _ _ _ _ _ _ _ (k (c .before .before .before .before .before .before .before .before .before .before .before .before .before)) (h (c .before)) _ (mid-is (c .before)) _ (small-n (c .before .before .before .before .before .before .before .before .before .before .before .before)) _ _ (c .before .before .is-front .ensures) _ (c .before .meet-on .ensures) (c .before .before .before .point-side .ensures) _ (z .1 .given .1) (z .3 .result) (z .3 .ensures))
       (λ z. ap tracedAnswer (z .3) ∙ near-none _ _ _ _ _ _ _ (k (c .before .before .before .before .before .before .before .before .before .before .before .before .before)) (h (c .before)) _ (mid-is (c .before)) _ (small-n (c .before .before .before .before .before .before .before .before .before .before .before .before)) _ _ (c .before .before .is-front .ensures) _ (c .before .meet-on .ensures) (c .before .before .before .point-side .ensures) _ (z .1 .given .1)))
       (c .match3 .came)
 
@@ -124,7 +122,7 @@ module _ (t : ℕ) where
       ⊎-elim
       (λ z. ap tracedAnswer (z .4) ∙ far-node _ _ _ _ _ _ _ (k (c .before .before .before .before .before .before .before .before .before .before .before .before .before .before .before .before .before .before .before .before .before .before)) (h (c .before .before .before .before .before .before .before .before .before .before)) _ (mid-is (c .before .before .before .before .before .before .before .before .before .before)) _ (small-near (c .before .before .before .before .before .before)) _ _ (c .before .before .is-front2 .ensures) _ (c .before .meet-on2 .ensures) (c .before .before .before .point-side2 .ensures) _ (z .1 .given .1) (z .3 .result) (z .3 .ensures))
       (⊎-elim
-      (λ z. ap tracedAnswer (z .4) ∙ far-leaf _ _ _ _ _ _ _ (k (c .before .before .before .before .before .before .before .before .before .before .before .before .before .before .before .before .before .before .before .before .before .before)) (h (c .before .before .before .before .before .before .before .before .before .before)) _ (mid-is (c .before .before .before .before .before .before .before .before .before .before)) _ (small-near (c .before .before .before .before .before .before)) _ _ (c .before .before .is-front2 .ensures) _ (c .before .meet-on2 .ensures) (c .before .before .before .point-side2 .ensures) _ (z .1 .given .1) _ (z .3 .ensures))
+      (λ z. ap tracedAnswer (z .4) ∙ far-leaf _ _ _ _ _ _ _ (k (c .before .before .before .before .before .before .before .before .before .before .before .before .before .before .before .before .before .before .before .before .before .before)) (h (c .before .before .before .before .before .before .before .before .before .before)) _ (mid-is (c .before .before .before .before .before .before .before .before .before .before)) _ (small-near (c .before .before .before .before .before .before)) _ _ (c .before .before .is-front2 .ensures) _ (c .before .meet-on2 .ensures) (c .before .before .before .point-side2 .ensures) _ (z .1 .given .1) (z .3 .result) (z .3 .ensures))
       (λ z. ap tracedAnswer (z .3) ∙ far-none _ _ _ _ _ _ _ (k (c .before .before .before .before .before .before .before .before .before .before .before .before .before .before .before .before .before .before .before .before .before .before)) (h (c .before .before .before .before .before .before .before .before .before .before)) _ (mid-is (c .before .before .before .before .before .before .before .before .before .before)) _ (small-near (c .before .before .before .before .before .before)) _ _ (c .before .before .is-front2 .ensures) _ (c .before .meet-on2 .ensures) (c .before .before .before .point-side2 .ensures) _ (z .1 .given .1)))
       (c .match5 .came)
 
@@ -182,9 +180,6 @@ module _ (t : ℕ) where
   enum-known-c-2 : lts.Need-enum-known-c-2 (claims t) (at t) self.Post
   enum-known-c-2 c = search needs
 
-  facing-requires : lts.Need-facing-requires (claims t) (at t) self.Post
-  facing-requires c κs = search needs
-
   out-of-leaf-requires : lts.Need-out-of-leaf-requires (claims t) (at t) self.Post
   out-of-leaf-requires c κs = search needs
 
@@ -237,7 +232,7 @@ module _ (t : ℕ) where
   returns-3 c = sym (ap (resumed _ _ _ _) (c .before .e .given .1)) ∙ c .before .before .before .descend .ensures .says
 
   returns-4 : lts.Need-returns-4 (claims t) (at t) self.Post
-  returns-4 c = ap (λ y. answer (y, c .before .before .c .given .0 .1 .0)) (c .within-leaf .ensures) ∙ sym (ap (resumed _ _ _ _) (c .before .before .c .given .1)) ∙ c .before .before .before .before .descend .ensures .says
+  returns-4 c = ap tracedAnswer (c .within-leaf .ensures) ∙ sym (ap (resumed _ _ _ _) (c .before .before .c .given .1)) ∙ c .before .before .before .before .descend .ensures .says
 
   returns-5 : lts.Need-returns-5 (claims t) (at t) self.Post
   returns-5 c = no-plane _ _ _ _ _ _ _ _ (axisX (a (c .before .before .before .before .before .before))) _ _ _ (c .before .before .before .before .before .before .before .before .descend .ensures .says) (c .before .before .before .before .before .before .w .given .1) _ (c .before .before .before .plane-at .ensures) _ (c .before .e2 .given .1)
@@ -267,7 +262,6 @@ pub +recursive-trace-spec : {M : Type 1} → statement M
     (enum-known-i t)
     (recursive-trace-requires t)
     (enum-known-c-2 t)
-    (facing-requires t)
     (out-of-leaf-requires t)
     (enum-known-e-3 t)
     (enum-known-near t)

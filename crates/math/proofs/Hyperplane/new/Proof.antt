@@ -19,6 +19,13 @@ not-x c = tested _ (c .before .before .unit-x .ensures) (c .before .equals .ensu
 not-y : (c : tie.Else2) → Vec.same (c .before .before .before .before .before .before .args .normal) Vec.unitY ≡ false
 not-y c = tested _ (c .before .before .unit-y .ensures) (c .before .equals2 .ensures) (c .if2 .left)
 
+-- no test holds: the normal is normalised twice
+slanted : (c : tie.Else3) → let a = c .before .before .before .before .before .before .before .before .before .args in Pl.newPlane (a .normal) (a .dist) ≡ Pl.fromNormal (Vec.normalize (a .normal)) (a .dist)
+slanted c =
+    let d = c .before in
+    let e = d .before .before in
+    new-slanted _ _ (not-x (e .before .before .before)) (not-y e) (tested _ (d .before .unit-z .ensures) (d .equals3 .ensures) (c .if3 .left))
+
 unit-x-requires : tie.Need-unit-x-requires
 unit-x-requires c κs = search needs
 
@@ -62,19 +69,24 @@ returns-3 c =
     let e = d .before .before in
     c .axis-z .ensures ∙ sym (new-z _ _ (not-x (e .before .before .before)) (not-y e) (tested _ (d .before .unit-z .ensures) (d .equals3 .ensures) (c .before .if3 .taken)))
 
+is-unit-requires : tie.Need-is-unit-requires
+is-unit-requires c κs = search needs
+
+returns-4 : tie.Need-returns-4
+returns-4 c = sym (slanted (c .before .before) ∙ simp (c .before .is-unit .ensures (c .if4 .taken)))
+
 normalize-requires : tie.Need-normalize-requires
 normalize-requires c κs = search needs
 
 from-normal-requires : tie.Need-from-normal-requires
 from-normal-requires c κs = search needs
 
-returns-4 : tie.Need-returns-4
-returns-4 c =
-    let d = c .before .before .before in
-    let e = d .before .before in
+returns-5 : tie.Need-returns-5
+returns-5 c =
+    let e = c .before .before .before .before in
     c .from-normal .ensures
-    ∙ ap (λ (n : Vector3). Pl.fromNormal n (e .before .before .before .before .before .before .args .dist)) (c .before .normalize .ensures)
-    ∙ sym (new-slanted _ _ (not-x (e .before .before .before)) (not-y e) (tested _ (d .before .unit-z .ensures) (d .equals3 .ensures) (c .before .before .if3 .left)))
+    ∙ ap (λ (n : Vector3). Pl.fromNormal n (e .before .before .before .before .before .before .before .before .before .args .dist)) (c .before .normalize .ensures)
+    ∙ sym (slanted e)
 
 pub new-spec : {M : Type 1} → statement M
 new-spec =
@@ -92,6 +104,8 @@ new-spec =
     equals-requires-3
     axis-z-requires
     returns-3
+    is-unit-requires
+    returns-4
     normalize-requires
     from-normal-requires
-    returns-4)
+    returns-5)

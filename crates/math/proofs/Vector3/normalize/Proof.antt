@@ -1,25 +1,13 @@
 -- `math::Vector3::normalize` meets its contract: where the square is next to 1 by the laws of `NearOne`, else by its definition. Assumes nothing.
 use borrow.Author.Needs.{needs}
-use mathlib.Core.Path.{_≡_, sym, ap, _∙_, subst}
-use Prim.Native.Nat.{ℕ, _≤_, _<_}
-use lib.Dec.{T}
-use lib.Ieee.{Float, binary32, div, toBits}
+use mathlib.Core.Path.{sym, ap, _∙_}
+use lib.Ieee.{Float, binary32, div}
 use Rattle.float.specs.Root.{sqrt}
-use Rattle.math.specs.Vector.{one32, scaled, dot, normalize}
-use Rattle.math.proofs.Fits.{Fits3}
+use Rattle.math.specs.Vector.{one32, scaled, normalize}
+use Rattle.math.proofs.Fits.{told-fits}
 use Rattle.math.proofs.NearOne.{normalize-below, normalize-at, normalize-above}
 use Rattle.math.proofs.Vector3.normalize.Statement.{statement}
 use Rattle.math.proofs.Vector3.normalize.Tie as tie
-
--- the coordinates are f32
-self-fits : (c : tie.Start) → Fits3 (c .args .self)
-self-fits c =
-    let g = c .good .0 .1 .1 in
-    record { x-fits = subst T (sym (g .0 .1)) tt; y-fits = subst T (sym (g .1 .0 .1)) tt; z-fits = subst T (sym (g .1 .1 .0 .1)) tt }
-
--- the bits are those of the square
-bits-of : (c : tie.After-to-bits) → c .to-bits .result ≡ toBits binary32 (dot (c .before .before .args .self) (c .before .before .args .self))
-bits-of c = c .to-bits .ensures ∙ ap (toBits binary32) (c .before .dot .ensures)
 
 dot-requires : tie.Need-dot-requires
 dot-requires c κs = search needs
@@ -33,12 +21,12 @@ scale-requires c κs = search needs
 returns : tie.Need-returns
 returns c =
     let b = c .before .before .before in
-    c .scale .ensures ∙ sym (normalize-below (b .before .before .args .self) (subst (λ (n : ℕ). 0x3f7f_fffc ≤ n) (bits-of b) (c .before .before .if1 .taken)) (subst (λ (n : ℕ). n < 0x3f80_0000) (bits-of b) (c .before .if2 .taken)))
+    c .scale .ensures ∙ sym (normalize-below (b .before .before .args .self) (b .before .dot .ensures) (b .to-bits .ensures) (c .before .before .if1 .taken) (c .before .if2 .taken))
 
 returns-2 : tie.Need-returns-2
 returns-2 c =
     let b = c .before .before .before in
-    sym (normalize-at (b .before .before .args .self) (self-fits (b .before .before)) (subst (λ (n : ℕ). 0x3f80_0000 ≤ n) (bits-of b) (c .before .if2 .left)) (subst (λ (n : ℕ). n < 0x3f80_0002) (bits-of b) (c .if3 .taken)))
+    sym (normalize-at (b .before .before .args .self) (b .before .dot .ensures) (b .to-bits .ensures) (told-fits (b .before .before .good .0 .1 .1)) (c .before .if2 .left) (c .if3 .taken))
 
 scale-requires-2 : tie.Need-scale-requires-2
 scale-requires-2 c κs = search needs
@@ -46,7 +34,7 @@ scale-requires-2 c κs = search needs
 returns-3 : tie.Need-returns-3
 returns-3 c =
     let b = c .before .before .before .before .before in
-    c .scale2 .ensures ∙ sym (normalize-above (b .before .before .args .self) (subst (λ (n : ℕ). 0x3f80_0002 ≤ n) (bits-of b) (c .before .before .if3 .left)) (subst (λ (n : ℕ). n < 0x3f80_0004) (bits-of b) (c .before .if4 .taken)))
+    c .scale2 .ensures ∙ sym (normalize-above (b .before .before .args .self) (b .before .dot .ensures) (b .to-bits .ensures) (c .before .before .if3 .left) (c .before .if4 .taken))
 
 sqrt-requires : tie.Need-sqrt-requires
 sqrt-requires c κs = search needs

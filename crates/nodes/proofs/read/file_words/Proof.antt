@@ -1,6 +1,8 @@
 -- `file_words` meets its contract: the index (20), the node's place (23) and its record.
 -- Assumes nothing.
 use Rattle.nodes.proofs.Places.{within}
+use Rattle.nodes.proofs.Sections.{within-itself, at-start}
+use Rattle.nodes.specs.Fast.{renderNodeHere, clipNodeHere}
 use Rattle.nodes.proofs.Readers.{no-node, render-at, render-not, clip-at, clip-not}
 use borrow.Author.Needs.{needs}
 use Rattle.nodes.proofs.read.file_words.Statement.{statement}
@@ -25,7 +27,7 @@ enum-known-e : tie.Need-enum-known-e
 enum-known-e c = search needs
 
 returns-2 : tie.Need-returns-2
-returns-2 c = render-at _ _ _ _ (c .before .before .before .before .before .if2 .taken) _ (c .before .before .before .before .place .ensures) (c .render-words .result) _ (c .before .before .at .given .1) (c .render-words .ensures)
+returns-2 c = render-at _ _ _ _ (c .before .before .before .before .before .if2 .taken) _ (c .before .before .before .before .place .ensures) (c .render-words .result) _ (c .before .before .at .given .1) (at-start renderNodeHere _ _ _ (c .render-words .ensures _ 0 (within-itself _)))
 
 returns-3 : tie.Need-returns-3
 returns-3 c = render-not _ _ _ _ (c .before .before .before .before .if2 .taken) _ (c .before .before .before .place .ensures) _ (c .before .e .given .1)
@@ -43,7 +45,7 @@ enum-known-e-2 : tie.Need-enum-known-e-2
 enum-known-e-2 c = search needs
 
 returns-4 : tie.Need-returns-4
-returns-4 c = clip-at _ _ _ _ (c .before .before .before .before .before .if2 .left) _ (c .before .before .before .before .place2 .ensures) (c .clip-words .result) _ (c .before .before .at2 .given .1) (c .clip-words .ensures)
+returns-4 c = clip-at _ _ _ _ (c .before .before .before .before .before .if2 .left) _ (c .before .before .before .before .place2 .ensures) (c .clip-words .result) _ (c .before .before .at2 .given .1) (at-start clipNodeHere _ _ _ (c .clip-words .ensures _ 0 (within-itself _)))
 
 returns-5 : tie.Need-returns-5
 returns-5 c = clip-not _ _ _ _ (c .before .before .before .before .if2 .left) _ (c .before .before .before .place2 .ensures) _ (c .before .e2 .given .1)

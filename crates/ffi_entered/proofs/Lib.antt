@@ -1,2 +1,0 @@
--- Laws for the calls that list nodes.
-mod Asking
