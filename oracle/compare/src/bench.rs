@@ -1,10 +1,10 @@
 //! The time of each call beside the published Rust, in one run over the same generated maps.
 //!
 //! Each slice runs both sides over the same inputs, one after the other; the least time of many
-//! slices counts. Both sides take a point or a segment as a value that the compiler knows nothing
-//! of; a slice handed through `black_box` would be stored as two words and read back as one, which
-//! stalls the processor on one side only. Build without the feature `notes`: the marked lines take
-//! time.
+//! slices counts. Both sides take a point or a segment that the compiler knows nothing of as a
+//! value: a pointer with its length handed through `black_box` would be stored as two words and read
+//! back as one, which stalls the processor on one side only. Build without the feature `notes`: the
+//! marked lines take time.
 
 use std::hint::black_box;
 use std::time::Instant;
