@@ -1,4 +1,5 @@
--- What the walk to an end says: the contract of `walk_to_end` cites `ends` and `endAnswer`, and private contracts the rest.
+-- The walk of a point to an end (`walk_to_end`), and what a trace sees at a node (`segment_from`): both make something of a node and its
+-- plane. Then the bytes of the nodes and the planes, where the file has all of them (`are_whole`, `node_bytes`, `plane_bytes`).
 use Prim.Native.Nat.{ℕ, _+_, _*_, _/_}
 use mathlib.Core.Path.{_≡_}
 use mathlib.Core.Bool.{Bool, true, false, cond}
@@ -41,13 +42,13 @@ abbrev pub endAnswer : HullTable → WalkEnd → Answer (End × ℕ)
 endAnswer t (W.Word w v) = answer (endOf t w, v)
 endAnswer t (W.Refused e) = refused (numberOf e)
 
--- ---- for private contracts: what is made of a node and its plane, as they are entered
+-- ---- what is made of a node and its plane, as they are entered
 
 -- of the node i of a table
 abbrev pub madeFrom : {X : Type 0} → (Entered End → X) → List ℕ → Tables → ℕ → Answer X
 madeFrom make s t i = mapped make (enter (table s t) i)
 
--- of a node, with so many planes from the place b on
+-- for private contracts: of a node, with so many planes from the place b on
 abbrev pub madeWith : {X : Type 0} → (Entered End → X) → List ℕ → ℕ → ℕ → Node End → Answer X
 madeWith make s b count nd =
     cond (ltb (nd .plane) count) (answer (make (record { nd = nd; plane = planeHere s (b + nd .plane * 20) }))) (refused 30)
@@ -77,11 +78,11 @@ abbrev pub segmentAnswer : HullTable → SegmentAt → Answer (Node End × (Floa
 segmentAnswer t (G.Dists w a b) = answer (nodeOf t w, (a, b))
 segmentAnswer t (G.Refused e) = refused (numberOf e)
 
--- a point's coordinates by axis
+-- for private contracts: a point's coordinates by axis
 abbrev pub coordinates : Vector3 → List Float
 coordinates p = p .x ∷ p .y ∷ p .z ∷ []
 
--- the child's word on a side
+-- and the child's word on a side
 abbrev pub wordAt : Words → HyperplaneSide → ℕ
 wordAt w Positive = wordOn w true
 wordAt w Negative = wordOn w false
@@ -92,6 +93,7 @@ wordAt w Negative = wordOn w false
 unfoldable pub isWhole : Part → ℕ → ℕ → Bool
 isWhole p size n = cond (ltb (p .readable) (p .count)) false (leb (p .at + p .count * size) n)
 
+-- all nodes and all planes are; a box has none in the file
 unfoldable pub areWhole : Tables → ℕ → Bool
 areWhole t n =
     cond (isBox (t .table)) false

@@ -104,7 +104,7 @@ fn box_words(index: usize) -> ReadWords
 }
 
 // The words of a node of the file: a render node or a clip node.
-pub fn file_words(s: &[u8], nodes: Part, render: bool, index: usize) -> ReadWords
+fn file_words(s: &[u8], nodes: Part, render: bool, index: usize) -> ReadWords
     ensures { λ r. ⌜ Fast.wordsAnswer (Fast.fileTable render) r ≡ Fast.nodeIn (Fast.fileTable render) (now (s .entry)) nodes index ⌝ }
 {
     if (nodes.count as usize) <= index {
