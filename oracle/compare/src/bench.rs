@@ -18,9 +18,9 @@ use crate::calls;
 use crate::calls_stub::TRACE_WORDS;
 use crate::words;
 
-/// Points and segments asked a slice: as many that no processor learns them by heart. With a
-/// thousand, asked over and over, the branch predictor learns the points themselves, and the Rust's
-/// times move by a quarter with what runs between.
+/// Points and segments asked a slice: more than a processor's branch prediction remembers. With a
+/// thousand, asked over and over, it predicts the sides of the planes for the points themselves, and
+/// the Rust's times move by a quarter with what runs between.
 const INPUTS: usize = 50_000;
 
 /// Leaves asked for their lists a slice.
