@@ -12,3 +12,4 @@ pub mod Entering
 mod Making
 mod Stepping
 pub mod Equal
+mod Handed

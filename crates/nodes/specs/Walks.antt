@@ -3,7 +3,7 @@
 use Prim.Native.Nat.{ℕ, _+_, _*_, _/_}
 use mathlib.Core.Path.{_≡_}
 use mathlib.Core.Bool.{Bool, true, false, cond}
-use mathlib.Core.List.{List, [], _∷_}
+use mathlib.Core.List.{List, [], _∷_, _++_}
 use lib.Dec.{ltb, leb}
 use lib.Ieee.{Float}
 use lib.ListN.{length, take, drop}
@@ -118,3 +118,15 @@ pub record Read (s : List ℕ) (t : Tables) (nodes planes : List ℕ) (whole : B
   pub told : whole ≡ areWhole t (length s)
   pub its-nodes : nodes ≡ nodeBytes whole s t
   pub its-planes : planes ≡ planeBytes whole s t
+
+-- ---- what a trace sees at a node, by whatever bytes it is handed
+
+-- of the node i in the bytes n of nodes and m of planes, as in a file that is these bytes, one after the other
+abbrev pub madeOf : {X : Type 0} → (Entered End → X) → Bool → List ℕ → List ℕ → ℕ → Answer X
+madeOf make render n m i =
+    cond (ltb i (length n / nodeSize render)) (madeAt make render (n ++ m) (i * nodeSize render) (length n) (length m / 20)) (refused 20)
+
+-- `segment_from`: by these bytes, or record by record
+unfoldable pub segmentFrom : List ℕ → Tables → List ℕ → List ℕ → Bool → ℕ → Vector3 → Vector3 → Answer (Node End × (Float × Float))
+segmentFrom s t n m whole i p q =
+    cond whole (madeOf (nodeAndDists p q) (isRender (t .table)) n m i) (madeFrom (nodeAndDists p q) s t i)

@@ -251,7 +251,7 @@ pub fn segment_from(
     p: Vector3,
     q: Vector3,
 ) -> SegmentAt
-    ensures { λ r. ⌜ (Walks.Read (now (s .entry)) t (now (nodes .entry)) (now (planes .entry)) whole → Walks.segmentAnswer (t .table) r ≡ Walks.madeFrom (Walks.nodeAndDists p q) (now (s .entry)) t index) ⌝ }
+    ensures { λ r. ⌜ (Walks.segmentAnswer (t .table) r ≡ Walks.segmentFrom (now (s .entry)) t (now (nodes .entry)) (now (planes .entry)) whole index p q) × (Walks.Read (now (s .entry)) t (now (nodes .entry)) (now (planes .entry)) whole → Walks.segmentAnswer (t .table) r ≡ Walks.madeFrom (Walks.nodeAndDists p q) (now (s .entry)) t index) ⌝ }
 {
     if whole {
         let table = t.table;

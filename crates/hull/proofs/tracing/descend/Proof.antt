@@ -50,7 +50,7 @@ enum-known-e : tie.Need-enum-known-e Inv-loop μ-loop
 enum-known-e c = search needs
 
 returns-3 : tie.Need-returns-3 Inv-loop μ-loop
-returns-3 c = record { says = unread _ _ _ _ _ _ _ (c .before .before .before .before .if2 .left) (c .before .before .before .before .before .if1 .left) (c .before .before .before .segment-from .result) (c .before .before .before .segment-from .ensures (record { told = c .before .before .before .before .before .before .before .before .before .before .are-whole .ensures; its-nodes = c .before .before .before .before .before .before .before .before .before .node-bytes .ensures; its-planes = c .before .before .before .before .before .before .before .before .plane-bytes .ensures })) _ (c .before .e .given .1) ∙ c .before .before .before .before .before .before .before .loop .inv .1; falls = search needs }
+returns-3 c = record { says = unread _ _ _ _ _ _ _ (c .before .before .before .before .if2 .left) (c .before .before .before .before .before .if1 .left) (c .before .before .before .segment-from .result) (c .before .before .before .segment-from .ensures .1 (record { told = c .before .before .before .before .before .before .before .before .before .before .are-whole .ensures; its-nodes = c .before .before .before .before .before .before .before .before .before .node-bytes .ensures; its-planes = c .before .before .before .before .before .before .before .before .plane-bytes .ensures })) _ (c .before .e .given .1) ∙ c .before .before .before .before .before .before .before .loop .inv .1; falls = search needs }
 
 enum-known-w : tie.Need-enum-known-w Inv-loop μ-loop
 enum-known-w c = search needs
@@ -62,7 +62,7 @@ sub-left : tie.Need-sub-left Inv-loop μ-loop
 sub-left c = omega (arith, c .before .before .before .before .before .if2 .left)
 
 returns-4 : tie.Need-returns-4 Inv-loop μ-loop
-returns-4 c = record { says = crosses _ _ _ _ _ _ _ (c .before .before .before .before .before .before .if2 .left) (c .before .before .before .before .before .before .before .if1 .left) (c .before .before .before .before .before .segment-from .result) (c .before .before .before .before .before .segment-from .ensures (record { told = c .before .before .before .before .before .before .before .before .before .before .before .before .are-whole .ensures; its-nodes = c .before .before .before .before .before .before .before .before .before .before .before .node-bytes .ensures; its-planes = c .before .before .before .before .before .before .before .before .before .before .plane-bytes .ensures })) _ _ _ (c .before .before .before .w .given .1) (c .if3 .taken) _ (c .before .one-more .ensures) ∙ c .before .before .before .before .before .before .before .before .before .loop .inv .1; falls = omega (arith, c .before .before .before .before .before .before .if2 .left, c .before .before .before .before .before .before .before .before .before .loop .inv .0) }
+returns-4 c = record { says = crosses _ _ _ _ _ _ _ (c .before .before .before .before .before .before .if2 .left) (c .before .before .before .before .before .before .before .if1 .left) (c .before .before .before .before .before .segment-from .result) (c .before .before .before .before .before .segment-from .ensures .1 (record { told = c .before .before .before .before .before .before .before .before .before .before .before .before .are-whole .ensures; its-nodes = c .before .before .before .before .before .before .before .before .before .before .before .node-bytes .ensures; its-planes = c .before .before .before .before .before .before .before .before .before .before .plane-bytes .ensures })) _ _ _ (c .before .before .before .w .given .1) (c .if3 .taken) _ (c .before .one-more .ensures) ∙ c .before .before .before .before .before .before .before .before .before .loop .inv .1; falls = omega (arith, c .before .before .before .before .before .before .if2 .left, c .before .before .before .before .before .before .before .before .before .loop .inv .0) }
 
 on-requires : tie.Need-on-requires Inv-loop μ-loop
 on-requires c κs = search needs
@@ -77,10 +77,10 @@ enum-known-e-2 : tie.Need-enum-known-e-2 Inv-loop μ-loop
 enum-known-e-2 c = search needs
 
 returns-5 : tie.Need-returns-5 Inv-loop μ-loop
-returns-5 c = record { says = in-leaf _ _ _ _ _ _ _ (c .before .before .before .before .before .before .before .before .before .before .before .before .if2 .left) (c .before .before .before .before .before .before .before .before .before .before .before .before .before .if1 .left) (c .before .before .before .before .before .before .before .before .before .before .before .segment-from .result) (c .before .before .before .before .before .before .before .before .before .before .before .segment-from .ensures (record { told = c .before .before .before .before .before .before .before .before .before .before .before .before .before .before .before .before .before .before .are-whole .ensures; its-nodes = c .before .before .before .before .before .before .before .before .before .before .before .before .before .before .before .before .before .node-bytes .ensures; its-planes = c .before .before .before .before .before .before .before .before .before .before .before .before .before .before .before .before .plane-bytes .ensures })) _ _ _ (c .before .before .before .before .before .before .before .before .before .w .given .1) (c .before .before .before .before .before .before .if3 .left) (M.Contents _) (meets-end _ _ _ _ _ (c .before .before .before .before .before .on .ensures) (c .before .before .before .before .if4 .taken) _ _ (c .before .before .before .end-contents .ensures) (c .before .c .given .1)) _ (c .before .before .before .before .before .before .before .one-more .ensures) _ refl ∙ c .before .before .before .before .before .before .before .before .before .before .before .before .before .before .before .loop .inv .1; falls = search needs }
+returns-5 c = record { says = in-leaf _ _ _ _ _ _ _ (c .before .before .before .before .before .before .before .before .before .before .before .before .if2 .left) (c .before .before .before .before .before .before .before .before .before .before .before .before .before .if1 .left) (c .before .before .before .before .before .before .before .before .before .before .before .segment-from .result) (c .before .before .before .before .before .before .before .before .before .before .before .segment-from .ensures .1 (record { told = c .before .before .before .before .before .before .before .before .before .before .before .before .before .before .before .before .before .before .are-whole .ensures; its-nodes = c .before .before .before .before .before .before .before .before .before .before .before .before .before .before .before .before .before .node-bytes .ensures; its-planes = c .before .before .before .before .before .before .before .before .before .before .before .before .before .before .before .before .plane-bytes .ensures })) _ _ _ (c .before .before .before .before .before .before .before .before .before .w .given .1) (c .before .before .before .before .before .before .if3 .left) (M.Contents _) (meets-end _ _ _ _ _ (c .before .before .before .before .before .on .ensures) (c .before .before .before .before .if4 .taken) _ _ (c .before .before .before .end-contents .ensures) (c .before .c .given .1)) _ (c .before .before .before .before .before .before .before .one-more .ensures) _ refl ∙ c .before .before .before .before .before .before .before .before .before .before .before .before .before .before .before .loop .inv .1; falls = search needs }
 
 returns-6 : tie.Need-returns-6 Inv-loop μ-loop
-returns-6 c = record { says = no-leaf _ _ _ _ _ _ _ (c .before .before .before .before .before .before .before .before .before .before .before .before .if2 .left) (c .before .before .before .before .before .before .before .before .before .before .before .before .before .if1 .left) (c .before .before .before .before .before .before .before .before .before .before .before .segment-from .result) (c .before .before .before .before .before .before .before .before .before .before .before .segment-from .ensures (record { told = c .before .before .before .before .before .before .before .before .before .before .before .before .before .before .before .before .before .before .are-whole .ensures; its-nodes = c .before .before .before .before .before .before .before .before .before .before .before .before .before .before .before .before .before .node-bytes .ensures; its-planes = c .before .before .before .before .before .before .before .before .before .before .before .before .before .before .before .before .plane-bytes .ensures })) _ _ _ (c .before .before .before .before .before .before .before .before .before .w .given .1) (c .before .before .before .before .before .before .if3 .left) (M.Refused (c .before .e2 .given .0 .0)) (meets-end _ _ _ _ _ (c .before .before .before .before .before .on .ensures) (c .before .before .before .before .if4 .taken) _ _ (c .before .before .before .end-contents .ensures) (c .before .e2 .given .1)) _ (c .before .before .before .before .before .before .before .one-more .ensures) _ refl ∙ c .before .before .before .before .before .before .before .before .before .before .before .before .before .before .before .loop .inv .1; falls = search needs }
+returns-6 c = record { says = no-leaf _ _ _ _ _ _ _ (c .before .before .before .before .before .before .before .before .before .before .before .before .if2 .left) (c .before .before .before .before .before .before .before .before .before .before .before .before .before .if1 .left) (c .before .before .before .before .before .before .before .before .before .before .before .segment-from .result) (c .before .before .before .before .before .before .before .before .before .before .before .segment-from .ensures .1 (record { told = c .before .before .before .before .before .before .before .before .before .before .before .before .before .before .before .before .before .before .are-whole .ensures; its-nodes = c .before .before .before .before .before .before .before .before .before .before .before .before .before .before .before .before .before .node-bytes .ensures; its-planes = c .before .before .before .before .before .before .before .before .before .before .before .before .before .before .before .before .plane-bytes .ensures })) _ _ _ (c .before .before .before .before .before .before .before .before .before .w .given .1) (c .before .before .before .before .before .before .if3 .left) (M.Refused (c .before .e2 .given .0 .0)) (meets-end _ _ _ _ _ (c .before .before .before .before .before .on .ensures) (c .before .before .before .before .if4 .taken) _ _ (c .before .before .before .end-contents .ensures) (c .before .e2 .given .1)) _ (c .before .before .before .before .before .before .before .one-more .ensures) _ refl ∙ c .before .before .before .before .before .before .before .before .before .before .before .before .before .before .before .loop .inv .1; falls = search needs }
 
 cast-node : tie.Need-cast-node Inv-loop μ-loop
 cast-node c = search needs
@@ -89,7 +89,7 @@ loop-less : tie.Need-loop-less Inv-loop μ-loop
 loop-less c = omega (arith, c .before .before .before .before .before .before .before .before .if2 .left)
 
 loop-again : tie.Need-loop-again Inv-loop μ-loop
-loop-again c = (omega (arith, c .before .before .before .before .before .before .before .before .before .before .before .loop .inv .0), sym (to-node _ _ _ _ _ _ _ (c .before .before .before .before .before .before .before .before .if2 .left) (c .before .before .before .before .before .before .before .before .before .if1 .left) (c .before .before .before .before .before .before .before .segment-from .result) (c .before .before .before .before .before .before .before .segment-from .ensures (record { told = c .before .before .before .before .before .before .before .before .before .before .before .before .before .before .are-whole .ensures; its-nodes = c .before .before .before .before .before .before .before .before .before .before .before .before .before .node-bytes .ensures; its-planes = c .before .before .before .before .before .before .before .before .before .before .before .before .plane-bytes .ensures })) _ _ _ (c .before .before .before .before .before .w .given .1) (c .before .before .if3 .left) (M.Node _) (meets-node _ _ _ _ _ (c .before .on .ensures) (c .if4 .left)) _ (c .before .before .before .one-more .ensures) _ refl) ∙ c .before .before .before .before .before .before .before .before .before .before .before .loop .inv .1)
+loop-again c = (omega (arith, c .before .before .before .before .before .before .before .before .before .before .before .loop .inv .0), sym (to-node _ _ _ _ _ _ _ (c .before .before .before .before .before .before .before .before .if2 .left) (c .before .before .before .before .before .before .before .before .before .if1 .left) (c .before .before .before .before .before .before .before .segment-from .result) (c .before .before .before .before .before .before .before .segment-from .ensures .1 (record { told = c .before .before .before .before .before .before .before .before .before .before .before .before .before .before .are-whole .ensures; its-nodes = c .before .before .before .before .before .before .before .before .before .before .before .before .before .node-bytes .ensures; its-planes = c .before .before .before .before .before .before .before .before .before .before .before .before .plane-bytes .ensures })) _ _ _ (c .before .before .before .before .before .w .given .1) (c .before .before .if3 .left) (M.Node _) (meets-node _ _ _ _ _ (c .before .on .ensures) (c .if4 .left)) _ (c .before .before .before .one-more .ensures) _ refl) ∙ c .before .before .before .before .before .before .before .before .before .before .before .loop .inv .1)
 
 pub descend-spec : {M : Type 1} → statement M
 descend-spec =
