@@ -3,6 +3,7 @@ ghost use mathlib.Core.Path.{_≡_};
 ghost use Prim.Native.Nat.{_≤_};
 ghost use lib.ListN.{length, replicate};
 ghost use Rattle.walk.specs.TreeCheck as Walk;
+ghost use Rattle.walk.specs.Order as Order;
 ghost use Rattle.nodes.specs.Tables.{leafIn, nodesOf};
 ghost use Rattle.nodes.specs.Fast as Fast;
 ghost use Rattle.tree.specs.Check as Check;
@@ -18,6 +19,12 @@ use nodes::table::tables_of;
 // The tree's height, or the first refusal that the check meets.
 pub enum TreeChecked {
     Height(u32),
+    Refused(Refusal),
+}
+
+// The tree's number of nodes and its height, or the first refusal that the check meets.
+pub enum TreeSized {
+    Size(usize, u32),
     Refused(Refusal),
 }
 
@@ -99,19 +106,59 @@ fn clear(marks: &mut [u8])
     }
 }
 
-// The check with exactly one mark for each node.
-fn check_cleared(file: &[u8], t: Tables, root: usize, marks: &mut [u8]) -> TreeChecked
+// How many marks are set.
+fn marks_set(marks: &[u8]) -> usize
+    ensures { λ r. ⌜ r ≡ Order.marked (now (marks .entry)) ⌝ }
+{
+    let mut n = 0;
+    let mut i: usize = 0;
+    while i < marks.len() {
+        if marks[i] != 0 {
+            n += 1;
+        }
+        i += 1;
+    }
+    n
+}
+
+// The check with exactly one mark for each node. Where it passes, the marks set are as many as the tree has nodes.
+fn check_cleared(file: &[u8], t: Tables, root: usize, marks: &mut [u8]) -> TreeSized
     requires { ⌜ length (now marks) ≡ t .nodes .count ⌝ }
-    ensures { λ r. ⌜ Walk.checked (Check.heightAnswer r) (now (marks .exit)) ≡ Check.checkCleared (Fast.nodes (now (file .entry)) t) root ⌝ }
+    ensures { λ r. ⌜ Order.sized (Check.sizeAnswer r) (now (marks .exit)) ≡ Check.sizedCleared (Fast.nodes (now (file .entry)) t) root ⌝ }
 {
     clear(marks);
     let r = check_node(file, t, root, 512, marks);
+    let n = marks_set(marks);
     clear(marks);
-    r
+    match r {
+        TreeChecked::Height(h) => TreeSized::Size(n, h),
+        TreeChecked::Refused(e) => TreeSized::Refused(e),
+    }
 }
 
 // The tree check from a root of the render nodes, the clip nodes or a box's six, with one lent mark for each node (else 22, and the marks
-// stay as they were). Whatever the marks hold before, the first ones, one for each node, are zero afterwards; later ones are kept.
+// stay as they were), and how many nodes the tree has. Whatever the marks hold before, the first ones, one for each node, are zero
+// afterwards; later ones are kept.
+pub fn tree_size(
+    file: &[u8],
+    map: BspData,
+    table: HullTable,
+    root: usize,
+    marks: &mut [u8],
+) -> TreeSized
+    ensures { λ r. ⌜ Order.sized (Check.sizeAnswer r) (now (marks .exit)) ≡ Order.sizedCheck (nodesOf (now (file .entry)) map table) (now (marks .entry)) root ⌝ }
+{
+    let none = Vector3::new(0.0, 0.0, 0.0);
+    let t = tables_of(map, table, none, none);
+    let nodes = t.nodes;
+    let count = nodes.count as usize;
+    if marks.len() < count {
+        return TreeSized::Refused(Refusal::ListTooShort);
+    }
+    check_cleared(file, t, root, &mut marks[..count])
+}
+
+// The tree check alone, `tree_size` without the number of nodes.
 pub fn tree_check(
     file: &[u8],
     map: BspData,
@@ -121,12 +168,8 @@ pub fn tree_check(
 ) -> TreeChecked
     ensures { λ r. ⌜ Walk.checked (Check.heightAnswer r) (now (marks .exit)) ≡ Walk.treeCheck (nodesOf (now (file .entry)) map table) (now (marks .entry)) root ⌝ }
 {
-    let none = Vector3::new(0.0, 0.0, 0.0);
-    let t = tables_of(map, table, none, none);
-    let nodes = t.nodes;
-    let count = nodes.count as usize;
-    if marks.len() < count {
-        return TreeChecked::Refused(Refusal::ListTooShort);
+    match tree_size(file, map, table, root, marks) {
+        TreeSized::Size(_, h) => TreeChecked::Height(h),
+        TreeSized::Refused(e) => TreeChecked::Refused(e),
     }
-    check_cleared(file, t, root, &mut marks[..count])
 }
