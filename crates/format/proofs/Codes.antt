@@ -1,6 +1,6 @@
 -- A contents code that a file has negated is looked up by its distance from -1, which is in range for every number.
 -- Assumes nothing.
-use Prim.Native.Nat.{ℕ, zero, suc, _+_, _-_, _^_, _<_, _≤_}
+use Prim.Native.Nat.{ℕ, zero, suc, _+_, _-_, _^_, _<_, _≤_, zero-le}
 use mathlib.Core.Path.{_≡_, refl, sym, ap, _∙_, subst}
 use mathlib.Core.Bool.{Bool, true, false}
 use native.Mathlib.Omega.{arith}
@@ -13,6 +13,8 @@ use lib.Signed.{ltZ, mag, nonNeg}
 use mir.Syntax.{Width}
 use mir.Val.{SFits, Fits, toZ, ofZ, bits, hbits}
 use mir.Facts.{toZ-ofZ}
+use lib.ListN.{getD}
+use Rattle.format.specs.Layout as Layout
 use Rattle.format.specs.Contents.{codeOf}
 use Rattle.format.specs.Code.{contentsOf, contentsOfSigned, negatedContents}
 use Rattle.format.specs.declared.contents.BspLeafContents.{BspLeafContents}
@@ -87,3 +89,27 @@ pub widths : (w w′ : Width) → 14 < 2 ^ hbits w → 14 < 2 ^ hbits w′ → (
     → (b : Bool) → ltZ z (pos 0) ≡ b → negatedContents w z ≡ negatedContents w′ z
 widths w w′ h h′ z f f′ true e = below w h z f e ∙ sym (below w′ h′ z f′ e)
 widths w w′ h h′ z f f′ false e = above w h z f e ∙ sym (above w′ h′ z f′ e)
+
+named : (k : ℕ) → contentsOf (k + 1) ≡ getD Layout.contents k Invalid
+unfolding contentsOf
+named zero = refl
+named (suc zero) = refl
+named (suc (suc zero)) = refl
+named (suc (suc (suc zero))) = refl
+named (suc (suc (suc (suc zero)))) = refl
+named (suc (suc (suc (suc (suc zero))))) = refl
+named (suc (suc (suc (suc (suc (suc zero)))))) = refl
+named (suc (suc (suc (suc (suc (suc (suc zero))))))) = refl
+named (suc (suc (suc (suc (suc (suc (suc (suc zero)))))))) = refl
+named (suc (suc (suc (suc (suc (suc (suc (suc (suc zero))))))))) = refl
+named (suc (suc (suc (suc (suc (suc (suc (suc (suc (suc zero)))))))))) = refl
+named (suc (suc (suc (suc (suc (suc (suc (suc (suc (suc (suc zero))))))))))) = refl
+named (suc (suc (suc (suc (suc (suc (suc (suc (suc (suc (suc (suc zero)))))))))))) = refl
+named (suc (suc (suc (suc (suc (suc (suc (suc (suc (suc (suc (suc (suc zero))))))))))))) = refl
+named (suc (suc (suc (suc (suc (suc (suc (suc (suc (suc (suc (suc (suc (suc k)))))))))))))) = high (suc (suc (suc (suc (suc (suc (suc (suc (suc (suc (suc (suc (suc (suc k))))))))))))) + 1) (omega arith)
+
+-- Every number that a field of a file can hold stands for the contents that the specifications name by it; for sky, origin and clip, and for
+-- any other number, the Rust has none.
+pub codes : (w : Width) → 14 < 2 ^ hbits w → (z : ℤ) → SFits w z → negatedContents w z ≡ Layout.contentsNamed z
+codes w big (pos n) fit = above w big (pos n) fit (le-ltb n 0 zero-le)
+codes w big (negsuc k) fit = below w big (negsuc k) fit refl ∙ named k

@@ -19,41 +19,26 @@ use Rattle.format.specs.Field.{u8At, u16At, u32At, i16At, i32At, f32At}
 use Rattle.format.specs.Section.{elementSize}
 use Rattle.format.specs.Layout as Layout
 use Rattle.format.specs.Layout.{littleEndian}
-use Rattle.format.specs.declared.section.BspFileSectionId.the-variants.{Planes, Vertices, RenderNodes, TextureInfo, Faces, CollisionNodes, Leaves, FaceList, Edges, EdgeList, Models}
+use Rattle.format.specs.declared.section.BspFileSectionId.{BspFileSectionId}
+use Rattle.format.specs.declared.section.BspFileSectionId.the-variants.{Entities, Planes, Textures, Vertices, Visibility, RenderNodes, TextureInfo, Faces, Lightmaps, CollisionNodes, Leaves, FaceList, Edges, EdgeList, Models}
 
--- the sizes of the Rust's records
-pub planes : elementSize Planes ≡ Layout.plane .size
-planes = refl
-
-pub vertices : elementSize Vertices ≡ Layout.vertex .size
-vertices = refl
-
-pub render-nodes : elementSize RenderNodes ≡ Layout.node .size
-render-nodes = refl
-
-pub texture-infos : elementSize TextureInfo ≡ Layout.textureInfo .size
-texture-infos = refl
-
-pub faces : elementSize Faces ≡ Layout.face .size
-faces = refl
-
-pub collision-nodes : elementSize CollisionNodes ≡ Layout.clipNode .size
-collision-nodes = refl
-
-pub leaves : elementSize Leaves ≡ Layout.leaf .size
-leaves = refl
-
-pub face-list : elementSize FaceList ≡ Layout.faceList .size
-face-list = refl
-
-pub edges : elementSize Edges ≡ Layout.edge .size
-edges = refl
-
-pub edge-list : elementSize EdgeList ≡ Layout.edgeList .size
-edge-list = refl
-
-pub models : elementSize Models ≡ Layout.model .size
-models = refl
+-- the sizes of the Rust's records are those of the directory's sections
+pub record-sizes : (id : BspFileSectionId) → elementSize id ≡ Layout.recordSize id
+record-sizes Entities = refl
+record-sizes Planes = refl
+record-sizes Textures = refl
+record-sizes Vertices = refl
+record-sizes Visibility = refl
+record-sizes RenderNodes = refl
+record-sizes TextureInfo = refl
+record-sizes Faces = refl
+record-sizes Lightmaps = refl
+record-sizes CollisionNodes = refl
+record-sizes Leaves = refl
+record-sizes FaceList = refl
+record-sizes Edges = refl
+record-sizes EdgeList = refl
+record-sizes Models = refl
 
 -- little-endian numbers of one, two and four bytes
 one : (s : List ℕ) (p : ℕ) → getD s p 0 ≡ littleEndian s p 1

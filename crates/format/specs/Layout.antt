@@ -1,13 +1,18 @@
--- The records of the BSP map file as the Quake Specifications (version 3.4) list them: the size of each, and offset, width and sign of
--- each field. They are that document's and not the Rust's, written down from memory, since no copy was at hand (docs/DIFFERENCES.md);
+-- The BSP map file as the Quake Specifications (version 3.4) list it: the size of each record, and offset, width and sign of each field; the
+-- directory; the contents codes. They are that document's and not the Rust's, written down from memory, since no copy was at hand (docs/DIFFERENCES.md);
 -- where the Rust reads a field with another sign, the laws about the readers say what follows.
 use Prim.Native.Nat.{ℕ, zero, suc, _+_, _*_, _^_}
 use mathlib.Core.List.{List, [], _∷_}
-use lib.IntN.{ℤ, pos}
+use lib.IntN.{ℤ, pos, negsuc}
 use lib.ListN.{getD}
 use lib.Ieee.{Float, ofBits, binary32}
 use mir.Syntax.{Width, w8, w16, w32}
 use mir.Val.{toZ}
+use Rattle.format.specs.declared.section.BspFileSectionId.{BspFileSectionId}
+use Rattle.format.specs.declared.section.BspFileSectionId.the-variants.{Entities, Planes, Textures, Vertices, Visibility, RenderNodes, TextureInfo, Faces, Lightmaps, CollisionNodes, Leaves, FaceList, Edges, EdgeList, Models}
+use Rattle.format.specs.declared.contents.BspLeafContents.the-variants.{Empty, Solid, Water, Slime, Lava, Current0, Current90, Current180, Current270, CurrentUp, CurrentDown}
+use Rattle.format.specs.declared.code.CodedContents.{CodedContents}
+use Rattle.format.specs.declared.code.CodedContents.the-variants.{Contents, Invalid}
 
 -- how the bits of a field are read
 pub data Sort : Type 0 where
@@ -116,3 +121,68 @@ edgeList = layout 4 (i32 0 ∷ [])
 -- box min, box max, origin, node_id0 to node_id3, numleafs, face_id, face_num
 abbrev pub model : Layout
 model = layout 64 (f32 0 ∷ f32 4 ∷ f32 8 ∷ f32 12 ∷ f32 16 ∷ f32 20 ∷ f32 24 ∷ f32 28 ∷ f32 32 ∷ i32 36 ∷ i32 40 ∷ i32 44 ∷ i32 48 ∷ i32 52 ∷ i32 56 ∷ i32 60 ∷ [])
+
+-- An entry of the directory: the section's offset from the file's start, and its size in bytes. Entry n stands at 4 + 8 n, behind the version.
+abbrev pub entry : Layout
+entry = layout 8 (i32 0 ∷ i32 4 ∷ [])
+
+-- the number of each section's entry
+abbrev pub entryNumber : BspFileSectionId → ℕ
+entryNumber Entities = 0
+entryNumber Planes = 1
+entryNumber Textures = 2
+entryNumber Vertices = 3
+entryNumber Visibility = 4
+entryNumber RenderNodes = 5
+entryNumber TextureInfo = 6
+entryNumber Faces = 7
+entryNumber Lightmaps = 8
+entryNumber CollisionNodes = 9
+entryNumber Leaves = 10
+entryNumber FaceList = 11
+entryNumber Edges = 12
+entryNumber EdgeList = 13
+entryNumber Models = 14
+
+-- the size of each section's records; entities, wall textures, visibility lists and light maps are counted in bytes
+abbrev pub recordSize : BspFileSectionId → ℕ
+recordSize Entities = 1
+recordSize Planes = plane .size
+recordSize Textures = 1
+recordSize Vertices = vertex .size
+recordSize Visibility = 1
+recordSize RenderNodes = node .size
+recordSize TextureInfo = textureInfo .size
+recordSize Faces = face .size
+recordSize Lightmaps = 1
+recordSize CollisionNodes = clipNode .size
+recordSize Leaves = leaf .size
+recordSize FaceList = faceList .size
+recordSize Edges = edge .size
+recordSize EdgeList = edgeList .size
+recordSize Models = model .size
+
+-- The contents of the codes −1 to −14: empty, solid, water, slime, lava, sky, origin, clip, the currents by their angle, up and down. The Rust
+-- has no name for sky, origin and clip.
+abbrev pub contents : List CodedContents
+contents =
+    Contents Empty
+    ∷ Contents Solid
+    ∷ Contents Water
+    ∷ Contents Slime
+    ∷ Contents Lava
+    ∷ Invalid
+    ∷ Invalid
+    ∷ Invalid
+    ∷ Contents Current0
+    ∷ Contents Current90
+    ∷ Contents Current180
+    ∷ Contents Current270
+    ∷ Contents CurrentUp
+    ∷ Contents CurrentDown
+    ∷ []
+
+-- what a number in a file stands for
+abbrev pub contentsNamed : ℤ → CodedContents
+contentsNamed (pos n) = Invalid
+contentsNamed (negsuc k) = getD contents k Invalid

@@ -3,3 +3,4 @@ pub mod Chain
 pub mod Loops
 pub mod Plain
 pub mod Bounded
+pub mod Directory
