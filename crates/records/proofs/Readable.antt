@@ -68,7 +68,3 @@ same id one one′ s m m′ i v w agree o e f =
     let b = was-read id one′ s m′ i w f in
     let z : a .at ≡ b .at = a .found .is ∙ ap (λ (k : ℕ). k + i * elementSize id) o ∙ sym (b .found .is) in
     agree (b .at) v w (a .next) (b .next) (rw z at (a .reads)) (b .reads)
-
--- one reader agrees with itself
-pub alike : {A : Type 0} (one : List ℕ → ℕ → Step A) (s : List ℕ) (at : ℕ) (v w : A) (p q : ℕ) → one s at ≡ Step.ok v p → one s at ≡ Step.ok w q → v ≡ w
-alike one s at v w p q e f = cc

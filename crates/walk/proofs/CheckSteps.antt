@@ -46,13 +46,6 @@ module _ {E : Type 0} (N : Nodes E) where
       pub record-children : nd .plane < N .planes → checkRecord N go a ms ≡ checkChildren N go nd ms
       record-children h = rw (r, lt-ltb _ _ h)
 
-  module _ (go : ℕ → List ℕ → Checked) (c : Child E) (ms : List ℕ) where
-    pub child-node : (n : ℕ) → c ≡ node n → checkChild N go c ms ≡ go n ms
-    child-node n q = rw q
-
-    pub child-end : (e : E) → c ≡ end e → N .leafIn e ≡ true → checkChild N go c ms ≡ checked (answer 0) ms
-    child-end e q h = rw (q, h)
-
   -- ---- heights
 
   abbrev Low : ℕ → Checked → Type 0
