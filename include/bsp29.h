@@ -4,12 +4,15 @@
  * Link the static library that `rt staticlib ffi` writes: target/staticlib/libffi.a. Name the file
  * by its path, since systems have another library called ffi.
  *
- * Each call answers 0 (BSP_OK), or the number of a refusal (enum bsp_refusal). Whatever the bytes,
- * the map record, the hull or the numbers, it ends and answers one of these; it reads and writes
- * nothing but the lists it is lent. What it answers goes to the front of a list that the caller
- * lends; entries past the answer are kept. A refusal writes nothing, but for the marks of
- * bsp_tree_check. The library holds no state: any thread may call it at any time. A call needs less
- * than 1 MiB of stack (bsp_trace goes up to 512 calls deep).
+ * Each call answers 0 (BSP_OK), or the number of a refusal (enum bsp_refusal; docs/SCOPE.md says who
+ * causes each, and in which order they come). Whatever the bytes, the map record, the hull or the
+ * numbers, it ends and answers one of these; it reads and writes nothing but the lists it is lent.
+ * What it answers goes to the front of a list that the caller lends; entries past the answer are
+ * kept. A refusal writes nothing, but for the marks of bsp_tree_check. The library holds no state:
+ * any thread may call it at any time.
+ *
+ * Stack: a call needs less than 1 MiB (bsp_trace and bsp_trace_nodes go up to 512 calls deep). This
+ * was tested and is not proved.
  *
  * A list is two parameters: a pointer to its first entry and the number of its entries.
  *   - The pointer is not null and is aligned for its entries, even where the number is 0.
@@ -283,6 +286,9 @@ enum bsp_trace_word {
  *   Refuses: 22; then 1 to 12, the first that is met in the file's order.
  * The map record names places in the file and copies nothing: keep the file, unchanged, and lend it
  * to the other calls together with the record.
+ * Time: each face's edges are read, and a face may name up to 32,767 of them, which other faces may
+ * name too. So the time grows with the faces times their edges, and not with the file's bytes alone
+ * (docs/PERFORMANCE.md); limit the size of the files that you load.
  */
 uint32_t bsp_load(const uint8_t *file, size_t file_length,
                   uint32_t *map, size_t map_length);
@@ -366,8 +372,13 @@ uint32_t bsp_find_leaf(const uint8_t *file, size_t file_length,
  * differ (boundary), or within a leaf (terminal). It follows the engine richter to the letter:
  *   - Where the segment crosses a node's plane, the part before the plane is traced first. If that
  *     part ends within a leaf further down, the trace ends there, at the plane, as terminal, and what
- *     lies behind the plane is not looked at. So a terminal end need not be the segment's end: trace
- *     on from it where it is not.
+ *     lies behind the plane is not looked at. So a terminal end is no obstacle, and it need not be
+ *     the segment's end: nothing was met up to there, and the rest of the segment was not looked at.
+ *   - Tracing on from a terminal end, from there to the same segment's end, may stand still: the part
+ *     before the plane is then a single point, the trace ends at it again, and so would every further
+ *     one. On maps/rooms.bsp, hull 0 of model 0, the trace from (0, -32, 0) to (-112, -32, 0) ends as
+ *     terminal at (-8, -32, 0), and so does the one from there. A caller who traces on in a loop must
+ *     stop where the end does not move. What a whole shot meets is not what this call answers.
  *   - The ratio of a boundary is along the part of the segment that was left at the node of that
  *     plane, and not along the whole segment.
  *   map: 31 words or more; hull: 9 or more; segment: 6 floats or more, start and end;
@@ -439,7 +450,9 @@ uint32_t bsp_pvs(const uint8_t *file, size_t file_length,
 /*
  * The tree check from a root of a node table (enum bsp_table): the height of its tree. From a root
  * that passed, in a file that loads, every walk and trace is answered, whatever its floats, and
- * enters no node twice.
+ * enters no node twice. It says nothing of other roots: bsp_find_leaf from root 0 wants render node 0
+ * checked too, which need not be the root of a model. And it says nothing of visibility: no call
+ * but bsp_pvs itself looks at a leaf's row (33).
  *   map: 31 words or more; out: 1 word or more; marks: a byte for each node of the table
  *   (bsp_count; six for a box), of any values.
  *   Refuses: 22; 20, a table that is none; 22, too few marks, which are kept; then at each node, front

@@ -1,5 +1,6 @@
 /*
- * Prints the entity text and every record of a map, field by field.
+ * Prints the entity text and every record of a map, field by field. The entity text is a stranger's: of
+ * its control characters only line breaks and tabs are printed as they are.
  *
  *   records MAP
  *
@@ -150,6 +151,32 @@ static void print_section(const struct map *map, const struct section *section)
     }
 }
 
+/* How many of the bytes at the front of a UTF-8 text are a control character: one below 32 but for line
+   break and tab, 127, or one from 128 to 159, which UTF-8 has as two bytes; 0 where another stands there. */
+static size_t control(const uint8_t *text, size_t length)
+{
+    if (text[0] == '\n' || text[0] == '\t')
+        return 0;
+    if (text[0] < 32 || text[0] == 127)
+        return 1;
+    return text[0] == 0xc2 && length > 1 && text[1] < 0xa0 ? 2 : 0;
+}
+
+/* A text of a stranger: a terminal would obey the control characters in it, so each is printed as its
+   number. */
+static void print_text(const uint8_t *text, size_t length)
+{
+    size_t i = 0, n;
+    while (i < length) {
+        n = control(text + i, length - i);
+        if (n == 0)
+            putchar(text[i]);
+        else
+            printf("\\x%02x", (unsigned)text[i + n - 1]);
+        i += n == 0 ? 1 : n;
+    }
+}
+
 /* The text without its zero byte. */
 static void print_entities(const struct map *map)
 {
@@ -159,8 +186,7 @@ static void print_entities(const struct map *map)
     length = (size_t)part[1];
     if (length > 0 && map->file[part[0] + length - 1] == 0)
         length--;
-    if (length > 0)
-        fwrite(map->file + part[0], 1, length, stdout);
+    print_text(map->file + part[0], length);
 }
 
 int main(int argc, char **argv)

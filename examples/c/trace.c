@@ -120,22 +120,47 @@ static void print_nodes(const struct map *map, const uint64_t *hull, const float
     free(list);
 }
 
+/* Whether a word is a number, all of it: digits, with a plus before them or none. */
+static int number_of(const char *word, uint64_t *number)
+{
+    const char *digits = word + (word[0] == '+');
+    errno = 0;
+    *number = strtoull(digits, NULL, 10);
+    return digits[0] != '\0' && strspn(digits, "0123456789") == strlen(digits) && errno == 0;
+}
+
+/* Whether a word is a float, all of it, as the program in Rust has it: decimal, inf or nan. */
+static int float_of(const char *word, float *value)
+{
+    char *end;
+    *value = strtof(word, &end);
+    return end != word && *end == '\0' && strspn(word, "+-.0123456789aefintyAEFINTY") == strlen(word);
+}
+
+/* The hull and the segment of the arguments; 0 where one of them is no number. */
+static int arguments(int argc, char **argv, uint64_t *hull, float *segment)
+{
+    int i;
+    if (argc != 9 || !number_of(argv[2], hull))
+        return 0;
+    for (i = 0; i < 6; i++)
+        if (!float_of(argv[3 + i], &segment[i]))
+            return 0;
+    return 1;
+}
+
 int main(int argc, char **argv)
 {
     struct map map;
-    uint64_t hull[BSP_HULL_WORDS], trace[BSP_TRACE_WORDS];
+    uint64_t index, hull[BSP_HULL_WORDS], trace[BSP_TRACE_WORDS];
     float segment[6];
-    int i;
 
-    if (argc != 9) {
+    if (!arguments(argc, argv, &index, segment)) {
         fprintf(stderr, "usage: trace MAP HULL X Y Z X Y Z\n");
         return 2;
     }
-    for (i = 0; i < 6; i++)
-        segment[i] = strtof(argv[3 + i], NULL);
     load(argv[1], &map);
-    answered(bsp_hull(map.file, map.length, map.words, BSP_MAP_WORDS, 0, strtoull(argv[2], NULL, 10),
-                      hull, BSP_HULL_WORDS));
+    answered(bsp_hull(map.file, map.length, map.words, BSP_MAP_WORDS, 0, index, hull, BSP_HULL_WORDS));
     check(&map, hull);
     look(&map, hull, segment);
     answered(bsp_trace(map.file, map.length, map.words, BSP_MAP_WORDS, hull, BSP_HULL_WORDS,

@@ -1,4 +1,5 @@
-//! Prints the entity text and every record of a map, field by field.
+//! Prints the entity text and every record of a map, field by field. The entity text is a stranger's: of
+//! its control characters only line breaks and tabs are printed as they are.
 //!
 //!     records MAP
 //!
@@ -37,6 +38,20 @@ fn clip_child(child: ClipChild) -> String {
     }
 }
 
+/// A text of a stranger: a terminal would obey the control characters in it, so each is shown as its
+/// number.
+fn plain(text: &str) -> String {
+    let mut shown = String::new();
+    for c in text.chars() {
+        if c.is_control() && c != '\n' && c != '\t' {
+            shown += &format!("\\x{:02x}", u32::from(c));
+        } else {
+            shown.push(c);
+        }
+    }
+    shown
+}
+
 /// Prints each record of a kind, as `show` shows it.
 fn print<R: Record>(
     name: &str,
@@ -51,7 +66,7 @@ fn print<R: Record>(
 
 fn run(file: &[u8]) -> Result<(), Refusal> {
     let map = Map::load(file)?;
-    print!("{}", map.entity_text()?);
+    print!("{}", plain(map.entity_text()?));
     println!("textures: {}", map.texture_count());
     nodes(&map)?;
     Ok(())

@@ -97,7 +97,8 @@ pub(crate) fn both(a: [f32; 3], b: [f32; 3]) -> ffi::Segment {
 /// How a trace ends.
 #[derive(Copy, Clone, Debug, PartialEq)]
 pub enum TraceEnd {
-    /// Within a leaf: at the segment's end, or before it (see [`Map::trace`](crate::Map::trace)).
+    /// Within a leaf: nothing was met up to here. It is the segment's end, or a point before it behind
+    /// which the trace did not look (see [`Map::trace`](crate::Map::trace)).
     Terminal,
     /// At a plane behind which the contents differ.
     Boundary {

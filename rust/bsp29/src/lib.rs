@@ -9,18 +9,25 @@
 //! Every NaN that a call answers is the same one, 0x7fc00000.
 //!
 //! ```
-//! use bsp29::{Contents, Map, TraceEnd};
+//! use bsp29::{Contents, Map, NodeTable, TraceEnd};
 //!
 //! let path = concat!(env!("CARGO_MANIFEST_DIR"), "/../../maps/rooms.bsp");
 //! let file = std::fs::read(path)?;
 //! let map = Map::load(&file)?;
 //!
-//! // before a stranger's map is played: each hull of each model
+//! // before a stranger's map is played: each hull of each model, for contents and traces
 //! for model in 0..map.models().len() {
 //!     for index in 0..3 {
 //!         let hull = map.hull(model, index)?;
 //!         map.tree_check(hull.table, hull.root)?;
 //!     }
+//! }
+//! // leaf lookups start at render node 0, which need not be the root of a model
+//! map.tree_check(NodeTable::Render, 0)?;
+//! // no tree check looks at visibility: each leaf's row
+//! let leaf_count = map.models().get(0)?.leaf_count + 1;
+//! for leaf in 0..map.leaves().len() {
+//!     map.visible_leaves(leaf, leaf_count)?;
 //! }
 //!
 //! let hull = map.hull(0, 0)?;
@@ -31,6 +38,12 @@
 //! assert_eq!(trace.end, [-64.0, 0.0, -32.0]);
 //! # Ok::<(), Box<dyn std::error::Error>>(())
 //! ```
+//!
+//! Where these checks pass, contents and traces in the hulls that were checked and leaf lookups from render
+//! node 0 are answered, whatever the floats, and so are visibility lists with this leaf count or a smaller
+//! one. They do not cover a hull made by hand with another root, a leaf lookup from another root, or a
+//! greater leaf count. Whether the faces and face lists of nodes, leaves and models lie in their tables is
+//! not looked at.
 //!
 //! - [`Map`]: a map, and the questions that it answers
 //! - [`Records`] and the records: planes, leaves, models and the rest, by their index

@@ -20,8 +20,10 @@ const MOST_NODES: usize = 32_767;
 ///
 /// Whatever the bytes are, no call crashes, hangs or reads outside them. Check the roots of a map
 /// from a stranger ([`tree_check`](Map::tree_check)) before it is played: from a root that passed, in a
-/// map that was loaded, every walk and trace is answered and enters no node twice. A call needs less
-/// than 1 MiB of stack.
+/// map that was loaded, every walk and trace is answered and enters no node twice. The first example of
+/// this crate checks all roots that play asks for.
+///
+/// A call needs less than 1 MiB of stack; this was tested and is not proved.
 ///
 /// ```
 /// # let file = std::fs::read(concat!(env!("CARGO_MANIFEST_DIR"), "/../../maps/rooms.bsp")).unwrap();
@@ -41,6 +43,10 @@ pub struct Map<'a> {
 impl<'a> Map<'a> {
     /// Loads a file: reads and tests all that the other calls rely on. Refuses with 1 to 12, the first
     /// that is met in the file's order.
+    ///
+    /// Each face's edges are read, and a face may name up to 32,767 of them, which other faces may name
+    /// too: the time grows with the faces times their edges, and not with the file's bytes alone
+    /// (docs/PERFORMANCE.md). Limit the size of the files that you load.
     ///
     /// ```
     /// use bsp29::{Map, Refusal};
@@ -378,7 +384,12 @@ impl Map<'_> {
     /// where the segment crosses a node's plane, the part before the plane is traced first, and if that
     /// part ends within a leaf further down, the trace ends there, at the plane, as
     /// [`Terminal`](crate::TraceEnd::Terminal), and what lies behind is not looked at. So a terminal
-    /// end need not be the segment's end: trace on from it where it is not.
+    /// end is no obstacle, and it need not be the segment's end: nothing was met up to there, and the
+    /// rest of the segment was not looked at.
+    ///
+    /// Tracing on from a terminal end to the same segment's end may stand still, as the last example
+    /// shows: a caller who does so in a loop must stop where the end does not move. What a whole shot
+    /// meets is not what this call answers.
     ///
     /// From a root that passed [`tree_check`](Map::tree_check) it enters no node twice. Over other
     /// nodes it ends too, but it may take long.
@@ -396,11 +407,18 @@ impl Map<'_> {
     /// let TraceEnd::Boundary { plane, .. } = trace.kind else { panic!() };
     /// assert_eq!((plane.normal, plane.dist), ([-1.0, 0.0, 0.0], 24.0));
     ///
-    /// // through the doorway, in two parts
+    /// // through the doorway: nothing is met up to x = 24, and nothing from there on
     /// let trace = map.trace(&hull, [-64.0, 0.0, 0.0], [64.0, 0.0, 0.0])?;
     /// assert_eq!((trace.end, trace.kind), ([24.0, 0.0, 0.0], TraceEnd::Terminal));
     /// let trace = map.trace(&hull, trace.end, [64.0, 0.0, 0.0])?;
     /// assert_eq!((trace.end, trace.kind), ([64.0, 0.0, 0.0], TraceEnd::Terminal));
+    ///
+    /// // the other way, as a point: the trace from where the first one ended ends there again
+    /// let hull = map.hull(0, 0)?;
+    /// let trace = map.trace(&hull, [0.0, -32.0, 0.0], [-112.0, -32.0, 0.0])?;
+    /// assert_eq!((trace.end, trace.kind), ([-8.0, -32.0, 0.0], TraceEnd::Terminal));
+    /// let again = map.trace(&hull, trace.end, [-112.0, -32.0, 0.0])?;
+    /// assert_eq!((again.end, again.kind), (trace.end, TraceEnd::Terminal));
     /// # Ok::<(), bsp29::Refusal>(())
     /// ```
     pub fn trace(&self, hull: &Hull, start: [f32; 3], end: [f32; 3]) -> Result<Trace, Refusal> {
@@ -555,7 +573,8 @@ impl Map<'_> {
     /// The height of the tree from a root of a node table. Where it answers, every index in that tree
     /// is in range, no node is reached by two ways and none is deeper than 512: in a map that was
     /// loaded, every walk and trace from there is answered, whatever its floats, and enters no node
-    /// twice.
+    /// twice. It says nothing of other roots ([`find_leaf`](Map::find_leaf) starts at render node 0) and
+    /// nothing of visibility rows.
     ///
     /// Refuses with 30, 34, 32 or 23 at the first node that breaks this, front before back; before that
     /// with 22 for a table above 32,767 nodes, which only a map record made by hand can name.
