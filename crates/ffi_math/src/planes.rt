@@ -25,7 +25,7 @@ fn axis_plane(axis: u32, dist: f32) -> Hyperplane
     Hyperplane::axis_z(dist)
 }
 
-fn plane_given(kind: u32, nx: f32, ny: f32, nz: f32, dist: f32) -> Hyperplane
+pub fn plane_given(kind: u32, nx: f32, ny: f32, nz: f32, dist: f32) -> Hyperplane
     ensures { λ r. ⌜ r ≡ Words.planeGiven kind nx ny nz dist ⌝ }
 {
     if kind == 0 {
@@ -71,7 +71,7 @@ fn side_word(side: HyperplaneSide) -> u32
 }
 
 // Word number `word` of a plane.
-fn plane_word(plane: Hyperplane, word: u32) -> u32
+pub fn plane_word(plane: Hyperplane, word: u32) -> u32
     ensures { λ r. ⌜ r ≡ getD (Words.planeWords plane) word 0 ⌝ }
 {
     let alignment = plane.alignment;

@@ -5,7 +5,7 @@ ghost use Rattle.ffi_math.specs.Words.{partOf};
 use math::Vector3;
 
 // The coordinate number `part`.
-fn part_of(v: Vector3, part: u32) -> f32
+pub fn part_of(v: Vector3, part: u32) -> f32
     ensures { λ r. ⌜ r ≡ partOf v part ⌝ }
 {
     match part {

@@ -31,7 +31,7 @@ pub fn run(plan: &Plan) -> bool {
     leaves && equal && faults.impossible.is_empty() && (plan.quick || faults.unmet.is_empty())
 }
 
-/// The float, vector and plane functions in their quick form, if they are linked.
+/// The float, vector, plane and trace functions in their quick form, if they are linked.
 fn leaf_functions(plan: &Plan) -> bool {
     if !cfg!(feature = "ffi_math") {
         println!("the library of the leaf functions is not linked: they are left out");

@@ -1,5 +1,7 @@
-//! The float, vector and plane functions: the proved ones beside Rust's own f32 and the published
-//! math.rs.
+//! The float, vector, plane and trace functions: the proved ones beside Rust's own f32 and the
+//! published math.rs and phys.rs.
+
+mod traces;
 
 use std::hint::black_box;
 use std::thread;
@@ -60,6 +62,17 @@ pub fn compare(proved: &Leaves, plan: &Plan, mut done: impl FnMut(&Tally)) -> Ve
         point_dist,
         point_side,
         crossing,
+        traces::new,
+        traces::join,
+        traces::adjust,
+        traces::start_point,
+        traces::end_point,
+        traces::ratio,
+        traces::is_terminal,
+        traces::all_solid,
+        traces::start_solid,
+        traces::in_open,
+        traces::in_water,
     ];
     parts
         .into_iter()
@@ -653,5 +666,89 @@ mod tests {
         } else {
             right
         }
+    });
+    wrong!(wrong_new_trace, trace_new, "trace_new_word", |t: *const u32,
+                                                          n: usize,
+                                                          w: u32|
+     -> u32 {
+        // the flag that was handed in
+        stub::trace_adjust_word(t, n, -0.0, -0.0, -0.0, w)
+    });
+    wrong!(wrong_join, trace_join, "trace_join_word", |a: *const u32,
+                                                       n: usize,
+                                                       b: *const u32,
+                                                       m: usize,
+                                                       w: u32|
+     -> u32 {
+        // out of a solid that the first trace did not start in
+        if w == 2 && stub::trace_join_word(a, n, b, m, 0) == 0 {
+            stub::trace_start_solid(a, n) as u32
+        } else {
+            stub::trace_join_word(a, n, b, m, w)
+        }
+    });
+    wrong!(wrong_meeting, trace_join, "trace_join_word", |a: *const u32,
+                                                          n: usize,
+                                                          b: *const u32,
+                                                          m: usize,
+                                                          w: u32|
+     -> u32 {
+        // by the bits, so that two zeros differ
+        let part =
+            |p| bits(stub::trace_end_point(a, n, p)) == bits(stub::trace_start_point(b, m, p));
+        if (0..3).all(part) {
+            stub::trace_join_word(a, n, b, m, w)
+        } else if w == 0 {
+            19
+        } else {
+            0
+        }
+    });
+    wrong!(wrong_adjust, trace_adjust, "trace_adjust_word", |t: *const u32,
+                                                             n: usize,
+                                                             x: f32,
+                                                             y: f32,
+                                                             z: f32,
+                                                             w: u32|
+     -> u32 {
+        // the end left where it was
+        let by = if (6..9).contains(&w) { [-0.0; 3] } else { [x, y, z] };
+        stub::trace_adjust_word(t, n, by[0], by[1], by[2], w)
+    });
+    wrong!(wrong_start_point, trace_start_point, "trace_start_point", |t: *const u32,
+                                                                       n: usize,
+                                                                       p: u32|
+     -> f32 {
+        stub::trace_end_point(t, n, p)
+    });
+    wrong!(wrong_end_point, trace_end_point, "trace_end_point", |t: *const u32,
+                                                                 n: usize,
+                                                                 p: u32|
+     -> f32 {
+        stub::trace_end_point(t, n, p) + 0.0
+    });
+    wrong!(wrong_ratio, trace_ratio, "trace_ratio", |t: *const u32, n: usize| -> f32 {
+        // a terminal end as a boundary at 0
+        f32::from_bits(stub::trace_adjust_word(t, n, 0.0, 0.0, 0.0, 10))
+    });
+    wrong!(wrong_terminal, trace_is_terminal, "trace_is_terminal", |t: *const u32,
+                                                                    n: usize|
+     -> bool {
+        stub::trace_ratio(t, n) == 1.0
+    });
+    wrong!(wrong_solid, trace_all_solid, "trace_all_solid", |t: *const u32, n: usize| -> bool {
+        stub::trace_start_solid(t, n)
+    });
+    wrong!(wrong_start_solid, trace_start_solid, "trace_start_solid", |t: *const u32,
+                                                                       n: usize|
+     -> bool {
+        stub::trace_all_solid(t, n)
+    });
+    wrong!(wrong_open, trace_in_open, "trace_in_open", |t: *const u32, n: usize| -> bool {
+        !stub::trace_all_solid(t, n)
+    });
+    wrong!(wrong_water, trace_in_water, "trace_in_water", |t: *const u32, n: usize| -> bool {
+        // slime and what follows left out
+        stub::trace_new_word(t, n, 0) == 3
     });
 }

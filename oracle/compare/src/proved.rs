@@ -2,7 +2,8 @@
 //!
 //! A plane is passed as kind, normal and dist; kinds 0, 1 and 2 are axis planes, any other holds
 //! exactly its normal. An answer plane is five words: kind (0 to 3), the bits of `normal()`, the
-//! bits of dist. A float in a word is its 32 bits, every NaN 0x7fc00000.
+//! bits of dist. A float in a word is its 32 bits, every NaN 0x7fc00000. A trace is passed as a
+//! pointer to its words and their number.
 
 macro_rules! functions {
     ($($field:ident = $name:ident: fn($($argument:ident: $type:ty),*) -> $answer:ty;)*) => {
@@ -61,4 +62,16 @@ functions! {
     point_dist = plane_point_dist: fn(kind: u32, nx: f32, ny: f32, nz: f32, dist: f32, px: f32, py: f32, pz: f32) -> f32;
     point_side = plane_point_side: fn(kind: u32, nx: f32, ny: f32, nz: f32, dist: f32, px: f32, py: f32, pz: f32) -> u32;
     crossing = plane_crossing_word: fn(kind: u32, nx: f32, ny: f32, nz: f32, dist: f32, sx: f32, sy: f32, sz: f32, ex: f32, ey: f32, ez: f32, word: u32) -> u32;
+
+    trace_new = trace_new_word: fn(trace: *const u32, length: usize, word: u32) -> u32;
+    trace_join = trace_join_word: fn(first: *const u32, first_length: usize, second: *const u32, second_length: usize, word: u32) -> u32;
+    trace_adjust = trace_adjust_word: fn(trace: *const u32, length: usize, x: f32, y: f32, z: f32, word: u32) -> u32;
+    trace_start_point = trace_start_point: fn(trace: *const u32, length: usize, part: u32) -> f32;
+    trace_end_point = trace_end_point: fn(trace: *const u32, length: usize, part: u32) -> f32;
+    trace_ratio = trace_ratio: fn(trace: *const u32, length: usize) -> f32;
+    trace_is_terminal = trace_is_terminal: fn(trace: *const u32, length: usize) -> bool;
+    trace_all_solid = trace_all_solid: fn(trace: *const u32, length: usize) -> bool;
+    trace_start_solid = trace_start_solid: fn(trace: *const u32, length: usize) -> bool;
+    trace_in_open = trace_in_open: fn(trace: *const u32, length: usize) -> bool;
+    trace_in_water = trace_in_water: fn(trace: *const u32, length: usize) -> bool;
 }

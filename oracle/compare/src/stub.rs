@@ -230,3 +230,121 @@ pub extern "C" fn plane_crossing_word(
         w,
     )
 }
+
+/// A trace as its sixteen words, each as an answer has it: contents, started solid, start and its
+/// ratio, end, 1 for a boundary with its ratio and plane, or seven zeros.
+type TraceParts = [u32; 16];
+
+fn float(word: u32) -> f32 {
+    f32::from_bits(word)
+}
+
+fn same(x: u32) -> u32 {
+    bits(float(x))
+}
+
+fn trace(at: *const u32, length: usize) -> TraceParts {
+    let given = unsafe { std::slice::from_raw_parts(at, length) };
+    let word = |at: usize| given.get(at).copied().unwrap_or(0);
+    let mut t = [0; 16];
+    t[0] = if matches!(word(0), 1..=5 | 9..=14) { word(0) } else { 1 };
+    t[1] = (word(1) != 0) as u32;
+    for (at, t) in t.iter_mut().enumerate().take(9).skip(2) {
+        *t = same(word(at));
+    }
+    if word(9) != 0 {
+        t[9] = 1;
+        t[10] = same(word(10));
+        let normal = [float(word(12)), float(word(13)), float(word(14))];
+        t[11..].copy_from_slice(&words(held(word(11), normal, float(word(15)))));
+    }
+    t
+}
+
+pub extern "C" fn trace_new_word(at: *const u32, length: usize, w: u32) -> u32 {
+    let mut t = trace(at, length);
+    t[1] = (t[0] == 2) as u32;
+    word(&t, w)
+}
+
+pub extern "C" fn trace_join_word(
+    a: *const u32,
+    a_length: usize,
+    b: *const u32,
+    b_length: usize,
+    w: u32,
+) -> u32 {
+    let (first, second) = (trace(a, a_length), trace(b, b_length));
+    let meet = (0..3).all(|at| float(first[6 + at]) == float(second[2 + at]));
+    if first[9] == 0 || !meet {
+        return word(&[19], w);
+    }
+    let mut joined = first;
+    let out_of_solid = first[0] == 2 && second[0] != 2;
+    if first[0] == second[0] || out_of_solid {
+        joined[6..].copy_from_slice(&second[6..]);
+    }
+    if out_of_solid {
+        joined[0] = second[0];
+        joined[1] = 1;
+    }
+    let mut words = [0; 17];
+    words[1..].copy_from_slice(&joined);
+    word(&words, w)
+}
+
+pub extern "C" fn trace_adjust_word(
+    at: *const u32,
+    length: usize,
+    x: f32,
+    y: f32,
+    z: f32,
+    w: u32,
+) -> u32 {
+    let mut t = trace(at, length);
+    for (part, by) in [x, y, z].into_iter().enumerate() {
+        for from in [2, 6] {
+            t[from + part] = bits(float(t[from + part]) + by);
+        }
+    }
+    word(&t, w)
+}
+
+pub extern "C" fn trace_start_point(at: *const u32, length: usize, p: u32) -> f32 {
+    let t = trace(at, length);
+    part([float(t[2]), float(t[3]), float(t[4])], p)
+}
+
+pub extern "C" fn trace_end_point(at: *const u32, length: usize, p: u32) -> f32 {
+    let t = trace(at, length);
+    part([float(t[6]), float(t[7]), float(t[8])], p)
+}
+
+pub extern "C" fn trace_ratio(at: *const u32, length: usize) -> f32 {
+    let t = trace(at, length);
+    if t[9] == 0 {
+        1.0
+    } else {
+        float(t[10])
+    }
+}
+
+pub extern "C" fn trace_is_terminal(at: *const u32, length: usize) -> bool {
+    trace(at, length)[9] == 0
+}
+
+pub extern "C" fn trace_all_solid(at: *const u32, length: usize) -> bool {
+    trace(at, length)[0] == 2
+}
+
+pub extern "C" fn trace_start_solid(at: *const u32, length: usize) -> bool {
+    trace(at, length)[1] == 1
+}
+
+pub extern "C" fn trace_in_open(at: *const u32, length: usize) -> bool {
+    trace(at, length)[0] == 1
+}
+
+pub extern "C" fn trace_in_water(at: *const u32, length: usize) -> bool {
+    trace(at, length)[0] > 2
+}

@@ -7,6 +7,8 @@ pub struct Tally {
     pub differed: u64,
     /// Cases that differ by the sign of a zero alone, where that is left open.
     pub zero_signs: u64,
+    /// Cases that the Rust refuses with 19, where it panics.
+    pub refused: u64,
     pub first: Option<String>,
 }
 
@@ -37,6 +39,7 @@ impl Tally {
         self.cases += other.cases;
         self.differed += other.differed;
         self.zero_signs += other.zero_signs;
+        self.refused += other.refused;
         if self.first.is_none() {
             self.first = other.first;
         }
@@ -46,6 +49,9 @@ impl Tally {
         println!("{:<24} {:>12} cases {:>10} differ", self.name, self.cases, self.differed);
         if self.zero_signs > 0 {
             println!("{:<24} {:>12} cases differ by the sign of a zero alone", "", self.zero_signs);
+        }
+        if self.refused > 0 {
+            println!("{:<24} {:>12} cases are refused with 19", "", self.refused);
         }
         if let Some(first) = &self.first {
             println!("{:<24} first: {}", "", first);

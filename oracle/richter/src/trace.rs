@@ -1,4 +1,5 @@
-//! Traces as plain data, and what phys.rs answers about them.
+//! Traces as plain data, and what phys.rs answers about them. Its functions are not inlined into the
+//! comparison, as those of plane.rs.
 
 use crate::{
     common::bsp,
@@ -61,30 +62,52 @@ impl Trace {
         })
     }
 
+    #[inline(never)]
     pub fn join(self, other: Trace) -> Result<Trace, Refusal> {
         catch(|| Trace::of(&self.inner().join(other.inner()))).map_err(Caught::of_join)
     }
 
+    #[inline(never)]
     pub fn adjust(self, offset: Point) -> Trace {
         Trace::of(&self.inner().adjust(vector(offset)))
     }
 
+    #[inline(never)]
+    pub fn start_point(self) -> Point {
+        point(self.inner().start_point())
+    }
+
+    #[inline(never)]
+    pub fn end_point(self) -> Point {
+        point(self.inner().end_point())
+    }
+
+    #[inline(never)]
     pub fn ratio(self) -> f32 {
         self.inner().ratio()
     }
 
+    #[inline(never)]
     pub fn is_terminal(self) -> bool {
         self.inner().is_terminal()
     }
 
+    #[inline(never)]
     pub fn all_solid(self) -> bool {
         self.inner().all_solid()
     }
 
+    #[inline(never)]
+    pub fn start_solid(self) -> bool {
+        self.inner().start_solid()
+    }
+
+    #[inline(never)]
     pub fn in_open(self) -> bool {
         self.inner().in_open()
     }
 
+    #[inline(never)]
     pub fn in_water(self) -> bool {
         self.inner().in_water()
     }
