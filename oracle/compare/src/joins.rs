@@ -1,5 +1,6 @@
 //! Joining two traces: the program on paper beside the published Rust. `join` is no call of the C
-//! interface; the traces that the calls answer are joined by it, and 19 is given by it alone.
+//! interface; the traces that the calls answer are joined by it, and 19 is given by it alone. The
+//! proved `join` is compared in `leaves`.
 
 use maps::Seed;
 
