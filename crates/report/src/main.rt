@@ -1,60 +1,57 @@
 // The report program: it reads a map from standard input, at most 65,536 bytes, loads it, and prints how many records it has.
-use format::refusal::Refusal;
+ghost use mathlib.Core.Path.{_≡_};
+ghost use Prim.Native.Nat.{_+_};
+ghost use lib.ListN.{length};
+ghost use Rattle.report.specs.Text.{written, front};
+ghost use Rattle.report.specs.Pieces.{Puts};
+ghost use Rattle.report.specs.Report.{countLine, countLines, reportText};
+
+mod text;
+
+use crate::text::put_line;
+use crate::text::put_text;
 use format::section::BspData;
 use format::section::BspFileSectionId;
 use load::Loaded;
 use load::load;
 
-// A name and a decimal count, on a line of their own.
-fn print_line(name: &[u8], count: u32) {
-    io::write_all(1, name);
-    io::print_decimal(1, count as u64);
-    io::write_all(1, b"\n");
+// Puts the line of a section: a name and how many records it has.
+fn put_count(name: &[u8], map: BspData, id: BspFileSectionId, at: usize, out: &mut [u8]) -> usize
+    ensures { λ r. ⌜ Puts (countLine (now (name .entry)) id map) (length (now (name .entry)) + 11) (written at (now (out .entry))) (written r (now (out .exit))) ⌝ }
+{
+    put_line(name, map.section(id).record_count(id), at, out)
 }
 
-fn print_refusal(refusal: Refusal) {
-    print_line(b"refused ", refusal.number());
+// Puts document 01's seven lines.
+fn put_counts(map: BspData, out: &mut [u8]) -> usize
+    ensures { λ r. ⌜ Puts (countLines map) 129 (written 0 (now (out .entry))) (written r (now (out .exit))) ⌝ }
+{
+    let a = put_count(b"planes ", map, BspFileSectionId::Planes, 0, out);
+    let b = put_count(b"nodes ", map, BspFileSectionId::RenderNodes, a, out);
+    let c = put_count(b"clipnodes ", map, BspFileSectionId::CollisionNodes, b, out);
+    let d = put_count(b"leaves ", map, BspFileSectionId::Leaves, c, out);
+    let e = put_count(b"faces ", map, BspFileSectionId::Faces, d, out);
+    let f = put_count(b"models ", map, BspFileSectionId::Models, e, out);
+    put_count(b"entities ", map, BspFileSectionId::Entities, f, out)
 }
 
-// The counts of document 01's report; the entities in bytes.
-fn print_counts(map: BspData) {
-    print_line(
-        b"planes ",
-        map.planes.record_count(BspFileSectionId::Planes),
-    );
-    print_line(
-        b"nodes ",
-        map.render_nodes.record_count(BspFileSectionId::RenderNodes),
-    );
-    print_line(
-        b"clipnodes ",
-        map.collision_nodes
-            .record_count(BspFileSectionId::CollisionNodes),
-    );
-    print_line(
-        b"leaves ",
-        map.leaves.record_count(BspFileSectionId::Leaves),
-    );
-    print_line(b"faces ", map.faces.record_count(BspFileSectionId::Faces));
-    print_line(
-        b"models ",
-        map.models.record_count(BspFileSectionId::Models),
-    );
-    print_line(
-        b"entities ",
-        map.entities.record_count(BspFileSectionId::Entities),
-    );
+// Puts the report on what was read at the front of the buffer, and answers its length. No report is longer than the buffer.
+pub fn report(input: &[u8], out: &mut [u8; 129]) -> usize
+    ensures { λ r. ⌜ written r (now (out .exit)) ≡ front (reportText (now (input .entry))) (now (out .entry)) ⌝ }
+{
+    if 65536 < input.len() {
+        return put_text(b"too long\n", 0, out);
+    }
+    match load(input) {
+        Loaded::Refused(refusal) => put_line(b"refused ", refusal.number(), 0, out),
+        Loaded::Map(map) => put_counts(map, out),
+    }
 }
 
 fn main() {
     let mut space = [0u8; 65537];
     let n = io::read_full(0, &mut space);
-    if 65536 < n {
-        io::write_all(1, b"too long\n");
-        return;
-    }
-    match load(&space[..n]) {
-        Loaded::Refused(refusal) => print_refusal(refusal),
-        Loaded::Map(map) => print_counts(map),
-    }
+    let mut text = [0u8; 129];
+    let end = report(&space[..n], &mut text);
+    io::write_all(1, &text[..end]);
 }

@@ -1,0 +1,4 @@
+-- What the contracts of `report` cite.
+pub mod Text
+pub mod Pieces
+pub mod Report
