@@ -15,8 +15,13 @@ use Rattle.report.specs.Pieces.{puts, Puts}
 use Rattle.report.specs.Report.{countLine, countLines, told, reportText}
 use Rattle.report.proofs.Putting.{puts-then, fits}
 
-pub then : {t u : List ℕ} {a b : ℕ} {w x y : Written} → Puts t a w y → Puts u b y x → Puts (t ++ u) (a + b) w x
-then {t} {u} {w = w} p q = record { left = puts-then t u w (p .left) (q .left); short = omega (arith, length-append t u, p .short, q .short) }
+-- the line of a section, after the lines before it
+pub after : (name : List ℕ) (id : BspFileSectionId) (m : BspData) {t : List ℕ} {a b : ℕ} {w x y : Written}
+    → Puts t a w y → Puts (countLine name id m) b y x → Puts (t ++ countLine name id m) (a + b) w x
+after name id m {t} {w = w} p q = record {
+  left = puts-then t (countLine name id m) w (p .left) (q .left);
+  short = omega (arith, length-append t (countLine name id m), p .short, q .short);
+}
 
 -- the line of a section, by its count
 pub counted : (name : List ℕ) (id : BspFileSectionId) (m : BspData) {n k : ℕ} {w x : Written} → n ≡ recordCount id (sectionOf id m)

@@ -32,6 +32,6 @@ unfoldable pub told : Answer BspData → List ℕ
 told (answer m) = countLines m
 told (refused n) = line (ascii "refused ") n
 
--- the whole text: at most 65,536 bytes are a map
+-- the whole text; what is longer than 65,536 bytes is not loaded
 unfoldable pub reportText : List ℕ → List ℕ
 reportText input = when (ltb 65536 (length input)) (ascii "too long\n") (told (loadOf input))

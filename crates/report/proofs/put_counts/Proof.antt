@@ -1,8 +1,10 @@
 -- `put_counts` meets its contract: seven lines, each after the one before. Assumes nothing.
 use borrow.Author.Needs.{needs}
 use mathlib.Core.Path.{_∙_}
+use Rattle.format.specs.declared.section.BspFileSectionId.the-variants.{Entities, RenderNodes, Faces, CollisionNodes, Leaves, Models}
+use Rattle.report.specs.Text.{ascii}
 use Rattle.report.specs.Report.{countLines}
-use Rattle.report.proofs.Counting.{then}
+use Rattle.report.proofs.Counting.{after}
 use Rattle.report.proofs.put_counts.Statement.{statement}
 use Rattle.report.proofs.put_counts.Tie as tie
 
@@ -69,7 +71,20 @@ returns c =
     let l = d .before .before .before .before .before in
     let k = l .before .before .before .before .before in
     let j = k .before .before .before .before .before in
-    then (then (then (then (then (then (j .put-count .ensures) (k .put-count2 .ensures)) (l .put-count3 .ensures)) (d .put-count4 .ensures)) (e .put-count5 .ensures)) (f .put-count6 .ensures)) (g .put-count7 .ensures)
+    let m = j .before .before .before .before .args .map in
+    after (ascii "entities ") Entities m
+    (after (ascii "models ") Models m
+    (after (ascii "faces ") Faces m
+    (after (ascii "leaves ") Leaves m
+    (after (ascii "clipnodes ") CollisionNodes m
+    (after (ascii "nodes ") RenderNodes m
+    (j .put-count .ensures)
+    (k .put-count2 .ensures))
+    (l .put-count3 .ensures))
+    (d .put-count4 .ensures))
+    (e .put-count5 .ensures))
+    (f .put-count6 .ensures))
+    (g .put-count7 .ensures)
 
 pub put-counts-spec : {M : Type 1} → statement M
 put-counts-spec =
