@@ -1,313 +1,230 @@
--- The nodes of a trace are the node and then those of its parts: what fills the parts of a list fills the list.
+-- A part of a trace and the list that its nodes are written into: each way through `write_onward`, from what the calls for its parts answered.
 -- Assumes nothing.
-use Prim.Native.Nat.{ℕ, suc, _+_, _-_, min, _^_, _<_, _≤_}
-use mathlib.Core.Path.{_≡_, refl, sym, ap, ap₂, _∙_, subst}
-use mathlib.Core.Bool.{Bool, true, false, cond, not}
-use mathlib.Core.List.{List, [], _∷_, _++_, append-nil}
+use Prim.Native.Nat.{ℕ, suc, _+_, _-_, _^_, _<_, _≤_}
+use mathlib.Core.Path.{_≡_, refl, sym, ap, ap₂, _∙_}
+use mathlib.Core.Bool.{Bool, true, false, cond}
+use mathlib.Core.List.{List, [], _∷_, _++_}
 use native.Mathlib.Omega.{arith}
-use borrow.Author.Tests.{lt-ltb}
-use lib.ListN.{length, take, drop, set, length-append, length-drop}
-use lib.Seq.{take-all, length-take-le, take-at, drop-at}
-use borrow.Rule.Slice.PartMut.{midOf, putMid}
+use borrow.Author.Tests.{lt-ltb, ltb-true, ltb-false}
+use lib.Dec.{ltb}
+use lib.ListN.{length, set, length-set, length-append}
+use lib.Seq.{sets, length-sets, set-out}
+use Rattle.format.proofs.Answers.{mapped-answer, mapped-refused}
 use Rattle.format.specs.Answer as Ans
-use Rattle.format.specs.Answer.{Answer, answer}
+use Rattle.format.specs.Answer.{Answer, answer, mapped}
+use Rattle.format.specs.Refusal.{numberOf}
+use Rattle.format.specs.declared.refusal.Refusal.{Refusal}
+use Rattle.format.specs.declared.section.BspData.{BspData}
 use Rattle.format.specs.declared.contents.BspLeafContents.{BspLeafContents}
-use Rattle.math.specs.Plane as Pl
-use Rattle.math.specs.Vector as Vec
+use Rattle.math.specs.Vector.{zero32}
 use Rattle.math.specs.declared.Vector3.{Vector3}
-use Rattle.math.specs.declared.Hyperplane.{Hyperplane}
-use Rattle.math.specs.declared.PointIntersection.{PointIntersection as Crossing}
-use Rattle.math.specs.declared.LinePlaneIntersect.{LinePlaneIntersect}
-use Rattle.math.specs.declared.LinePlaneIntersect.the-variants.{NoIntersection, PointIntersection}
 use Rattle.phys.specs.Trace as Tr
 use Rattle.phys.specs.declared.Trace.{Trace as TraceT}
-use Rattle.walk.specs.Table.{Child, node, end, Node, Table, childOn}
-use Rattle.walk.specs.Walk.{Outcome, done, refused, entered, held, Entered, enter, meet, ended, onto}
-use Rattle.walk.specs.Trace.{joined, withFar, stops, nearOf, farOf, afterNear, withNear, across, traceAt, recursiveTrace, trace}
+use Rattle.phys.specs.declared.TraceStart.{TraceStart}
+use Rattle.phys.specs.declared.TraceEnd.{TraceEnd}
+use Rattle.walk.specs.Table.{Table}
+use Rattle.walk.specs.Walk.{Outcome, done, refused, entered, held, after, enter, meet, ended}
+use Rattle.walk.specs.Trace.{joined, withFar, traceAt, recursiveTrace, trace}
 use Rattle.walk.proofs.Steps.{trace-outside, trace-spent}
-use Rattle.format.specs.declared.section.BspData.{BspData}
-use Rattle.nodes.specs.Tables.{tableOf}
+use Rattle.nodes.specs.Tables.{End, tableOf}
 use Rattle.nodes.specs.Fast as Fast
-use Rattle.nodes.specs.Fast.{tablesOf}
+use Rattle.nodes.specs.Fast.{tablesOf, contentsMet}
 use Rattle.nodes.specs.declared.table.HullTable.{HullTable}
 use Rattle.nodes.specs.declared.table.Tables.{Tables}
+use Rattle.nodes.specs.declared.read.EndContents.{EndContents}
+use Rattle.nodes.specs.declared.read.EndContents.the-variants as E
 use Rattle.hull.proofs.Founds.{table-same}
-use Rattle.hull.specs.Traces.{stopsAt}
-use Rattle.entered.specs.Lists.{nodesEntered}
-use Rattle.entered.specs.Onward.{onwardTo, stepAcross, stepOf, Fills, nearFills, nodesFrom, nearCount}
+use Rattle.hull.specs.Traces.{stopsAt, joinedWith, joinFar, tracedAnswer}
+use Rattle.hull.specs.declared.tracing.Traced.{Traced}
+use Rattle.hull.specs.declared.tracing.Traced.the-variants as T
+use Rattle.entered.specs.Onward.{bothParts, part, followed, Steps, partOf, written, saysWith}
 use Rattle.entered.specs.declared.traced.Onward.{Onward}
 use Rattle.entered.specs.declared.traced.Onward.the-variants as O
 use Rattle.entered.specs.declared.traced.Step.{Step}
 use Rattle.entered.specs.declared.traced.Step.the-variants as S
 
-none-left : (l : List ℕ) → length l ≡ 0 → l ≡ []
-none-left [] h = refl
-none-left (x ∷ l) h = absurd (omega arith)
+-- ---- entries written one after the other
 
-module _ {E : Type 0} (T : Table E BspLeafContents) where
-  -- ---- a child
+sets-append : (ns ms l : List ℕ) (v : ℕ) → sets l v (ns ++ ms) ≡ sets (sets l v ns) (v + length ns) ms
+sets-append [] ms l v = ap (λ (k : ℕ). sets l k ms) {x = v} {y = v + 0} (omega arith)
+sets-append (n ∷ ns) ms l v =
+    sets-append ns ms (set l v n) (suc v) ∙ ap (λ (k : ℕ). sets (sets (set l v n) (suc v) ns) k ms) {x = suc v + length ns} {y = v + suc (length ns)} (omega arith)
 
-  module _ (k : ℕ) (s e : Vector3) (here : BspLeafContents → TraceT) where
-    abbrev go : ℕ → Outcome TraceT
-    go n = recursiveTrace T k n s e
+-- past the end nothing is written
+sets-past : (ns l : List ℕ) (v : ℕ) → length l ≤ v → sets l v ns ≡ l
+sets-past [] l v h = refl
+sets-past (n ∷ ns) l v h = ap (λ (m : List ℕ). sets m (suc v) ns) (set-out l v n h) ∙ sets-past ns l (suc v) (omega arith)
 
-    at-end : (a : Answer BspLeafContents) (l x : List ℕ) → Fills (answer []) l x → Fills (nodesEntered (ended T here a)) l x
-    at-end (answer c) l x f = f
-    at-end (Ans.refused n) l x f = tt
+-- a count that is held is past the end of every list
+sets-held : (ns l : List ℕ) (v : ℕ) → length l < 2 ^ 63 → sets l (held v) ns ≡ sets l v ns
+sets-held ns l v short = by-test (ltb v (2 ^ 63)) refl
+  where
+    by-test : (b : Bool) → ltb v (2 ^ 63) ≡ b → sets l (held v) ns ≡ sets l v ns
+    by-test true q = let h : v < 2 ^ 63 = ltb-true v (2 ^ 63) q in ap (λ (k : ℕ). sets l k ns) {x = held v} {y = v} (omega arith)
+    by-test false q = let h : 2 ^ 63 ≤ v = ltb-false v (2 ^ 63) q in sets-past ns l (held v) (omega arith) ∙ sym (sets-past ns l v (omega arith))
 
-    fills-onto : (c : Child E) (l x : List ℕ) → Fills (nodesFrom T k s e (onwardTo c)) l x → Fills (nodesEntered (onto T go here c)) l x
-    fills-onto (node n) l x f = f
-    fills-onto (end y) l x f = at-end (meet T y) l x f
+-- ---- a trace and the list
 
-    module _ (room : ℕ) (plain : (c : BspLeafContents) → stopsAt (here c) e ≡ not (Vec.same e e)) where
-      turned : (b : Bool) → cond b 0 room ≡ cond (not b) room (min (held 0) room)
-      turned true = omega arith
-      turned false = refl
+-- a node is entered
+written-entered : (v i : ℕ) (l : List ℕ) (o : Outcome TraceT) → written v l (entered i o) ≡ written (v + 1) (set l v i) o
+written-entered v i l (done a ns) =
+    let n : v + suc (length ns) ≡ v + 1 + length ns = omega arith in
+    let k : suc v ≡ v + 1 = omega arith in
+    ap₂ (λ (n k : ℕ). answer ((a, held n), sets (set l v i) k ns)) n k
+written-entered v i l (refused n) = refl
 
-      count-end : (a : Answer BspLeafContents) (y : TraceT) (ns : List ℕ) → ended T here a ≡ done y ns → cond (Vec.same e e) 0 room ≡ nearFills e room (done y ns)
-      count-end (answer c) y ns q =
-          turned (Vec.same e e) ∙ ap (λ (b : Bool). cond b room (min (held 0) room)) (sym (plain c)) ∙ ap (nearFills e room) q
-      count-end (Ans.refused n) y ns q = let z : _≡_ {A = ℕ} 0 1 = cc in absurd (omega arith)
+written-held : (v : ℕ) (l : List ℕ) → length l < 2 ^ 63 → (o : Outcome TraceT) → written (held v) l o ≡ written v l o
+written-held v l short (done a ns) =
+    ap₂ (λ (n : ℕ) (m : List ℕ). answer ((a, n), m)) {x = held (held v + length ns)} {y = held (v + length ns)} (omega arith) (sets-held ns l v short)
+written-held v l short (refused n) = refl
 
-      count-onto : (c : Child E) (y : TraceT) (ns : List ℕ) → onto T go here c ≡ done y ns → nearCount T k s e room (onwardTo c) ≡ nearFills e room (done y ns)
-      count-onto (node n) y ns q = ap (nearFills e room) q
-      count-onto (end z) y ns q = count-end (meet T z) y ns q
+written-done : (v : ℕ) (l : List ℕ) (o : Outcome TraceT) (a : TraceT) (w : ℕ) (m : List ℕ) → answer ((a, w), m) ≡ written v l o
+    → (ns : List ℕ) × (o ≡ done a ns) × (held (v + length ns) ≡ w) × (sets l v ns ≡ m)
+written-done v l (done b ns) a w m e =
+    let q : _≡_ {A = (TraceT × ℕ) × List ℕ} ((b, held (v + length ns)), sets l v ns) ((a, w), m) = cc in
+    (ns, ap (λ (x : (TraceT × ℕ) × List ℕ). done (x .0 .0) ns) q, ap (λ (x : (TraceT × ℕ) × List ℕ). x .0 .1) q, ap (λ (x : (TraceT × ℕ) × List ℕ). x .1) q)
+written-done v l (refused n) a w m e = let z : _≡_ {A = ℕ} 0 1 = cc in absurd (omega arith)
 
-  -- a near part fills no more than there are entries
-  module _ (k : ℕ) (s m : Vector3) (room : ℕ) where
-    either : (b : Bool) (x y : ℕ) → x ≤ room → y ≤ room → cond b x y ≤ room
-    either true x y f g = f
-    either false x y f g = g
+written-refused : (v : ℕ) (l : List ℕ) (o : Outcome TraceT) (n : ℕ) → Ans.refused n ≡ written v l o → o ≡ refused n
+written-refused v l (done b ns) n e = let z : _≡_ {A = ℕ} 0 1 = cc in absurd (omega arith)
+written-refused v l (refused m) n e = cc
 
-    fills-fit : (o : Outcome TraceT) → nearFills m room o ≤ room
-    fills-fit (done near ns) = either (stopsAt near m) room (min (held (length ns)) room) (omega arith) (omega arith)
-    fills-fit (refused n) = omega arith
+-- the far part joined on: its nodes are written after those of the near part
+module _ (y : TraceT) (u n : ℕ) (ns l m : List ℕ) (short : length l < 2 ^ 63) (is-n : held (u + length ns) ≡ n) (is-m : sets l u ns ≡ m) (x : List ℕ) where
+  after-near : (ms : List ℕ) → x ≡ sets m n ms → x ≡ sets l u (ns ++ ms)
+  after-near ms is-x =
+      is-x ∙ ap₂ (λ (a : List ℕ) (k : ℕ). sets a k ms) (sym is-m) (sym is-n)
+      ∙ sets-held ms (sets l u ns) (u + length ns) (omega (arith, length-sets l u ns)) ∙ sym (sets-append ns ms l u)
 
-    count-fits : (c : Onward) → nearCount T k s m room c ≤ room
-    count-fits (O.Node n) = fills-fit (recursiveTrace T k n s m)
-    count-fits O.End = either (Vec.same m m) 0 room (omega arith) (omega arith)
+  by-join : (ms : List ℕ) → x ≡ sets m n ms → (j : Answer TraceT) → mapped (λ (z : TraceT × ℕ). (z, x)) (joinedWith (held (n + length ms)) j) ≡ written u l (joined (ns ++ ms) j)
+  by-join ms is-x (answer z) =
+      ap₂ (λ (k : ℕ) (a : List ℕ). answer ((z, k), a)) {x = held (n + length ms)} {y = held (u + length (ns ++ ms))} (omega (arith, length-append ns ms)) (after-near ms is-x)
+  by-join ms is-x (Ans.refused k) = refl
 
-    pub count-below : (c : Onward) (n : ℕ) → n ≡ nearCount T k s m room c → n ≤ room
-    count-below c n q = subst (λ x. x ≤ room) (sym q) (count-fits c)
+  joins : (far : Outcome TraceT) (a : Answer (TraceT × ℕ)) → mapped (λ (z : TraceT × ℕ). (z, x)) a ≡ written n m far
+      → mapped (λ (z : TraceT × ℕ). (z, x)) (joinFar y a) ≡ written u l (withFar y ns far)
+  joins (done z ms) a q =
+      let k = mapped-answer (λ (z : TraceT × ℕ). (z, x)) a ((z, held (n + length ms)), sets m n ms) q in
+      let is-a : a ≡ answer (z, held (n + length ms)) = k .1 ∙ ap (λ (c : (TraceT × ℕ) × List ℕ). answer (c .0)) (k .2) in
+      ap (λ (b : Answer (TraceT × ℕ)). mapped (λ (z : TraceT × ℕ). (z, x)) (joinFar y b)) is-a
+      ∙ by-join ms (ap (λ (c : (TraceT × ℕ) × List ℕ). c .1) (k .2)) (Tr.join y z)
+  joins (refused k) a q =
+      ap (λ (b : Answer (TraceT × ℕ)). mapped (λ (z : TraceT × ℕ). (z, x)) (joinFar y b)) (mapped-refused (λ (z : TraceT × ℕ). (z, x)) a k q)
 
-  -- ---- a crossing
+-- ---- the trace in one leaf
 
-  module _ (k : ℕ) (nd : Node E) (h : Hyperplane) (s e : Vector3) (x : Crossing) where
-    abbrev call : ℕ → Vector3 → Vector3 → Outcome TraceT
-    call n a b = recursiveTrace T k n a b
+module _ (f : List ℕ) (t : Tables) (w v : ℕ) (a : TraceStart) (b : TraceEnd) (x : EndContents) (is-x : Fast.endAnswer x ≡ contentsMet f t w) where
+  abbrev in-leaf : Answer BspLeafContents → Outcome TraceT
+  in-leaf y = ended (Fast.table f t) (λ c. Tr.newTrace a b c) y
 
-    abbrev near : Outcome TraceT
-    near = nearOf T call nd h s e x
+  pub leaf-met : (c : BspLeafContents) → x ≡ E.Contents c → {y : TraceT} → y ≡ Tr.newTrace a b c → v < 2 ^ 64 → answer (y, v) ≡ after v (in-leaf (contentsMet f t w))
+  leaf-met c q is-y small =
+      let n : v ≡ held (v + 0) = omega arith in
+      ap₂ (λ (z : TraceT) (n : ℕ). answer (z, n)) is-y n ∙ ap (λ (z : Answer BspLeafContents). after v (in-leaf z)) (sym (ap Fast.endAnswer q) ∙ is-x)
 
-    abbrev far : Outcome TraceT
-    far = farOf T call nd h s e x
+  pub leaf-unmet : (z : Refusal) → x ≡ E.Refused z → Ans.refused (numberOf z) ≡ after v (in-leaf (contentsMet f t w))
+  leaf-unmet z q = ap (λ (y : Answer BspLeafContents). after v (in-leaf y)) (sym (ap Fast.endAnswer q) ∙ is-x)
 
-    module _ (l A B : List ℕ) (n : ℕ) (short : length l < 2 ^ 63) (as-long : length B ≡ length l - n) (in-A : Fills (nodesEntered near) (take n l) A) (in-B : Fills (nodesEntered far) (drop n l) B) (count : (y : TraceT) (ns : List ℕ) → near ≡ done y ns → n ≡ nearFills (x .point) (length l) (done y ns)) where
-      -- the near part fills all of the list
-      stopped : (ms : List ℕ) → (length ms ≡ length (take n l) → A ≡ ms) → n ≡ length l → length ms ≡ length l → A ++ B ≡ ms
-      stopped ms f q g =
-          ap₂ _++_ (f (g ∙ sym (ap length (take-all n l (omega arith))))) (none-left B (omega arith)) ∙ append-nil ms
+-- ---- the part that goes on to a child
 
-      -- both parts fill it
-      both : (ms ps : List ℕ) → (length ms ≡ length (take n l) → A ≡ ms) → (length ps ≡ length (drop n l) → B ≡ ps) → n ≡ min (held (length ms)) (length l)
-          → length (ms ++ ps) ≡ length l → A ++ B ≡ ms ++ ps
-      both ms ps f f′ q g =
-          let r : length ms + length ps ≡ length l = sym (length-append ms ps) ∙ g in
-          let n-is : n ≡ length ms = omega arith in
-          ap₂ _++_ (f (sym n-is ∙ sym (length-take-le n l (omega arith)))) (f′ (omega (arith, length-drop n l)))
+module _ (f : List ℕ) (t : Tables) (k v : ℕ) (l : List ℕ) (a : TraceStart) (b : TraceEnd) (c : Onward) where
+  abbrev table : Table End BspLeafContents
+  table = Fast.table f t
 
-      by-join : (y : TraceT) (ms ps : List ℕ) → (length ms ≡ length (take n l) → A ≡ ms) → (length ps ≡ length (drop n l) → B ≡ ps) → n ≡ min (held (length ms)) (length l)
-          → (j : Answer TraceT) → Fills (nodesEntered (joined (ms ++ ps) j)) l (A ++ B)
-      by-join y ms ps f f′ q (answer r) = both ms ps f f′ q
-      by-join y ms ps f f′ q (Ans.refused m) = tt
+  abbrev whole : Answer ((TraceT × ℕ) × List ℕ)
+  whole = written v l (partOf f t k a b c)
 
-      by-far : (y : TraceT) (ms : List ℕ) → (length ms ≡ length (take n l) → A ≡ ms) → n ≡ min (held (length ms)) (length l)
-          → (o : Outcome TraceT) → far ≡ o → Fills (nodesEntered (withFar y ms o)) l (A ++ B)
-      by-far y ms f q (done u ps) z = by-join y ms ps f (subst (λ o. Fills (nodesEntered o) (drop n l) B) z in-B) q (Tr.join y u)
-      by-far y ms f q (refused m) z = tt
+  -- to an end
+  in-one : (x : Answer BspLeafContents) → mapped (λ (z : TraceT × ℕ). (z, l)) (after v (ended table (λ y. Tr.newTrace a b y) x)) ≡ written v l (ended table (λ y. Tr.newTrace a b y) x)
+  in-one (answer y) = refl
+  in-one (Ans.refused n) = refl
 
-      by-stop : (y : TraceT) (ms : List ℕ) → near ≡ done y ms → (b : Bool) → stops y x ≡ b → Fills (nodesEntered (afterNear T call nd h s e x y ms b)) l (A ++ B)
-      by-stop y ms z true st =
-          stopped ms (subst (λ o. Fills (nodesEntered o) (take n l) A) z in-A)
-          (count y ms z ∙ ap (λ (b : Bool). cond b (length l) (min (held (length ms)) (length l))) st)
-      by-stop y ms z false st =
-          by-far y ms (subst (λ o. Fills (nodesEntered o) (take n l) A) z in-A)
-          (count y ms z ∙ ap (λ (b : Bool). cond b (length l) (min (held (length ms)) (length l))) st) far refl
+  pub at-end : (w : ℕ) → c ≡ O.End w → (r : Traced) → tracedAnswer r ≡ after v (ended table (λ y. Tr.newTrace a b y) (contentsMet f t w)) → saysWith l r ≡ whole
+  unfolding contentsMet
+  at-end w is-c r is-r =
+      ap (mapped (λ (z : TraceT × ℕ). (z, l))) is-r ∙ in-one (contentsMet f t w) ∙ sym (ap (λ (y : Onward). written v l (partOf f t k a b y)) is-c)
 
-      by-near : (o : Outcome TraceT) → near ≡ o → Fills (nodesEntered (withNear T call nd h s e x o)) l (A ++ B)
-      by-near (done y ms) z = by-stop y ms z (stops y x) refl
-      by-near (refused m) z = tt
+  -- to the node i
+  module _ (i : ℕ) (is-c : c ≡ O.Node i) where
+    at-node : written v l (recursiveTrace table k i (a .point) (b .point)) ≡ whole
+    at-node = sym (ap (λ (y : Onward). written v l (partOf f t k a b y)) is-c)
 
-    -- a near part that ends in a leaf ends at the crossing
-    abbrev out-of : BspLeafContents → TraceT
-    out-of c = Tr.newTrace (Tr.start s Vec.zero32) (Tr.boundary (x .point) (x .ratio) (Pl.facing (Pl.pointSide h s) h)) c
+    pub outside : t .nodes .count ≤ i → Ans.refused 30 ≡ whole
+    outside h = sym (ap (written v l) (trace-outside table (a .point) (b .point) k i h)) ∙ at-node
 
-    ends-there : (c : BspLeafContents) → stopsAt (out-of c) (x .point) ≡ not (Vec.same (x .point) (x .point))
-    ends-there c = refl
+    module _ (h : i < t .nodes .count) where
+      pub spent : k ≡ 0 → Ans.refused 32 ≡ whole
+      spent z = sym (ap (written v l) (trace-spent table (a .point) (b .point) k i z h)) ∙ at-node
 
-    crossing-fills : (l A B : List ℕ) (n : ℕ) → length l < 2 ^ 63 → length B ≡ length l - n
-        → n ≡ nearCount T k s (x .point) (length l) (onwardTo (childOn nd (Pl.pointSide h s)))
-        → Fills (nodesFrom T k s (x .point) (onwardTo (childOn nd (Pl.pointSide h s)))) (take n l) A
-        → Fills (nodesFrom T k (x .point) e (onwardTo (childOn nd (Pl.pointSide h e)))) (drop n l) B
-        → Fills (nodesEntered (withNear T call nd h s e x near)) l (A ++ B)
-    crossing-fills l A B n short as-long is-n f f′ =
-        by-near l A B n short as-long
-        (fills-onto k s (x .point) out-of (childOn nd (Pl.pointSide h s)) (take n l) A f)
-        (fills-onto k (x .point) e (λ c. Tr.newTrace (Tr.start (x .point) (x .ratio)) (Tr.terminal e) c) (childOn nd (Pl.pointSide h e)) (drop n l) B f′)
-        (λ y ns q. is-n ∙ count-onto k s (x .point) out-of (length l) ends-there (childOn nd (Pl.pointSide h s)) y ns q)
-        near refl
+      module _ (more : k ≡ 0 → ⊥) (short : length l < 2 ^ 63) (l1 : List ℕ) (is-l1 : l1 ≡ set l v i) (u : ℕ) (is-u : u ≡ held (v + 1)) (st : TraceStart) (is-st : st ≡ Tr.start (a .point) zero32) (en : TraceEnd) (is-en : en ≡ Tr.terminal (b .point)) (r : Step) (is-r : Steps f t i (a .point) (b .point) r) where
+        abbrev go : ℕ → Vector3 → Vector3 → Outcome TraceT
+        go n s e = recursiveTrace table (k - 1) n s e
 
-  -- ---- at a node
+        step : recursiveTrace table k i (a .point) (b .point) ≡ traceAt table go i (a .point) (b .point) (enter table i)
+        unfolding recursiveTrace
+        step = by-left (k - 1) (omega arith)
+          where
+            by-left : (j : ℕ) → k ≡ suc j → recursiveTrace table k i (a .point) (b .point) ≡ traceAt table (λ n s e. recursiveTrace table j n s e) i (a .point) (b .point) (enter table i)
+            by-left j p = rw p (simp (lt-ltb i (t .nodes .count) h))
 
-  module _ (k i : ℕ) (s e : Vector3) where
-    abbrev deeper : ℕ → Vector3 → Vector3 → Outcome TraceT
-    deeper n a b = recursiveTrace T k n a b
+        short1 : length l1 < 2 ^ 63
+        short1 = omega (arith, ap length is-l1, length-set l v i)
 
-    -- the node is the first entry
-    fills-entered : (o : Outcome TraceT) (y : ℕ) (l x : List ℕ) → Fills (nodesEntered o) l x → Fills (nodesEntered (entered i o)) (y ∷ l) (i ∷ x)
-    fills-entered (done a ns) y l x f = λ g. ap (λ (z : List ℕ). i ∷ z) (f (omega arith))
-    fills-entered (refused n) y l x f = tt
+        says : (x : Step) → r ≡ x → written u l1 (followed f t go (a .point) (b .point) x) ≡ whole
+        says x q =
+            ap₂ (λ (n : ℕ) (m : List ℕ). written n m (followed f t go (a .point) (b .point) x)) is-u is-l1
+            ∙ written-held (v + 1) (set l v i) (omega (arith, length-set l v i)) (followed f t go (a .point) (b .point) x)
+            ∙ sym (written-entered v i l (followed f t go (a .point) (b .point) x))
+            ∙ ap (λ (y : Step). written v l (entered i (followed f t go (a .point) (b .point) y))) (sym q)
+            ∙ ap (written v l) (is-r go ∙ sym step) ∙ at-node
 
-    whole-segment : (nd : Node E) (h : Hyperplane) (z : LinePlaneIntersect) (c : Onward) → S.Whole c ≡ stepAcross nd h s e z → (l x : List ℕ)
-        → Fills (nodesFrom T k s e c) l x → Fills (nodesEntered (across T deeper nd h s e z)) l x
-    whole-segment nd h (NoIntersection side) c q l x f =
-        let d : c ≡ onwardTo (childOn nd side) = cc in
-        fills-onto k s e (λ c. Tr.newTrace (Tr.start s Vec.zero32) (Tr.terminal e) c) (childOn nd side) l x (subst (λ y. Fills (nodesFrom T k s e y) l x) d f)
-    whole-segment nd h (PointIntersection p) c q l x f = let z : _≡_ {A = ℕ} 0 1 = cc in absurd (omega arith)
+        pub unread : (x : Refusal) → r ≡ S.Refused x → Ans.refused (numberOf x) ≡ whole
+        unread x q = says (S.Refused x) q
 
-    whole-step : (a : Answer (Entered E)) (c : Onward) → S.Whole c ≡ stepOf s e a → (y : ℕ) (l x : List ℕ)
-        → Fills (nodesFrom T k s e c) l x → Fills (nodesEntered (traceAt T deeper i s e a)) (y ∷ l) (i ∷ x)
-    whole-step (answer m) c q y l x f =
-        fills-entered (across T deeper (m .nd) (m .plane) s e (Pl.lineSegment (m .plane) s e)) y l x
-        (whole-segment (m .nd) (m .plane) (Pl.lineSegment (m .plane) s e) c q l x f)
-    whole-step (Ans.refused n) c q y l x f = tt
+        pub one-child : (c1 : Onward) → r ≡ S.Whole c1 → (x : List ℕ) (p : Traced) → saysWith x p ≡ written u l1 (partOf f t (k - 1) st en c1) → saysWith x p ≡ whole
+        one-child c1 q x p is-p =
+            is-p ∙ ap₂ (λ (y : TraceStart) (z : TraceEnd). written u l1 (partOf f t (k - 1) y z c1)) is-st is-en ∙ says (S.Whole c1) q
 
-    unread-step : (a : Answer (Entered E)) → S.Refused ≡ stepOf s e a → (l x : List ℕ) → Fills (nodesEntered (traceAt T deeper i s e a)) l x
-    unread-step (answer m) q l x = at-segment (Pl.lineSegment (m .plane) s e) q
-      where
-        at-segment : (z : LinePlaneIntersect) → S.Refused ≡ stepAcross (m .nd) (m .plane) s e z → Fills (nodesEntered (entered i (across T deeper (m .nd) (m .plane) s e z))) l x
-        at-segment (NoIntersection side) q = let z : _≡_ {A = ℕ} 0 1 = cc in absurd (omega arith)
-        at-segment (PointIntersection p) q = let z : _≡_ {A = ℕ} 0 1 = cc in absurd (omega arith)
-    unread-step (Ans.refused n) q l x = tt
+        -- a crossing: the near part, then the far part
+        module _ (c1 c2 : Onward) (to : TraceEnd) (from : TraceStart) (is-x : r ≡ S.Crossing c1 to from c2) (l2 : List ℕ) (p : Traced) (is-p : saysWith l2 p ≡ written u l1 (partOf f t (k - 1) st to c1)) where
+          abbrev near : Outcome TraceT
+          near = partOf f t (k - 1) st to c1
 
-    module _ (c c′ : Onward) (mid : Vector3) (l A B : List ℕ) (n : ℕ) (short : length l < 2 ^ 63) (as-long : length B ≡ length l - n) (is-n : n ≡ nearCount T k s mid (length l) c) (in-A : Fills (nodesFrom T k s mid c) (take n l) A) (in-B : Fills (nodesFrom T k mid e c′) (drop n l) B) where
-      crossing-segment : (nd : Node E) (h : Hyperplane) (z : LinePlaneIntersect) → S.Crossing c c′ mid ≡ stepAcross nd h s e z
-          → Fills (nodesEntered (across T deeper nd h s e z)) l (A ++ B)
-      crossing-segment nd h (NoIntersection side) q = let z : _≡_ {A = ℕ} 0 1 = cc in absurd (omega arith)
-      crossing-segment nd h (PointIntersection p) q =
-          let d : c ≡ onwardTo (childOn nd (Pl.pointSide h s)) = cc in
-          let d′ : c′ ≡ onwardTo (childOn nd (Pl.pointSide h e)) = cc in
-          let m : mid ≡ p .point = cc in
-          crossing-fills k nd h s e p l A B n short as-long
-          (is-n ∙ ap₂ (λ a b. nearCount T k s a (length l) b) m d)
-          (subst (λ b. Fills (nodesFrom T k s (p .point) b) (take n l) A) d (subst (λ a. Fills (nodesFrom T k s a c) (take n l) A) m in-A))
-          (subst (λ b. Fills (nodesFrom T k (p .point) e b) (drop n l) B) d′ (subst (λ a. Fills (nodesFrom T k a e c′) (drop n l) B) m in-B))
+          abbrev far : Outcome TraceT
+          far = partOf f t (k - 1) from en c2
 
-      crossing-step : (a : Answer (Entered E)) → S.Crossing c c′ mid ≡ stepOf s e a → (y : ℕ) → Fills (nodesEntered (traceAt T deeper i s e a)) (y ∷ l) (i ∷ (A ++ B))
-      crossing-step (answer m) q y =
-          fills-entered (across T deeper (m .nd) (m .plane) s e (Pl.lineSegment (m .plane) s e)) y l (A ++ B)
-          (crossing-segment (m .nd) (m .plane) (Pl.lineSegment (m .plane) s e) q)
-      crossing-step (Ans.refused n) q y = tt
+          crossed : written u l1 (bothParts (to .point) near far) ≡ whole
+          crossed =
+              ap₂ (λ (y : TraceStart) (z : TraceEnd). written u l1 (bothParts (to .point) (partOf f t (k - 1) y to c1) (partOf f t (k - 1) from z c2))) is-st is-en
+              ∙ says (S.Crossing c1 to from c2) is-x
 
--- ---- two parts put back into a list, one after the other
+          pub near-refused : (z : Refusal) → p ≡ T.Refused z → saysWith l2 p ≡ whole
+          near-refused z q =
+              ap (saysWith l2) q
+              ∙ sym (ap (λ (o : Outcome TraceT). written u l1 (bothParts (to .point) o far)) (written-refused u l1 near (numberOf z) (sym (ap (saysWith l2) q) ∙ is-p)))
+              ∙ crossed
 
-module _ (i n : ℕ) (m A : List ℕ) (as-many : length A ≡ n) where
-  abbrev one-back : List ℕ
-  one-back = i ∷ (A ++ drop n m)
+          module _ (y : TraceT) (n : ℕ) (is-y : p ≡ T.Trace y n) (st? : Bool) (is-st? : st? ≡ stopsAt y (to .point)) where
+            near-done : (ns : List ℕ) × (near ≡ done y ns) × (held (u + length ns) ≡ n) × (sets l1 u ns ≡ l2)
+            near-done = written-done u l1 near y n l2 (sym (ap (saysWith l2) is-y) ∙ is-p)
 
-  second : (j : ℕ) → length m - n ≤ j → take j (drop (suc n) one-back) ≡ drop n m
-  second j h = ap (take j) (drop-at A (drop n m) n as-many) ∙ take-all j (drop n m) (omega (arith, length-drop n m))
+            passed : (q : Bool) → st? ≡ q → written u l1 (cond q (done y (near-done .0)) (withFar y (near-done .0) far)) ≡ whole
+            passed q e =
+                ap (λ (z : Bool). written u l1 (cond z (done y (near-done .0)) (withFar y (near-done .0) far))) (sym e ∙ is-st?)
+                ∙ sym (ap (λ (o : Outcome TraceT). written u l1 (bothParts (to .point) o far)) (near-done .1)) ∙ crossed
 
-  both-back : (j : ℕ) → length m - n ≤ j → (B : List ℕ) → take (suc n) one-back ++ (B ++ drop j (drop (suc n) one-back)) ≡ i ∷ (A ++ B)
-  both-back j h B =
-      ap₂ (λ x y. (i ∷ x) ++ (B ++ y)) (take-at A (drop n m) n as-many) (ap (drop j) (drop-at A (drop n m) n as-many) ∙ none-left (drop j (drop n m)) (omega (arith, length-drop j (drop n m), length-drop n m)))
-      ∙ ap (λ (x : List ℕ). i ∷ (A ++ x)) (append-nil B)
+            pub near-stops : st? ≡ true → answer ((y, n), l2) ≡ whole
+            near-stops e = sym (ap (saysWith l2) is-y) ∙ is-p ∙ ap (written u l1) (near-done .1) ∙ passed true e
 
-  long-enough : length m - n ≤ length one-back - suc n
-  long-enough = omega (arith, length-append A (drop n m), length-drop n m)
-
--- ---- each way through `write_onward`
-
--- an end has no node
-pub none-to-fill : {E : Type 0} (T : Table E BspLeafContents) (k : ℕ) (s e : Vector3) (c : Onward) → c ≡ O.End → (l : List ℕ) → Fills (nodesFrom T k s e c) l l
-none-to-fill T k s e c is-c l = subst (λ y. Fills (nodesFrom T k s e y) l l) (sym is-c) (λ g. none-left l (sym g))
-
--- at a child that is the node i
-
-module _ {E : Type 0} (T : Table E BspLeafContents) (k i : ℕ) (s e : Vector3) (c : Onward) (is-c : c ≡ O.Node i) where
-  from-node : (l x : List ℕ) → Fills (nodesEntered (recursiveTrace T k i s e)) l x → Fills (nodesFrom T k s e c) l x
-  from-node l x f = subst (λ y. Fills (nodesFrom T k s e y) l x) (sym is-c) f
-
-  pub outside : T .nodes .count ≤ i → (l x : List ℕ) → Fills (nodesFrom T k s e c) l x
-  outside h l x = from-node l x (subst (λ o. Fills (nodesEntered o) l x) (sym (trace-outside T s e k i h)) tt)
-
-  module _ (h : i < T .nodes .count) where
-    pub spent : k ≡ 0 → (l x : List ℕ) → Fills (nodesFrom T k s e c) l x
-    spent z l x = from-node l x (subst (λ o. Fills (nodesEntered o) l x) (sym (trace-spent T s e k i z h)) tt)
-
-    module _ (left : k ≡ 0 → ⊥) where
-      abbrev next : ℕ → Vector3 → Vector3 → Outcome TraceT
-      next n a b = recursiveTrace T (k - 1) n a b
-
-      at-node : (l x : List ℕ) → Fills (nodesEntered (traceAt T next i s e (enter T i))) l x → Fills (nodesFrom T k s e c) l x
-      unfolding recursiveTrace
-      at-node l x f = from-node l x (subst (λ o. Fills (nodesEntered o) l x) (sym (by-left (k - 1) (omega arith))) f)
-        where
-          by-left : (j : ℕ) → k ≡ suc j → recursiveTrace T k i s e ≡ traceAt T (λ n a b. recursiveTrace T j n a b) i s e (enter T i)
-          by-left j p = rw p (simp (lt-ltb i (T .nodes .count) h))
-
-      -- a list with no entry holds no node
-      pub no-entry : (l : List ℕ) → length l ≡ 0 → (x : List ℕ) → Fills (nodesFrom T k s e c) l x
-      no-entry l z x = at-node l x (by-entered (enter T i))
-        where
-          by-outcome : (o : Outcome TraceT) → Fills (nodesEntered (entered i o)) l x
-          by-outcome (done a ns) = λ g. absurd (omega arith)
-          by-outcome (refused n) = tt
-
-          by-entered : (a : Answer (Entered E)) → Fills (nodesEntered (traceAt T next i s e a)) l x
-          by-entered (answer m) = by-outcome (across T next (m .nd) (m .plane) s e (Pl.lineSegment (m .plane) s e))
-          by-entered (Ans.refused n) = tt
-
-      module _ (r : Step) (is-r : r ≡ stepOf s e (enter T i)) where
-        pub not-read : r ≡ S.Refused → (l x : List ℕ) → Fills (nodesFrom T k s e c) l x
-        not-read q l x = at-node l x (unread-step T (k - 1) i s e (enter T i) (sym q ∙ is-r) l x)
-
-        pub one-child : (only : Onward) → r ≡ S.Whole only → (l : List ℕ) → (length l ≡ 0 → ⊥) → (X : List ℕ)
-            → Fills (nodesFrom T (k - 1) s e only) (midOf 1 (length (set l 0 i) - 1) (set l 0 i)) X
-            → Fills (nodesFrom T k s e c) l (putMid 1 (length (set l 0 i) - 1) (set l 0 i) X)
-        one-child only q [] z X f = absurd (z refl)
-        one-child only q (y ∷ m) z X f =
-            let j : suc (length m) - 1 ≡ length m = omega arith in
-            at-node (y ∷ m) (putMid 1 (suc (length m) - 1) (i ∷ m) X)
-            (subst (λ x. Fills (nodesEntered (traceAt T next i s e (enter T i))) (y ∷ m) (i ∷ x)) (sym (ap (λ (x : List ℕ). X ++ x) (none-left (drop (suc (length m) - 1) m) (omega (arith, length-drop (suc (length m) - 1) m))) ∙ append-nil X))
-            (whole-step T (k - 1) i s e (enter T i) only (sym q ∙ is-r) y m X (subst (λ x. Fills (nodesFrom T (k - 1) s e only) x X) (take-all (suc (length m) - 1) m (omega arith)) f)))
-
-        pub two-children : (near far : Onward) (mid : Vector3) → r ≡ S.Crossing near far mid → (l : List ℕ) → (length l ≡ 0 → ⊥) → length l < 2 ^ 63
-            → (n : ℕ) → n ≡ nearCount T (k - 1) s mid (length (set l 0 i) - 1) near
-            → (A : List ℕ) → length A ≡ length (midOf 1 (1 + n - 1) (set l 0 i)) → Fills (nodesFrom T (k - 1) s mid near) (midOf 1 (1 + n - 1) (set l 0 i)) A
-            → (M : List ℕ) → M ≡ putMid 1 (1 + n - 1) (set l 0 i) A
-            → (B : List ℕ) → length B ≡ length (midOf (1 + n) (length M - (1 + n)) M) → Fills (nodesFrom T (k - 1) mid e far) (midOf (1 + n) (length M - (1 + n)) M) B
-            → Fills (nodesFrom T k s e c) l (putMid (1 + n) (length M - (1 + n)) M B)
-        two-children near far mid q [] z short n is-n A len-A in-A M is-M B len-B in-B = absurd (z refl)
-        two-children near far mid q (y ∷ m) z short n is-n A len-A in-A M is-M B len-B in-B =
-            let below : 1 + n - 1 ≡ n = omega arith in
-            let above : 1 + n ≡ suc n = omega arith in
-            let room : suc (length m) - 1 ≡ length m = omega arith in
-            let count : n ≡ nearCount T (k - 1) s mid (length m) near = is-n ∙ ap (λ (x : ℕ). nearCount T (k - 1) s mid x near) room in
-            let fits : n ≤ length m = count-below T (k - 1) s mid (length m) near n count in
-            let as-many : length A ≡ n = len-A ∙ ap (λ (x : ℕ). length (take x m)) below ∙ length-take-le n m fits in
-            let M-is : M ≡ one-back i n m A as-many = is-M ∙ ap (λ (x : ℕ). i ∷ (A ++ drop x m)) below in
-            let part : midOf (1 + n) (length M - (1 + n)) M ≡ drop n m = ap₂ (λ a x. take (length x - a) (drop a x)) above M-is ∙ second i n m A as-many (length (one-back i n m A as-many) - suc n) (long-enough i n m A as-many) in
-            let whole : putMid (1 + n) (length M - (1 + n)) M B ≡ i ∷ (A ++ B) = ap₂ (λ a x. putMid a (length x - a) x B) above M-is ∙ both-back i n m A as-many (length (one-back i n m A as-many) - suc n) (long-enough i n m A as-many) B in
-            at-node (y ∷ m) (putMid (1 + n) (length M - (1 + n)) M B)
-            (subst (λ x. Fills (nodesEntered (traceAt T next i s e (enter T i))) (y ∷ m) x) (sym whole)
-            (crossing-step T (k - 1) i s e near far mid m A B n (omega arith) (len-B ∙ ap length part ∙ length-drop n m) count
-            (subst (λ x. Fills (nodesFrom T (k - 1) s mid near) x A) (ap (λ (x : ℕ). take x m) below) in-A)
-            (subst (λ x. Fills (nodesFrom T (k - 1) mid e far) x B) part in-B)
-            (enter T i) (sym q ∙ is-r) y))
+            pub both : st? ≡ false → (x : List ℕ) (w : Traced) → saysWith x w ≡ written n l2 far → (res : Traced) → tracedAnswer res ≡ joinFar y (tracedAnswer w) → saysWith x res ≡ whole
+            both e x w is-w res is-res =
+                ap (mapped (λ (z : TraceT × ℕ). (z, x))) is-res
+                ∙ joins y u n (near-done .0) l1 l2 short1 (near-done .2) (near-done .3) x far (tracedAnswer w) is-w ∙ passed false e
 
 -- ---- the trace through a hull, with the tables that the readers go by
 
-pub in-hull : (f : List ℕ) (m : BspData) (tab : HullTable) (mins maxs : Vector3) (t : Tables) → t ≡ tablesOf m tab mins maxs → (root : ℕ) (s e : Vector3) (l x : List ℕ)
-    → Fills (nodesEntered (trace (Fast.table f t) root s e)) l x → Fills (nodesEntered (trace (tableOf f m tab mins maxs) root s e)) l x
-in-hull f m tab mins maxs t is-t root s e l x g = subst (λ T. Fills (nodesEntered (trace T root s e)) l x) (table-same f m tab mins maxs t is-t) g
+pub in-hull : (f : List ℕ) (m : BspData) (tab : HullTable) (mins maxs : Vector3) (t : Tables) → t ≡ tablesOf m tab mins maxs
+    → (a : TraceStart) (s : Vector3) → a ≡ Tr.start s zero32 → (b : TraceEnd) (e : Vector3) → b ≡ Tr.terminal e → (root : ℕ) (l : List ℕ)
+    → written 0 l (partOf f t 512 a b (O.Node root)) ≡ written 0 l (trace (tableOf f m tab mins maxs) root s e)
+in-hull f m tab mins maxs t is-t a s is-a b e is-b root l =
+    rw (is-a, is-b) (ap (λ (T : Table End BspLeafContents). written 0 l (trace T root s e)) (table-same f m tab mins maxs t is-t))

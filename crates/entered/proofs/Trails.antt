@@ -40,8 +40,7 @@ use Rattle.nodes.specs.declared.read.ReadWords.the-variants.{Words, Refused}
 use Rattle.nodes.specs.declared.read.Sided.{Sided}
 use Rattle.nodes.specs.declared.read.Sided.the-variants as S
 use Rattle.nodes.proofs.Entering.{child-node, child-end, enter-not, enter-is, enter-no-plane}
-use Rattle.entered.specs.Onward.{Fills}
-use Rattle.entered.proofs.Listing.{too-short, filled}
+use Rattle.entered.proofs.Listing.{Fills, too-short, filled}
 use Rattle.entered.specs.Lists.{nodesEntered, nodeOr0, onward, next, trail, trailFrom}
 
 module _ {E A : Type 0} (T : Table E A) (p : Vector3) where

@@ -1,67 +1,80 @@
--- For the private contracts of `traced`: what a segment does at a node, and the nodes that a trace enters from a child on.
-use Prim.Native.Nat.{ℕ, min}
+-- For the private contracts of `traced`: the part of a trace that goes on to a child, what a segment does at a node, and a trace with the list that its
+-- nodes are written into.
+use Prim.Native.Nat.{ℕ, _+_}
 use mathlib.Core.Path.{_≡_}
 use mathlib.Core.Bool.{cond}
-use mathlib.Core.List.{List, []}
+use mathlib.Core.List.{List}
 use lib.Dec.{ltb}
 use lib.ListN.{length}
+use lib.Seq.{sets}
 use Rattle.format.specs.Answer as Ans
-use Rattle.format.specs.Answer.{Answer, answer}
-use Rattle.format.specs.declared.contents.BspLeafContents.{BspLeafContents}
-use Rattle.math.specs.Vector as Vec
-use Rattle.math.specs.Plane as Pl
+use Rattle.format.specs.Answer.{Answer, answer, mapped}
+use Rattle.format.specs.Refusal.{numberOf}
+use Rattle.math.specs.Vector.{zero32}
 use Rattle.math.specs.declared.Vector3.{Vector3}
-use Rattle.math.specs.declared.Hyperplane.{Hyperplane}
-use Rattle.math.specs.declared.LinePlaneIntersect.{LinePlaneIntersect}
-use Rattle.math.specs.declared.LinePlaneIntersect.the-variants.{NoIntersection, PointIntersection}
+use Rattle.phys.specs.Trace as Tr
 use Rattle.phys.specs.declared.Trace.{Trace}
-use Rattle.walk.specs.Table.{Child, node, end, Node, Table, childOn}
-use Rattle.walk.specs.Walk.{Outcome, done, refused, held, Entered}
-use Rattle.walk.specs.Trace.{recursiveTrace}
-use Rattle.hull.specs.Traces.{stopsAt}
-use Rattle.entered.specs.Lists.{nodesEntered}
+use Rattle.phys.specs.declared.TraceStart.{TraceStart}
+use Rattle.phys.specs.declared.TraceEnd.{TraceEnd}
+use Rattle.walk.specs.Table.{Child, node, end}
+use Rattle.walk.specs.Walk.{Outcome, done, refused, entered, held, enter, onto}
+use Rattle.walk.specs.Trace.{withFar, traceAt, recursiveTrace}
+use Rattle.nodes.specs.Tables.{End}
+use Rattle.nodes.specs.Fast as Fast
+use Rattle.nodes.specs.declared.table.HullTable.{HullTable}
+use Rattle.nodes.specs.declared.table.Tables.{Tables}
+use Rattle.hull.specs.Traces.{stopsAt, tracedAnswer}
+use Rattle.hull.specs.declared.tracing.Traced.{Traced}
 use Rattle.entered.specs.declared.traced.Onward.{Onward}
 use Rattle.entered.specs.declared.traced.Onward.the-variants as O
 use Rattle.entered.specs.declared.traced.Step.{Step}
 use Rattle.entered.specs.declared.traced.Step.the-variants as S
 
--- ---- at a node
+-- ---- a child
 
-abbrev pub onwardTo : {E : Type 0} → Child E → Onward
-onwardTo (node n) = O.Node n
-onwardTo (end e) = O.End
+abbrev pub childOf : HullTable → Onward → Child End
+childOf tab (O.Node n) = node n
+childOf tab (O.End w) = end (Fast.endOf tab w)
 
 -- the child that a word stands for
 abbrev pub wordOnward : ℕ → Onward
-wordOnward w = cond (ltb w 32768) (O.Node w) O.End
+wordOnward w = cond (ltb w 32768) (O.Node w) (O.End w)
 
-abbrev pub stepAcross : {E : Type 0} → Node E → Hyperplane → Vector3 → Vector3 → LinePlaneIntersect → Step
-stepAcross nd h s e (NoIntersection side) = S.Whole (onwardTo (childOn nd side))
-stepAcross nd h s e (PointIntersection x) =
-    S.Crossing (onwardTo (childOn nd (Pl.pointSide h s))) (onwardTo (childOn nd (Pl.pointSide h e))) (x .point)
+-- ---- the parts of a trace
 
-abbrev pub stepOf : {E : Type 0} → Vector3 → Vector3 → Answer (Entered E) → Step
-stepOf s e (answer m) = stepAcross (m .nd) (m .plane) s e (Pl.lineSegment (m .plane) s e)
-stepOf s e (Ans.refused n) = S.Refused
+-- the near part up to a crossing at m; then, unless the trace ends with it, the far one joined on
+abbrev pub bothParts : Vector3 → Outcome Trace → Outcome Trace → Outcome Trace
+bothParts m (done near ns) far = cond (stopsAt near m) (done near ns) (withFar near ns far)
+bothParts m (refused n) far = refused n
 
--- ---- from a child on, with k calls left
+-- `go n s e` is the trace from s to e below the node n
+module _ (f : List ℕ) (t : Tables) (go : ℕ → Vector3 → Vector3 → Outcome Trace) where
+  -- the part from a to b that goes on to a child: in a leaf it is one trace
+  abbrev pub part : TraceStart → TraceEnd → Onward → Outcome Trace
+  part a b c = onto (Fast.table f t) (λ n. go n (a .point) (b .point)) (λ x. Tr.newTrace a b x) (childOf (t .table) c)
 
--- a list of just so many entries is filled with these nodes
-abbrev pub Fills : Answer (List ℕ) → List ℕ → List ℕ → Type 0
-Fills (answer ns) l x = length ns ≡ length l → x ≡ ns
-Fills (Ans.refused n) l x = Unit {0}
+  -- the trace from s to e that goes on as a step says
+  abbrev pub followed : Vector3 → Vector3 → Step → Outcome Trace
+  followed s e (S.Whole c) = part (Tr.start s zero32) (Tr.terminal e) c
+  followed s e (S.Crossing c b a c′) = bothParts (b .point) (part (Tr.start s zero32) b c) (part a (Tr.terminal e) c′)
+  followed s e (S.Refused x) = refused (numberOf x)
 
--- how many entries, of so many, the near part of a crossing at m fills: all of them where the trace ends with it
-abbrev pub nearFills : Vector3 → ℕ → Outcome Trace → ℕ
-nearFills m room (done near ns) = cond (stopsAt near m) room (min (held (length ns)) room)
-nearFills m room (refused n) = room
+-- whatever the trace below a node is, the step at the node i goes on as the trace does
+abbrev pub Steps : List ℕ → Tables → ℕ → Vector3 → Vector3 → Step → Type 0
+Steps f t i s e r =
+    (go : ℕ → Vector3 → Vector3 → Outcome Trace) → entered i (followed f t go s e r) ≡ traceAt (Fast.table f t) go i s e (enter (Fast.table f t) i)
 
-module _ {E : Type 0} (T : Table E BspLeafContents) (k : ℕ) (s e : Vector3) where
-  abbrev pub nodesFrom : Onward → Answer (List ℕ)
-  nodesFrom (O.Node n) = nodesEntered (recursiveTrace T k n s e)
-  nodesFrom O.End = answer []
+-- the part from a to b with k calls left
+abbrev pub partOf : List ℕ → Tables → ℕ → TraceStart → TraceEnd → Onward → Outcome Trace
+partOf f t k a b c = part f t (λ n s e. recursiveTrace (Fast.table f t) k n s e) a b c
 
-  -- the near part from s to a crossing at e; a part that is an end stops only where that point is no number
-  abbrev pub nearCount : ℕ → Onward → ℕ
-  nearCount room (O.Node n) = nearFills e room (recursiveTrace T k n s e)
-  nearCount room O.End = cond (Vec.same e e) 0 room
+-- ---- a trace and the list
+
+-- where v nodes were entered before: the trace, the visits, and the list with the nodes written from its entry v on, as far as it goes
+abbrev pub written : ℕ → List ℕ → Outcome Trace → Answer ((Trace × ℕ) × List ℕ)
+written v l (done a ns) = answer ((a, held (v + length ns)), sets l v ns)
+written v l (refused n) = Ans.refused n
+
+-- what a call says, and the list after it; of a refusal the number alone
+abbrev pub saysWith : List ℕ → Traced → Answer ((Trace × ℕ) × List ℕ)
+saysWith l r = mapped (λ x. (x, l)) (tracedAnswer r)

@@ -1,10 +1,13 @@
 // The nodes that the trace of a segment enters.
 ghost use mathlib.Core.Path.{_≡_};
+ghost use lib.ListN.{set};
 ghost use Rattle.format.specs.Listed.{listed, into};
-ghost use Rattle.walk.specs.Walk.{enter};
+ghost use Rattle.phys.specs.Trace as Tr;
+ghost use Rattle.walk.specs.Walk.{after, ended};
 ghost use Rattle.walk.specs.Trace as Tracing;
 ghost use Rattle.nodes.specs.Fast as Fast;
 ghost use Rattle.hull.specs.Hull.{hullTable};
+ghost use Rattle.hull.specs.Traces.{tracedAnswer};
 ghost use Rattle.entered.specs.Lists as Lists;
 ghost use Rattle.entered.specs.Onward as Going;
 use crate::walked::EnteredAnswer;
@@ -12,32 +15,38 @@ use format::refusal::Refusal;
 use format::section::BspData;
 use hull::collision::BspCollisionHull;
 use hull::tracing::Traced;
-use hull::tracing::recursive_trace;
+use hull::tracing::join_far;
+use hull::tracing::one_more;
 use hull::tracing::stops;
 use hull::tracing::trace;
 use math::LinePlaneIntersect;
 use math::Vector3;
+use nodes::read::EndContents;
 use nodes::read::ReadWords;
 use nodes::read::Words;
+use nodes::read::end_contents;
 use nodes::read::is_front;
 use nodes::read::plane_at;
 use nodes::read::read_words;
 use nodes::table::Tables;
 use nodes::table::tables_of;
+use phys::Trace;
+use phys::TraceEnd;
+use phys::TraceStart;
 use records::plane::PlaneAnswer;
 
-// A child that a trace goes on to: a node, or an end, which adds no node.
+// A child that a trace goes on to: a node, or the end that a word stands for.
 pub enum Onward {
     Node(usize),
-    End,
+    End(u16),
 }
 
-// What a segment does at a node: it goes on to one child, or it crosses the plane and goes on to the near child and then, from the point
-// of the crossing, to the far one. Refused: the node or its plane can't be read.
+// What a segment does at a node: it goes on to one child; or it crosses the plane, and goes on to the near child up to the crossing and
+// from the crossing on to the far child. Refused: the node or its plane can't be read.
 pub enum Step {
     Whole(Onward),
-    Crossing(Onward, Onward, Vector3),
-    Refused,
+    Crossing(Onward, TraceEnd, TraceStart, Onward),
+    Refused(Refusal),
 }
 
 // The child on a side.
@@ -48,99 +57,95 @@ fn child_on(w: Words, front: bool) -> Onward
     if word < 32768 {
         return Onward::Node(word as usize);
     }
-    Onward::End
+    Onward::End(word)
 }
 
 fn step_at(s: &[u8], t: Tables, node: usize, start: Vector3, end: Vector3) -> Step
-    ensures { λ r. ⌜ r ≡ Going.stepOf start end (enter (Fast.table (now (s .entry)) t) node) ⌝ }
+    ensures { λ r. ⌜ Going.Steps (now (s .entry)) t node start end r ⌝ }
 {
     match read_words(s, t, node) {
-        ReadWords::Refused(_) => Step::Refused,
+        ReadWords::Refused(e) => Step::Refused(e),
         ReadWords::Words(w) => match plane_at(s, t, w.plane as usize) {
-            PlaneAnswer::Refused(_) => Step::Refused,
+            PlaneAnswer::Refused(e) => Step::Refused(e),
             PlaneAnswer::Value(plane) => match plane.line_segment_intersection(start, end) {
                 LinePlaneIntersect::NoIntersection(side) => {
                     Step::Whole(child_on(w, is_front(side)))
                 }
-                LinePlaneIntersect::PointIntersection(x) => Step::Crossing(
-                    child_on(w, is_front(plane.point_side(start))),
-                    child_on(w, is_front(plane.point_side(end))),
-                    x.point(),
-                ),
+                LinePlaneIntersect::PointIntersection(x) => {
+                    let side = plane.point_side(start);
+                    Step::Crossing(
+                        child_on(w, is_front(side)),
+                        TraceEnd::boundary(x.point, x.ratio, plane.facing(side)),
+                        TraceStart::new(x.point, x.ratio),
+                        child_on(w, is_front(plane.point_side(end))),
+                    )
+                }
             },
         },
     }
 }
 
-// How many of the next entries the near part of a crossing fills: all of them where the trace ends with it.
-fn near_count(
-    s: &[u8],
-    t: Tables,
-    child: Onward,
-    start: Vector3,
-    mid: Vector3,
-    left: u32,
-    room: usize,
-) -> usize
-    ensures { λ r. ⌜ r ≡ Going.nearCount (Fast.table (now (s .entry)) t) left start mid room child ⌝ }
+// The part of a trace that lies in one leaf, by the word of its end.
+fn in_leaf(s: &[u8], t: Tables, word: u16, from: TraceStart, to: TraceEnd, visits: u64) -> Traced
+    ensures { λ r. ⌜ tracedAnswer r ≡ after visits (ended (Fast.table (now (s .entry)) t) (λ c. Tr.newTrace from to c) (Fast.contentsMet (now (s .entry)) t word)) ⌝ }
 {
-    match child {
-        Onward::End => {
-            if mid.equals(mid) {
-                return 0;
-            }
-            room
-        }
-        Onward::Node(node) => match recursive_trace(s, t, node, start, mid, left, 0) {
-            Traced::Refused(_) => room,
-            Traced::Trace(near, visits) => {
-                if stops(near, mid) {
-                    return room;
-                }
-                if (room as u64) < visits {
-                    return room;
-                }
-                visits as usize
-            }
-        },
+    match end_contents(s, t, word) {
+        EndContents::Contents(c) => Traced::Trace(Trace::new(from, to, c), visits),
+        EndContents::Refused(e) => Traced::Refused(e),
     }
 }
 
-// Fills the list with the nodes that the trace enters from a child on, in their order, one node a call, where the list has just as many
-// entries. Each part of a crossing has its own entries of the list. How many the near part has, and whether the trace goes on after it, is
-// asked of `recursive_trace`: so a node is read once more for each crossing above it, and the time is at most 513 times the trace's.
+// Writes a node at its place, if the list has it.
+fn write_at(list: &mut [u32], place: u64, node: u32)
+    ensures { λ _. ⌜ now (list .exit) ≡ set (now (list .entry)) place node ⌝ }
+{
+    if place < (list.len() as u64) {
+        list[place as usize] = node;
+    }
+}
+
+// The part of a trace that goes on to a child, with the calls left and the nodes entered before; and each node that it enters is written
+// into the list as it is entered, as far as the list goes. So a node is read once: the time is the trace's.
 fn write_onward(
     s: &[u8],
     t: Tables,
     child: Onward,
-    start: Vector3,
-    end: Vector3,
+    from: TraceStart,
+    to: TraceEnd,
     left: u32,
+    visits: u64,
     list: &mut [u32],
-)
-    ensures { λ r. ⌜ Going.Fills (Going.nodesFrom (Fast.table (now (s .entry)) t) left start end child) (now (list .entry)) (now (list .exit)) ⌝ }
+) -> Traced
+    ensures { λ r. ⌜ Going.saysWith (now (list .exit)) r ≡ Going.written visits (now (list .entry)) (Going.partOf (now (s .entry)) t left from to child) ⌝ }
 {
-    let Onward::Node(node) = child else {
-        return;
-    };
-    let nodes = t.nodes;
-    if (nodes.count as usize) <= node {
-        return;
-    }
-    if left == 0 {
-        return;
-    }
-    if list.len() == 0 {
-        return;
-    }
-    list[0] = node as u32;
-    match step_at(s, t, node, start, end) {
-        Step::Refused => {}
-        Step::Whole(only) => write_onward(s, t, only, start, end, left - 1, &mut list[1..]),
-        Step::Crossing(near, far, mid) => {
-            let at = 1 + near_count(s, t, near, start, mid, left - 1, list.len() - 1);
-            write_onward(s, t, near, start, mid, left - 1, &mut list[1..at]);
-            write_onward(s, t, far, mid, end, left - 1, &mut list[at..]);
+    match child {
+        Onward::End(word) => in_leaf(s, t, word, from, to, visits),
+        Onward::Node(node) => {
+            if (t.nodes.count as usize) <= node {
+                return Traced::Refused(Refusal::IndexOutsideTable);
+            }
+            if left == 0 {
+                return Traced::Refused(Refusal::TooDeep);
+            }
+            write_at(list, visits, node as u32);
+            let v = one_more(visits);
+            let start = TraceStart::new(from.point, 0.0);
+            let end = TraceEnd::terminal(to.point);
+            match step_at(s, t, node, from.point, to.point) {
+                Step::Refused(e) => Traced::Refused(e),
+                Step::Whole(only) => write_onward(s, t, only, start, end, left - 1, v, list),
+                Step::Crossing(near, to_mid, from_mid, far) => {
+                    let part = write_onward(s, t, near, start, to_mid, left - 1, v, list);
+                    let Traced::Trace(near_trace, n) = part else {
+                        return part;
+                    };
+                    if stops(near_trace, to_mid.point) {
+                        return part;
+                    }
+                    let rest = write_onward(s, t, far, from_mid, end, left - 1, n, list);
+                    join_far(near_trace, rest)
+                }
+            }
         }
     }
 }
@@ -167,7 +172,9 @@ pub fn nodes_of_trace(
             let table = hull.table;
             let t = tables_of(map, table, hull.mins, hull.maxs);
             let root = Onward::Node(hull.node_id);
-            write_onward(s, t, root, start, end, 512, &mut list[..count]);
+            let from = TraceStart::new(start, 0.0);
+            let to = TraceEnd::terminal(end);
+            write_onward(s, t, root, from, to, 512, 0, list);
             EnteredAnswer::Count(count)
         }
     }

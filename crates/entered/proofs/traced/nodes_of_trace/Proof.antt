@@ -5,13 +5,12 @@ use mathlib.Core.List.{List}
 use native.Mathlib.Omega.{arith}
 use mathlib.Core.Path.{sym, ap, _∙_}
 use lib.ListN.{length}
-use lib.Seq.{length-take-le}
 use Rattle.phys.specs.declared.Trace.{Trace}
 use Rattle.walk.specs.Walk.{Outcome}
 use Rattle.walk.specs.Trace as Tracing
 use Rattle.hull.specs.Hull.{hullTable}
 use Rattle.hull.specs.Traces.{tracedAnswer}
-use Rattle.entered.proofs.Listing.{declined, too-short, filled}
+use Rattle.entered.proofs.Listing.{declined, too-short, traced-list}
 use Rattle.entered.proofs.Parts.{in-hull}
 use borrow.Author.Needs.{needs}
 use Rattle.entered.proofs.traced.nodes_of_trace.Statement.{statement}
@@ -43,11 +42,11 @@ returns c = let k = c .before .before .before .before .before in too-short (lent
 tables-of-requires : tie.Need-tables-of-requires
 tables-of-requires c κs = search needs
 
-slice-relend-prefix-write-onward : tie.Need-slice-relend-prefix-write-onward
-slice-relend-prefix-write-onward c = search needs
+new-requires : tie.Need-new-requires
+new-requires c κs = search needs
 
-slice-aggregate-write-onward : tie.Need-slice-aggregate-write-onward
-slice-aggregate-write-onward c = sym (length-take-le _ _ (c .before .before .if1 .left))
+terminal-requires : tie.Need-terminal-requires
+terminal-requires c κs = search needs
 
 write-onward-requires : tie.Need-write-onward-requires
 write-onward-requires c κs = search needs
@@ -59,7 +58,7 @@ same-length : tie.Need-same-length
 same-length c = search needs
 
 returns-3 : tie.Need-returns-3
-returns-3 c = let k = c .before .before .before .before .before .before .before .before .before .before in filled (lent k) _ _ (short k) (outcome k) (sym (ap tracedAnswer (c .before .before .before .before .before .before .before .visits .given .1)) ∙ c .before .before .before .before .before .before .before .before .before .trace .ensures) (c .before .before .before .before .before .if1 .left) _ (in-hull _ _ _ _ _ _ (c .before .before .before .before .tables-of .ensures) _ _ _ _ _ (c .before .before .write-onward .ensures))
+returns-3 c = let k = c .before .before .before .before .before .before .before .before .before .before .before .before in traced-list _ _ (lent k) (short k) (c .before .before .before .before .before .before .before .if1 .left) _ (c .before .before .write-onward .result) (outcome k) (sym (ap tracedAnswer (c .before .before .before .before .before .before .before .before .before .visits .given .1)) ∙ c .before .before .before .before .before .before .before .before .before .before .before .trace .ensures) (c .before .before .write-onward .ensures ∙ in-hull _ _ _ _ _ _ (c .before .before .before .before .before .before .tables-of .ensures) _ _ (c .before .before .before .before .before .new .ensures) _ _ (c .before .before .before .before .terminal .ensures) _ _)
 
 pub nodes-of-trace-spec : {M : Type 1} → statement M
 nodes-of-trace-spec =
@@ -70,8 +69,8 @@ nodes-of-trace-spec =
     enum-known-visits
     returns
     tables-of-requires
-    slice-relend-prefix-write-onward
-    slice-aggregate-write-onward
+    new-requires
+    terminal-requires
     write-onward-requires
     returns-2
     same-length
