@@ -40,6 +40,7 @@ use Rattle.hull.specs.declared.tracing.Traced.the-variants as T
 use Rattle.entered.specs.Onward.{bothParts, part, followed, Steps, partOf, written, saysWith}
 use Rattle.entered.specs.declared.traced.Onward.{Onward}
 use Rattle.entered.specs.declared.traced.Onward.the-variants as O
+use Rattle.entered.specs.declared.traced.Way.{Way}
 use Rattle.entered.specs.declared.traced.Step.{Step}
 use Rattle.entered.specs.declared.traced.Step.the-variants as S
 
@@ -113,11 +114,11 @@ module _ (y : TraceT) (u n : ℕ) (ns l m : List ℕ) (short : length l < 2 ^ 63
 
 -- ---- the trace in one leaf
 
-module _ (f : List ℕ) (t : Tables) (w v : ℕ) (a : TraceStart) (b : TraceEnd) (x : EndContents) (is-x : Fast.endAnswer x ≡ contentsMet f t w) where
+module _ (f : List ℕ) (t : Tables) (w v : ℕ) (way : Way) (x : EndContents) (is-x : Fast.endAnswer x ≡ contentsMet f t w) where
   abbrev in-leaf : Answer BspLeafContents → Outcome TraceT
-  in-leaf y = ended (Fast.table f t) (λ c. Tr.newTrace a b c) y
+  in-leaf y = ended (Fast.table f t) (λ c. Tr.newTrace (way .from) (way .to) c) y
 
-  pub leaf-met : (c : BspLeafContents) → x ≡ E.Contents c → {y : TraceT} → y ≡ Tr.newTrace a b c → v < 2 ^ 64 → answer (y, v) ≡ after v (in-leaf (contentsMet f t w))
+  pub leaf-met : (c : BspLeafContents) → x ≡ E.Contents c → {y : TraceT} → y ≡ Tr.newTrace (way .from) (way .to) c → v < 2 ^ 64 → answer (y, v) ≡ after v (in-leaf (contentsMet f t w))
   leaf-met c q is-y small =
       let n : v ≡ held (v + 0) = omega arith in
       ap₂ (λ (z : TraceT) (n : ℕ). answer (z, n)) is-y n ∙ ap (λ (z : Answer BspLeafContents). after v (in-leaf z)) (sym (ap Fast.endAnswer q) ∙ is-x)
@@ -127,91 +128,88 @@ module _ (f : List ℕ) (t : Tables) (w v : ℕ) (a : TraceStart) (b : TraceEnd)
 
 -- ---- the part that goes on to a child
 
-module _ (f : List ℕ) (t : Tables) (k v : ℕ) (l : List ℕ) (a : TraceStart) (b : TraceEnd) (c : Onward) where
+module _ (f : List ℕ) (t : Tables) (k v : ℕ) (l : List ℕ) (way : Way) (c : Onward) where
   abbrev table : Table End BspLeafContents
   table = Fast.table f t
 
   abbrev whole : Answer ((TraceT × ℕ) × List ℕ)
-  whole = written v l (partOf f t k a b c)
+  whole = written v l (partOf f t k way c)
 
   -- to an end
-  in-one : (x : Answer BspLeafContents) → mapped (λ (z : TraceT × ℕ). (z, l)) (after v (ended table (λ y. Tr.newTrace a b y) x)) ≡ written v l (ended table (λ y. Tr.newTrace a b y) x)
+  in-one : (x : Answer BspLeafContents) → mapped (λ (z : TraceT × ℕ). (z, l)) (after v (ended table (λ y. Tr.newTrace (way .from) (way .to) y) x)) ≡ written v l (ended table (λ y. Tr.newTrace (way .from) (way .to) y) x)
   in-one (answer y) = refl
   in-one (Ans.refused n) = refl
 
-  pub at-end : (w : ℕ) → c ≡ O.End w → (r : Traced) → tracedAnswer r ≡ after v (ended table (λ y. Tr.newTrace a b y) (contentsMet f t w)) → saysWith l r ≡ whole
+  pub at-end : (w : ℕ) → c ≡ O.End w → (r : Traced) → tracedAnswer r ≡ after v (ended table (λ y. Tr.newTrace (way .from) (way .to) y) (contentsMet f t w)) → saysWith l r ≡ whole
   unfolding contentsMet
   at-end w is-c r is-r =
-      ap (mapped (λ (z : TraceT × ℕ). (z, l))) is-r ∙ in-one (contentsMet f t w) ∙ sym (ap (λ (y : Onward). written v l (partOf f t k a b y)) is-c)
+      ap (mapped (λ (z : TraceT × ℕ). (z, l))) is-r ∙ in-one (contentsMet f t w) ∙ sym (ap (λ (y : Onward). written v l (partOf f t k way y)) is-c)
 
   -- to the node i
   module _ (i : ℕ) (is-c : c ≡ O.Node i) where
-    at-node : written v l (recursiveTrace table k i (a .point) (b .point)) ≡ whole
-    at-node = sym (ap (λ (y : Onward). written v l (partOf f t k a b y)) is-c)
+    at-node : written v l (recursiveTrace table k i (way .from .point) (way .to .point)) ≡ whole
+    at-node = sym (ap (λ (y : Onward). written v l (partOf f t k way y)) is-c)
 
     pub outside : t .nodes .count ≤ i → Ans.refused 30 ≡ whole
-    outside h = sym (ap (written v l) (trace-outside table (a .point) (b .point) k i h)) ∙ at-node
+    outside h = sym (ap (written v l) (trace-outside table (way .from .point) (way .to .point) k i h)) ∙ at-node
 
     module _ (h : i < t .nodes .count) where
       pub spent : k ≡ 0 → Ans.refused 32 ≡ whole
-      spent z = sym (ap (written v l) (trace-spent table (a .point) (b .point) k i z h)) ∙ at-node
+      spent z = sym (ap (written v l) (trace-spent table (way .from .point) (way .to .point) k i z h)) ∙ at-node
 
-      module _ (more : k ≡ 0 → ⊥) (short : length l < 2 ^ 63) (l1 : List ℕ) (is-l1 : l1 ≡ set l v i) (u : ℕ) (is-u : u ≡ held (v + 1)) (st : TraceStart) (is-st : st ≡ Tr.start (a .point) zero32) (en : TraceEnd) (is-en : en ≡ Tr.terminal (b .point)) (r : Step) (is-r : Steps f t i (a .point) (b .point) r) where
+      module _ (more : k ≡ 0 → ⊥) (short : length l < 2 ^ 63) (l1 : List ℕ) (is-l1 : l1 ≡ set l v i) (u : ℕ) (is-u : u ≡ held (v + 1)) (r : Step) (is-r : Steps f t i (way .from .point) (way .to .point) r) where
         abbrev go : ℕ → Vector3 → Vector3 → Outcome TraceT
         go n s e = recursiveTrace table (k - 1) n s e
 
-        step : recursiveTrace table k i (a .point) (b .point) ≡ traceAt table go i (a .point) (b .point) (enter table i)
+        step : recursiveTrace table k i (way .from .point) (way .to .point) ≡ traceAt table go i (way .from .point) (way .to .point) (enter table i)
         unfolding recursiveTrace
         step = by-left (k - 1) (omega arith)
           where
-            by-left : (j : ℕ) → k ≡ suc j → recursiveTrace table k i (a .point) (b .point) ≡ traceAt table (λ n s e. recursiveTrace table j n s e) i (a .point) (b .point) (enter table i)
+            by-left : (j : ℕ) → k ≡ suc j → recursiveTrace table k i (way .from .point) (way .to .point) ≡ traceAt table (λ n s e. recursiveTrace table j n s e) i (way .from .point) (way .to .point) (enter table i)
             by-left j p = rw p (simp (lt-ltb i (t .nodes .count) h))
 
         short1 : length l1 < 2 ^ 63
         short1 = omega (arith, ap length is-l1, length-set l v i)
 
-        says : (x : Step) → r ≡ x → written u l1 (followed f t go (a .point) (b .point) x) ≡ whole
+        says : (x : Step) → r ≡ x → written u l1 (followed f t go x) ≡ whole
         says x q =
-            ap₂ (λ (n : ℕ) (m : List ℕ). written n m (followed f t go (a .point) (b .point) x)) is-u is-l1
-            ∙ written-held (v + 1) (set l v i) (omega (arith, length-set l v i)) (followed f t go (a .point) (b .point) x)
-            ∙ sym (written-entered v i l (followed f t go (a .point) (b .point) x))
-            ∙ ap (λ (y : Step). written v l (entered i (followed f t go (a .point) (b .point) y))) (sym q)
+            ap₂ (λ (n : ℕ) (m : List ℕ). written n m (followed f t go x)) is-u is-l1
+            ∙ written-held (v + 1) (set l v i) (omega (arith, length-set l v i)) (followed f t go x)
+            ∙ sym (written-entered v i l (followed f t go x))
+            ∙ ap (λ (y : Step). written v l (entered i (followed f t go y))) (sym q)
             ∙ ap (written v l) (is-r go ∙ sym step) ∙ at-node
 
         pub unread : (x : Refusal) → r ≡ S.Refused x → Ans.refused (numberOf x) ≡ whole
         unread x q = says (S.Refused x) q
 
-        pub one-child : (c1 : Onward) → r ≡ S.Whole c1 → (x : List ℕ) (p : Traced) → saysWith x p ≡ written u l1 (partOf f t (k - 1) st en c1) → saysWith x p ≡ whole
-        one-child c1 q x p is-p =
-            is-p ∙ ap₂ (λ (y : TraceStart) (z : TraceEnd). written u l1 (partOf f t (k - 1) y z c1)) is-st is-en ∙ says (S.Whole c1) q
+        pub one-child : (c1 : Onward) (w1 : Way) → r ≡ S.Whole c1 w1 → (x : List ℕ) (p : Traced) → saysWith x p ≡ written u l1 (partOf f t (k - 1) w1 c1) → saysWith x p ≡ whole
+        one-child c1 w1 q x p is-p = is-p ∙ says (S.Whole c1 w1) q
 
         -- a crossing: the near part, then the far part
-        module _ (c1 c2 : Onward) (to : TraceEnd) (from : TraceStart) (is-x : r ≡ S.Crossing c1 to from c2) (l2 : List ℕ) (p : Traced) (is-p : saysWith l2 p ≡ written u l1 (partOf f t (k - 1) st to c1)) where
+        module _ (c1 : Onward) (w1 : Way) (c2 : Onward) (w2 : Way) (is-x : r ≡ S.Crossing c1 w1 c2 w2) (l2 : List ℕ) (p : Traced) (is-p : saysWith l2 p ≡ written u l1 (partOf f t (k - 1) w1 c1)) where
           abbrev near : Outcome TraceT
-          near = partOf f t (k - 1) st to c1
+          near = partOf f t (k - 1) w1 c1
 
           abbrev far : Outcome TraceT
-          far = partOf f t (k - 1) from en c2
+          far = partOf f t (k - 1) w2 c2
 
-          crossed : written u l1 (bothParts (to .point) near far) ≡ whole
-          crossed =
-              ap₂ (λ (y : TraceStart) (z : TraceEnd). written u l1 (bothParts (to .point) (partOf f t (k - 1) y to c1) (partOf f t (k - 1) from z c2))) is-st is-en
-              ∙ says (S.Crossing c1 to from c2) is-x
+          crossed : written u l1 (bothParts (w1 .to .point) near far) ≡ whole
+          crossed = says (S.Crossing c1 w1 c2 w2) is-x
 
           pub near-refused : (z : Refusal) → p ≡ T.Refused z → saysWith l2 p ≡ whole
           near-refused z q =
               ap (saysWith l2) q
-              ∙ sym (ap (λ (o : Outcome TraceT). written u l1 (bothParts (to .point) o far)) (written-refused u l1 near (numberOf z) (sym (ap (saysWith l2) q) ∙ is-p)))
+              ∙ sym (ap (λ (o : Outcome TraceT). written u l1 (bothParts (w1 .to .point) o far)) (written-refused u l1 near (numberOf z) (sym (ap (saysWith l2) q) ∙ is-p)))
               ∙ crossed
 
-          module _ (y : TraceT) (n : ℕ) (is-y : p ≡ T.Trace y n) (st? : Bool) (is-st? : st? ≡ stopsAt y (to .point)) where
+          module _ (y : TraceT) (n : ℕ) (is-y : p ≡ T.Trace y n) (st? : Bool) (is-st? : st? ≡ stopsAt y (w1 .to .point)) where
             near-done : (ns : List ℕ) × (near ≡ done y ns) × (held (u + length ns) ≡ n) × (sets l1 u ns ≡ l2)
             near-done = written-done u l1 near y n l2 (sym (ap (saysWith l2) is-y) ∙ is-p)
 
             passed : (q : Bool) → st? ≡ q → written u l1 (cond q (done y (near-done .0)) (withFar y (near-done .0) far)) ≡ whole
             passed q e =
                 ap (λ (z : Bool). written u l1 (cond z (done y (near-done .0)) (withFar y (near-done .0) far))) (sym e ∙ is-st?)
-                ∙ sym (ap (λ (o : Outcome TraceT). written u l1 (bothParts (to .point) o far)) (near-done .1)) ∙ crossed
+                ∙ sym (ap (λ (o : Outcome TraceT). written u l1 (bothParts (w1 .to .point) o far)) (near-done .1)) ∙ crossed
 
             pub near-stops : st? ≡ true → answer ((y, n), l2) ≡ whole
             near-stops e = sym (ap (saysWith l2) is-y) ∙ is-p ∙ ap (written u l1) (near-done .1) ∙ passed true e
@@ -225,6 +223,6 @@ module _ (f : List ℕ) (t : Tables) (k v : ℕ) (l : List ℕ) (a : TraceStart)
 
 pub in-hull : (f : List ℕ) (m : BspData) (tab : HullTable) (mins maxs : Vector3) (t : Tables) → t ≡ tablesOf m tab mins maxs
     → (a : TraceStart) (s : Vector3) → a ≡ Tr.start s zero32 → (b : TraceEnd) (e : Vector3) → b ≡ Tr.terminal e → (root : ℕ) (l : List ℕ)
-    → written 0 l (partOf f t 512 a b (O.Node root)) ≡ written 0 l (trace (tableOf f m tab mins maxs) root s e)
+    → written 0 l (partOf f t 512 (record { from = a; to = b }) (O.Node root)) ≡ written 0 l (trace (tableOf f m tab mins maxs) root s e)
 in-hull f m tab mins maxs t is-t a s is-a b e is-b root l =
     rw (is-a, is-b) (ap (λ (T : Table End BspLeafContents). written 0 l (trace T root s e)) (table-same f m tab mins maxs t is-t))

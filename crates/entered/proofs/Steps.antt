@@ -81,11 +81,14 @@ module _ (f : List ℕ) (t : Tables) (s e : Vector3) (i : ℕ) (r : ReadWords) (
           ap (λ (y : LinePlaneIntersect). entered i (across T go nd h s e y)) (sym q3 ∙ is-z)
           ∙ sym (ap (traceAt T go i s e) (enter-is f t T refl refl refl i r is-r w q h (sym is-p ∙ ap planeAnswer q2)))
 
-      pub whole : (side : HyperplaneSide) → z ≡ NoIntersection side → (b : Bool) → Pl.sideIf b ≡ side → (c : Onward) → c ≡ wordOnward (wordOn w b)
-          → Steps f t i s e (S.Whole c)
-      whole side q3 b qb c is-c go =
-          ap (λ (y : Child End). entered i (onto T (λ n. go n s e) (λ x. Tr.newTrace (Tr.start s zero32) (Tr.terminal e) x) y)) (child-goes (t .table) w side b qb c is-c)
-          ∙ stepped go (NoIntersection side) q3
+      pub whole : (side : HyperplaneSide) → z ≡ NoIntersection side
+          → (from : TraceStart) → from ≡ Tr.start s zero32 → (to : TraceEnd) → to ≡ Tr.terminal e
+          → (b : Bool) → Pl.sideIf b ≡ side → (c : Onward) → c ≡ wordOnward (wordOn w b)
+          → Steps f t i s e (S.Whole c (record { from = from; to = to }))
+      whole side q3 from is-from to is-to b qb c is-c go =
+          rw (is-from, is-to)
+          (ap (λ (y : Child End). entered i (onto T (λ n. go n s e) (λ x. Tr.newTrace (Tr.start s zero32) (Tr.terminal e) x) y)) (child-goes (t .table) w side b qb c is-c)
+          ∙ stepped go (NoIntersection side) q3)
 
       -- the near part and the far part of a crossing
       module _ (x : Crossing) (q3 : z ≡ PointIntersection x) (go : ℕ → Vector3 → Vector3 → Outcome TraceT) where
@@ -109,14 +112,15 @@ module _ (f : List ℕ) (t : Tables) (s e : Vector3) (i : ℕ) (r : ReadWords) (
             ∙ ap (entered i) (both-are (nearOf T go nd h s e x)) ∙ stepped go (PointIntersection x) q3
 
       pub crosses : (x : Crossing) → z ≡ PointIntersection x
-          → (side : HyperplaneSide) → side ≡ Pl.pointSide h s
+          → (side : HyperplaneSide) → side ≡ Pl.pointSide h s → (side′ : HyperplaneSide) → side′ ≡ Pl.pointSide h e
+          → (from : TraceStart) → from ≡ Tr.start s zero32
+          → (turned : Hyperplane) → turned ≡ Pl.facing side h → (to : TraceEnd) → to ≡ Tr.boundary (x .point) (x .ratio) turned
+          → (from′ : TraceStart) → from′ ≡ Tr.start (x .point) (x .ratio) → (to′ : TraceEnd) → to′ ≡ Tr.terminal e
           → (b : Bool) → Pl.sideIf b ≡ side → (c : Onward) → c ≡ wordOnward (wordOn w b)
-          → (turned : Hyperplane) → turned ≡ Pl.facing side h
-          → (to : TraceEnd) → to ≡ Tr.boundary (x .point) (x .ratio) turned → (from : TraceStart) → from ≡ Tr.start (x .point) (x .ratio)
-          → (b′ : Bool) → Pl.sideIf b′ ≡ Pl.pointSide h e → (c′ : Onward) → c′ ≡ wordOnward (wordOn w b′)
-          → Steps f t i s e (S.Crossing c to from c′)
-      crosses x q3 side is-side b qb c is-c turned is-turned to is-to from is-from b′ qb′ c′ is-c′ go =
-          rw (is-to ∙ ap (λ (y : Hyperplane). Tr.boundary (x .point) (x .ratio) y) (is-turned ∙ ap (λ (y : HyperplaneSide). Pl.facing y h) is-side), is-from)
+          → (b′ : Bool) → Pl.sideIf b′ ≡ side′ → (c′ : Onward) → c′ ≡ wordOnward (wordOn w b′)
+          → Steps f t i s e (S.Crossing c (record { from = from; to = to }) c′ (record { from = from′; to = to′ }))
+      crosses x q3 side is-side side′ is-side′ from is-from turned is-turned to is-to from′ is-from′ to′ is-to′ b qb c is-c b′ qb′ c′ is-c′ go =
+          rw (is-from, is-to ∙ ap (λ (y : Hyperplane). Tr.boundary (x .point) (x .ratio) y) (is-turned ∙ ap (λ (y : HyperplaneSide). Pl.facing y h) is-side), is-from′, is-to′)
           (crossed x q3 go (childOf (t .table) c) (childOf (t .table) c′)
           (child-goes (t .table) w (Pl.pointSide h s) b (qb ∙ is-side) c is-c)
-          (child-goes (t .table) w (Pl.pointSide h e) b′ qb′ c′ is-c′))
+          (child-goes (t .table) w (Pl.pointSide h e) b′ (qb′ ∙ is-side′) c′ is-c′))

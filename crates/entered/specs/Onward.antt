@@ -10,12 +10,9 @@ use lib.Seq.{sets}
 use Rattle.format.specs.Answer as Ans
 use Rattle.format.specs.Answer.{Answer, answer, mapped}
 use Rattle.format.specs.Refusal.{numberOf}
-use Rattle.math.specs.Vector.{zero32}
 use Rattle.math.specs.declared.Vector3.{Vector3}
 use Rattle.phys.specs.Trace as Tr
 use Rattle.phys.specs.declared.Trace.{Trace}
-use Rattle.phys.specs.declared.TraceStart.{TraceStart}
-use Rattle.phys.specs.declared.TraceEnd.{TraceEnd}
 use Rattle.walk.specs.Table.{Child, node, end}
 use Rattle.walk.specs.Walk.{Outcome, done, refused, entered, held, enter, onto}
 use Rattle.walk.specs.Trace.{withFar, traceAt, recursiveTrace}
@@ -27,6 +24,7 @@ use Rattle.hull.specs.Traces.{stopsAt, tracedAnswer}
 use Rattle.hull.specs.declared.tracing.Traced.{Traced}
 use Rattle.entered.specs.declared.traced.Onward.{Onward}
 use Rattle.entered.specs.declared.traced.Onward.the-variants as O
+use Rattle.entered.specs.declared.traced.Way.{Way}
 use Rattle.entered.specs.declared.traced.Step.{Step}
 use Rattle.entered.specs.declared.traced.Step.the-variants as S
 
@@ -49,24 +47,24 @@ bothParts m (refused n) far = refused n
 
 -- `go n s e` is the trace from s to e below the node n
 module _ (f : List ℕ) (t : Tables) (go : ℕ → Vector3 → Vector3 → Outcome Trace) where
-  -- the part from a to b that goes on to a child: in a leaf it is one trace
-  abbrev pub part : TraceStart → TraceEnd → Onward → Outcome Trace
-  part a b c = onto (Fast.table f t) (λ n. go n (a .point) (b .point)) (λ x. Tr.newTrace a b x) (childOf (t .table) c)
+  -- the part of a segment that goes on to a child: in a leaf it is one trace
+  abbrev pub part : Way → Onward → Outcome Trace
+  part w c = onto (Fast.table f t) (λ n. go n (w .from .point) (w .to .point)) (λ x. Tr.newTrace (w .from) (w .to) x) (childOf (t .table) c)
 
-  -- the trace from s to e that goes on as a step says
-  abbrev pub followed : Vector3 → Vector3 → Step → Outcome Trace
-  followed s e (S.Whole c) = part (Tr.start s zero32) (Tr.terminal e) c
-  followed s e (S.Crossing c b a c′) = bothParts (b .point) (part (Tr.start s zero32) b c) (part a (Tr.terminal e) c′)
-  followed s e (S.Refused x) = refused (numberOf x)
+  -- the trace that goes on as a step says
+  abbrev pub followed : Step → Outcome Trace
+  followed (S.Whole c w) = part w c
+  followed (S.Crossing c w c′ w′) = bothParts (w .to .point) (part w c) (part w′ c′)
+  followed (S.Refused x) = refused (numberOf x)
 
 -- whatever the trace below a node is, the step at the node i goes on as the trace does
 abbrev pub Steps : List ℕ → Tables → ℕ → Vector3 → Vector3 → Step → Type 0
 Steps f t i s e r =
-    (go : ℕ → Vector3 → Vector3 → Outcome Trace) → entered i (followed f t go s e r) ≡ traceAt (Fast.table f t) go i s e (enter (Fast.table f t) i)
+    (go : ℕ → Vector3 → Vector3 → Outcome Trace) → entered i (followed f t go r) ≡ traceAt (Fast.table f t) go i s e (enter (Fast.table f t) i)
 
--- the part from a to b with k calls left
-abbrev pub partOf : List ℕ → Tables → ℕ → TraceStart → TraceEnd → Onward → Outcome Trace
-partOf f t k a b c = part f t (λ n s e. recursiveTrace (Fast.table f t) k n s e) a b c
+-- the part with k calls left
+abbrev pub partOf : List ℕ → Tables → ℕ → Way → Onward → Outcome Trace
+partOf f t k w c = part f t (λ n s e. recursiveTrace (Fast.table f t) k n s e) w c
 
 -- ---- a trace and the list
 

@@ -36,16 +36,22 @@ use phys::TraceStart;
 use records::plane::PlaneAnswer;
 
 // A child that a trace goes on to: a node, or the end that a word stands for.
-pub enum Onward {
+enum Onward {
     Node(usize),
     End(u16),
 }
 
-// What a segment does at a node: it goes on to one child; or it crosses the plane, and goes on to the near child up to the crossing and
-// from the crossing on to the far child. Refused: the node or its plane can't be read.
-pub enum Step {
-    Whole(Onward),
-    Crossing(Onward, TraceEnd, TraceStart, Onward),
+// A part of a segment: where its trace starts and ends if it lies in one leaf.
+struct Way {
+    from: TraceStart,
+    to: TraceEnd,
+}
+
+// What a segment does at a node: all of it goes on to one child; or it crosses the plane, and the part up to the crossing goes on to the
+// near child and the part behind it to the far one. Refused: the node or its plane can't be read.
+enum Step {
+    Whole(Onward, Way),
+    Crossing(Onward, Way, Onward, Way),
     Refused(Refusal),
 }
 
@@ -69,15 +75,25 @@ fn step_at(s: &[u8], t: Tables, node: usize, start: Vector3, end: Vector3) -> St
             PlaneAnswer::Refused(e) => Step::Refused(e),
             PlaneAnswer::Value(plane) => match plane.line_segment_intersection(start, end) {
                 LinePlaneIntersect::NoIntersection(side) => {
-                    Step::Whole(child_on(w, is_front(side)))
+                    let from = TraceStart::new(start, 0.0);
+                    let to = TraceEnd::terminal(end);
+                    Step::Whole(child_on(w, is_front(side)), Way { from, to })
                 }
                 LinePlaneIntersect::PointIntersection(x) => {
                     let side = plane.point_side(start);
+                    let far_side = plane.point_side(end);
+                    let from = TraceStart::new(start, 0.0);
+                    let to = TraceEnd::boundary(x.point, x.ratio, plane.facing(side));
+                    let from_mid = TraceStart::new(x.point, x.ratio);
+                    let to_end = TraceEnd::terminal(end);
                     Step::Crossing(
                         child_on(w, is_front(side)),
-                        TraceEnd::boundary(x.point, x.ratio, plane.facing(side)),
-                        TraceStart::new(x.point, x.ratio),
-                        child_on(w, is_front(plane.point_side(end))),
+                        Way { from, to },
+                        child_on(w, is_front(far_side)),
+                        Way {
+                            from: from_mid,
+                            to: to_end,
+                        },
                     )
                 }
             },
@@ -86,9 +102,11 @@ fn step_at(s: &[u8], t: Tables, node: usize, start: Vector3, end: Vector3) -> St
 }
 
 // The part of a trace that lies in one leaf, by the word of its end.
-fn in_leaf(s: &[u8], t: Tables, word: u16, from: TraceStart, to: TraceEnd, visits: u64) -> Traced
-    ensures { λ r. ⌜ tracedAnswer r ≡ after visits (ended (Fast.table (now (s .entry)) t) (λ c. Tr.newTrace from to c) (Fast.contentsMet (now (s .entry)) t word)) ⌝ }
+fn in_leaf(s: &[u8], t: Tables, word: u16, way: Way, visits: u64) -> Traced
+    ensures { λ r. ⌜ tracedAnswer r ≡ after visits (ended (Fast.table (now (s .entry)) t) (λ c. Tr.newTrace (way .from) (way .to) c) (Fast.contentsMet (now (s .entry)) t word)) ⌝ }
 {
+    let from = way.from;
+    let to = way.to;
     match end_contents(s, t, word) {
         EndContents::Contents(c) => Traced::Trace(Trace::new(from, to, c), visits),
         EndContents::Refused(e) => Traced::Refused(e),
@@ -104,22 +122,21 @@ fn write_at(list: &mut [u32], place: u64, node: u32)
     }
 }
 
-// The part of a trace that goes on to a child, with the calls left and the nodes entered before; and each node that it enters is written
-// into the list as it is entered, as far as the list goes. So a node is read once: the time is the trace's.
+// The part of a trace that goes on to a child, with the calls left and the nodes entered before; each node is written into the list as it
+// is entered, as far as the list goes. At most 513 calls deep: one for each of 512 nodes, and one for an end.
 fn write_onward(
     s: &[u8],
     t: Tables,
     child: Onward,
-    from: TraceStart,
-    to: TraceEnd,
+    way: Way,
     left: u32,
     visits: u64,
     list: &mut [u32],
 ) -> Traced
-    ensures { λ r. ⌜ Going.saysWith (now (list .exit)) r ≡ Going.written visits (now (list .entry)) (Going.partOf (now (s .entry)) t left from to child) ⌝ }
+    ensures { λ r. ⌜ Going.saysWith (now (list .exit)) r ≡ Going.written visits (now (list .entry)) (Going.partOf (now (s .entry)) t left way child) ⌝ }
 {
     match child {
-        Onward::End(word) => in_leaf(s, t, word, from, to, visits),
+        Onward::End(word) => in_leaf(s, t, word, way, visits),
         Onward::Node(node) => {
             if (t.nodes.count as usize) <= node {
                 return Traced::Refused(Refusal::IndexOutsideTable);
@@ -129,20 +146,18 @@ fn write_onward(
             }
             write_at(list, visits, node as u32);
             let v = one_more(visits);
-            let start = TraceStart::new(from.point, 0.0);
-            let end = TraceEnd::terminal(to.point);
-            match step_at(s, t, node, from.point, to.point) {
+            match step_at(s, t, node, way.from.point, way.to.point) {
                 Step::Refused(e) => Traced::Refused(e),
-                Step::Whole(only) => write_onward(s, t, only, start, end, left - 1, v, list),
-                Step::Crossing(near, to_mid, from_mid, far) => {
-                    let part = write_onward(s, t, near, start, to_mid, left - 1, v, list);
+                Step::Whole(only, whole) => write_onward(s, t, only, whole, left - 1, v, list),
+                Step::Crossing(near, to_mid, far, from_mid) => {
+                    let part = write_onward(s, t, near, to_mid, left - 1, v, list);
                     let Traced::Trace(near_trace, n) = part else {
                         return part;
                     };
-                    if stops(near_trace, to_mid.point) {
+                    if stops(near_trace, to_mid.to.point) {
                         return part;
                     }
-                    let rest = write_onward(s, t, far, from_mid, end, left - 1, n, list);
+                    let rest = write_onward(s, t, far, from_mid, left - 1, n, list);
                     join_far(near_trace, rest)
                 }
             }
@@ -174,7 +189,7 @@ pub fn nodes_of_trace(
             let root = Onward::Node(hull.node_id);
             let from = TraceStart::new(start, 0.0);
             let to = TraceEnd::terminal(end);
-            write_onward(s, t, root, from, to, 512, 0, list);
+            write_onward(s, t, root, Way { from, to }, 512, 0, list);
             EnteredAnswer::Count(count)
         }
     }

@@ -19,10 +19,10 @@ enum-known-e : tie.Need-enum-known-e
 enum-known-e c = search needs
 
 returns : tie.Need-returns
-returns c = leaf-met _ _ _ _ _ _ _ (c .before .before .before .before .end-contents .ensures) _ (c .before .before .c .given .1) (c .new .ensures) (omega arith)
+returns c = leaf-met _ _ _ _ _ _ (c .before .before .before .before .end-contents .ensures) _ (c .before .before .c .given .1) (c .new .ensures) (omega arith)
 
 returns-2 : tie.Need-returns-2
-returns-2 c = leaf-unmet _ _ _ _ _ _ _ (c .before .before .before .end-contents .ensures) _ (c .before .e .given .1)
+returns-2 c = leaf-unmet _ _ _ _ _ _ (c .before .before .before .end-contents .ensures) _ (c .before .e .given .1)
 
 pub in-leaf-spec : {M : Type 1} → statement M
 in-leaf-spec =
