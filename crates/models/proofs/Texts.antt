@@ -2,14 +2,14 @@
 -- Assumes nothing.
 use Prim.Native.Nat.{ℕ, suc, _+_, _-_, _<_, _≤_, zero-le}
 use mathlib.Core.Bool.{Bool, true, false}
-use lib.Dec.{eqb, leb, ltb}
+use lib.Dec.{eqb, leb}
 use Rattle.format.specs.Step.{when}
 use mathlib.Core.Path.{_≡_, refl, sym}
 use mathlib.Core.List.{List, [], _∷_}
 use native.Mathlib.Nat.{add-zero, add-sub-cancel-left}
 use native.Mathlib.Numerals.{add-one}
 use native.Mathlib.Omega.{arith}
-use borrow.Author.Tests.{eq-eqb, ne-eqb, lt-ltb, le-ltb, lt-leb, le-leb, leb-false}
+use borrow.Author.Tests.{eq-eqb, ne-eqb, lt-leb, le-leb, leb-false}
 use lib.ListN.{length, getD, take, drop, drop-of-length-le, length-drop}
 use lib.Seq.{drop-cons}
 use Rattle.format.specs.Answer.{answer, refused}
@@ -46,39 +46,34 @@ module _ (s : List ℕ) (at : ℕ) where
   unfolding textEnd
   stays h = omega (arith, through-le (drop at s), length-drop at s)
 
--- The four ways through `entities`; `end` is what `text_end` answers.
+-- The three ways through `entities`; `end` is what `text_end` answers.
 module _ (s : List ℕ) (m : BspData) where
-  pub empty : m .entities .size ≡ 0 → answer (record { offset = m .entities .offset; size = 0 }) ≡ entitiesOf s m
-  unfolding entitiesOf
-  empty e = simp (eq-eqb (m .entities .size) 0 e)
-
-  module _ (some : m .entities .size ≡ 0 → ⊥) where
-    pub outside : length s ≤ m .entities .offset → refused 23 ≡ entitiesOf s m
+  module _ (past : length s ≤ m .entities .offset) where
+    pub empty : m .entities .size ≡ 0 → answer (record { offset = m .entities .offset; size = 0 }) ≡ entitiesOf s m
     unfolding entitiesOf
-    outside h = simp (ne-eqb (m .entities .size) 0 some, le-leb (length s) (m .entities .offset) h)
+    empty e = simp (le-leb (length s) (m .entities .offset) past, eq-eqb (m .entities .size) 0 e)
 
-    module _ (inside : m .entities .offset < length s) (end : ℕ) (is-end : end ≡ textEnd s (m .entities .offset)) where
-      pub long : 65536 < end - m .entities .offset → refused 23 ≡ entitiesOf s m
-      unfolding entitiesOf
-      long h = simp (ne-eqb (m .entities .size) 0 some, lt-leb (length s) (m .entities .offset) inside, ← is-end, lt-ltb 65536 (end - m .entities .offset) h)
+    pub outside : (m .entities .size ≡ 0 → ⊥) → refused 23 ≡ entitiesOf s m
+    unfolding entitiesOf
+    outside some = simp (le-leb (length s) (m .entities .offset) past, ne-eqb (m .entities .size) 0 some)
 
-      pub lies : end - m .entities .offset ≤ 65536 → answer (record { offset = m .entities .offset; size = end - m .entities .offset }) ≡ entitiesOf s m
-      unfolding entitiesOf
-      lies h = simp (ne-eqb (m .entities .size) 0 some, lt-leb (length s) (m .entities .offset) inside, ← is-end, le-ltb 65536 (end - m .entities .offset) h)
+  pub lies : m .entities .offset < length s → (end : ℕ) → end ≡ textEnd s (m .entities .offset)
+      → answer (record { offset = m .entities .offset; size = end - m .entities .offset }) ≡ entitiesOf s m
+  unfolding entitiesOf
+  lies inside end is-end = simp (lt-leb (length s) (m .entities .offset) inside, ← is-end)
 
 -- a text that is found and is not empty lies in the file
 pub within : (s : List ℕ) (m : BspData) (p : Part) → entitiesOf s m ≡ answer p → (p .size ≡ 0 → ⊥) → p .offset + p .size ≤ length s
 unfolding entitiesOf
-within s m p e some = by (eqb (m .entities .size) 0) (leb (length s) (m .entities .offset)) (ltb 65536 (textEnd s (m .entities .offset) - m .entities .offset)) refl e
+within s m p e some = by (leb (length s) (m .entities .offset)) (eqb (m .entities .size) 0) refl e
   where
-    by : (a b c : Bool) → leb (length s) (m .entities .offset) ≡ b
-        → when a (answer (record { offset = m .entities .offset; size = 0 }))
-        (when b (refused 23) (when c (refused 23) (answer (record { offset = m .entities .offset; size = textEnd s (m .entities .offset) - m .entities .offset })))) ≡ answer p
+    by : (a b : Bool) → leb (length s) (m .entities .offset) ≡ a
+        → when a (when b (answer (record { offset = m .entities .offset; size = 0 })) (refused 23))
+        (answer (record { offset = m .entities .offset; size = textEnd s (m .entities .offset) - m .entities .offset })) ≡ answer p
         → p .offset + p .size ≤ length s
-    by true b c h e = let z : 0 ≡ p .size = cc in absurd (some (sym z))
-    by false true c h e = let z : _≡_ {A = ℕ} 0 1 = cc in absurd (omega arith)
-    by false false true h e = let z : _≡_ {A = ℕ} 0 1 = cc in absurd (omega arith)
-    by false false false h e =
+    by true true h e = let z : 0 ≡ p .size = cc in absurd (some (sym z))
+    by true false h e = let z : _≡_ {A = ℕ} 0 1 = cc in absurd (omega arith)
+    by false b h e =
         let a : m .entities .offset ≡ p .offset = cc in
         let n : textEnd s (m .entities .offset) - m .entities .offset ≡ p .size = cc in
         omega (arith, a, n, starts s (m .entities .offset), stays s (m .entities .offset) (leb-false (length s) (m .entities .offset) h))

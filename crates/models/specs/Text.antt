@@ -1,7 +1,7 @@
 -- The entity text, as a part of the lent file.
 use Prim.Native.Nat.{ℕ, suc, _+_, _-_}
 use mathlib.Core.List.{List, [], _∷_}
-use lib.Dec.{eqb, leb, ltb}
+use lib.Dec.{eqb, leb}
 use lib.ListN.{length, take, drop}
 use Rattle.format.specs.Step.{when}
 use Rattle.format.specs.Answer.{Answer, answer, refused}
@@ -24,16 +24,15 @@ pub record Part : Type 0 where
   pub offset : ℕ
   pub size : ℕ
 
--- Where the entity text lies: from its section's offset through the first zero byte, or to the file's end. An empty section has an empty
--- text. 23 where a section that is not empty starts outside the bytes, or its text is above the 65,536 bytes that the Rust's MAX_ENTSTRING allows.
+-- Where the entity text lies: from its section's offset through the first zero byte, or to the file's end, whatever its length and the
+-- section's size. At or past the end of the bytes an empty section has an empty text, and any other is 23. (The Rust's MAX_ENTSTRING is
+-- tested on loading.)
 unfoldable pub entitiesOf : List ℕ → BspData → Answer Part
 entitiesOf s m =
     let at = m .entities .offset in
-    let n = textEnd s at - at in
-    when (eqb (m .entities .size) 0) (answer (record { offset = at; size = 0 }))
-    (when (leb (length s) at) (refused 23)
-    (when (ltb 65536 n) (refused 23)
-    (answer (record { offset = at; size = n }))))
+    when (leb (length s) at)
+    (when (eqb (m .entities .size) 0) (answer (record { offset = at; size = 0 })) (refused 23))
+    (answer (record { offset = at; size = textEnd s at - at }))
 
 -- the part of the file that was found, or nothing
 abbrev pub partOf : List ℕ → Answer Part → List ℕ

@@ -170,7 +170,7 @@ pub enum LeafIdAnswer {
 }
 
 // The leaf counts of the models before an index, added up.
-pub fn leaf_id(s: &[u8], map: BspData, index: usize) -> LeafIdAnswer
+fn leaf_id(s: &[u8], map: BspData, index: usize) -> LeafIdAnswer
     ensures { λ r. ⌜ leafIdAnswer r ≡ leafIdOf (now (s .entry)) map index ⌝ }
 {
     let mut total = 0;
@@ -203,7 +203,7 @@ pub struct BspModel {
 }
 
 // The clip node total less each root, modulo 2^64.
-fn node_counts(total: usize, roots: PerHull) -> PerHull
+pub fn node_counts(total: usize, roots: PerHull) -> PerHull
     ensures { λ r. ⌜ r ≡ nodeCounts total roots ⌝ }
 {
     PerHull {

@@ -29,17 +29,13 @@ pub fn entities(s: &[u8], map: BspData) -> EntitiesAnswer
     ensures { λ r. ⌜ entitiesAnswer r ≡ entitiesOf (now (s .entry)) map ⌝ }
 {
     let at = map.entities.offset as usize;
-    if map.entities.size == 0 {
-        return EntitiesAnswer::Value(at, 0);
-    }
     if s.len() <= at {
+        if map.entities.size == 0 {
+            return EntitiesAnswer::Value(at, 0);
+        }
         return EntitiesAnswer::Refused(Refusal::Unreadable);
     }
-    let end = text_end(s, at);
-    if 65536 < end - at {
-        return EntitiesAnswer::Refused(Refusal::Unreadable);
-    }
-    EntitiesAnswer::Value(at, end - at)
+    EntitiesAnswer::Value(at, text_end(s, at) - at)
 }
 
 // The entity text; empty where `entities` refuses.

@@ -34,7 +34,7 @@ returns-3 : tie.Need-returns-3
 returns-3 c = rw (c .before .before .match .keys3) (simp (c .new6 .ensures, c .before .new5 .ensures))
 
 returns-4 : tie.Need-returns-4
-returns-4 c = let r = c .match .rest in let a = c .before .before .before .args in hull-none (a .model) (a .index) (omega (arith, r .1, r .0 .1, r .0 .0))
+returns-4 c = let r = c .match .rest in let a = c .before .args in hull-none (a .roots) (a .counts) (a .index) (omega (arith, r .1, r .0 .1, r .0 .0))
 
 pub hull-of-spec : {M : Type 1} → statement M
 hull-of-spec =
