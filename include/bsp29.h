@@ -315,10 +315,11 @@ uint32_t bsp_count(const uint32_t *map, size_t map_length,
                    uint64_t *out, size_t out_length);
 
 /*
- * Where the entity text lies in the file: its offset and its length in bytes. It runs through its
- * zero byte, which is counted, or to the file's end. An empty text may have any offset.
+ * Where the entity text lies in the file: its offset and its length in bytes. It runs from its
+ * section's offset through the first zero byte, which is counted, or to the file's end; of a map that
+ * was loaded it is the section, at most 65,536 bytes. An empty text may have any offset.
  *   map: 31 words or more; out: 2 words or more.
- *   Refuses: 22; 23.
+ *   Refuses: 22; 23, a section that is not empty starts at or past the file's end.
  */
 uint32_t bsp_entities(const uint8_t *file, size_t file_length,
                       const uint32_t *map, size_t map_length,
@@ -326,8 +327,9 @@ uint32_t bsp_entities(const uint8_t *file, size_t file_length,
 
 /*
  * The hull `index` of a model: 0 for points (the render nodes), 1 for a player, 2 for larger ones.
+ * It is that of the model's own record; the models before it are not read.
  *   map: 31 words or more; hull: 9 words or more.
- *   Refuses: 22; 20, a hull above 2 or a model outside its table; 23.
+ *   Refuses: 22; 20, a hull above 2 or a model outside its table; 23, the model's record.
  */
 uint32_t bsp_hull(const uint8_t *file, size_t file_length,
                   const uint32_t *map, size_t map_length,

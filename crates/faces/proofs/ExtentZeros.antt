@@ -65,7 +65,7 @@ module _ (lesser greater : Float → Float → Float) where
 
   unfoldable pub spanOfBy : List ℕ → BspData → BspTexInfo → ℕ → ℕ → Answer Span
   spanOfBy s m info first count =
-      when (ltb (recordCount EdgeList (m .edgelist)) (first + count)) (refused 11)
+      when (ltb (recordCount EdgeList (m .edgelist)) (first + count)) (refused 23)
       (spanOverBy s m info count first unbounded)
 
   unfoldable pub surfaceOfBy : List ℕ → BspData → BspFace → Answer Surface
@@ -108,7 +108,7 @@ module _ (lesser greater : Float → Float → Float)
   unfolding spanOfBy spanOf
   of-alike s m info first count = by (ltb (recordCount EdgeList (m .edgelist)) (first + count))
     where
-      by : (t : Bool) → AlikeAnswer (when t (refused 11) (spanOverBy lesser greater s m info count first unbounded)) (when t (refused 11) (spanOver s m info count first unbounded))
+      by : (t : Bool) → AlikeAnswer (when t (refused 23) (spanOverBy lesser greater s m info count first unbounded)) (when t (refused 23) (spanOver s m info count first unbounded))
       by true = refusals
       by false = over-alike s m info count first unbounded unbounded (alike-itself unbounded)
 

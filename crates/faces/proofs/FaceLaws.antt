@@ -1,19 +1,28 @@
--- Faces by index: an index at or past the count, and that a face's own record is the same with every map
--- record that places its section alike.
+-- Faces by index: an index at or past the count, that a face's own record is the same with every map
+-- record that places its section alike, and that what is worked out for a face is refused by 23 alone.
 -- Assumes nothing.
-use Prim.Native.Nat.{ℕ, _≤_}
-use mathlib.Core.Path.{_≡_}
+use Prim.Native.Nat.{ℕ, zero, suc, _+_, _≤_}
+use mathlib.Core.Path.{_≡_, refl}
+use mathlib.Core.Bool.{Bool, true, false}
 use mathlib.Core.List.{List}
-use Rattle.format.specs.Answer.{answer, refused}
+use native.Mathlib.Omega.{arith}
+use lib.Dec.{ltb}
+use Rattle.format.specs.Step.{when}
+use Rattle.format.specs.Answer.{Answer, answer, refused, thenAnswer}
 use Rattle.format.specs.Field.{indexAt}
 use Rattle.format.specs.Section.{recordCount}
 use Rattle.format.specs.declared.section.BspData.{BspData}
-use Rattle.format.specs.declared.section.BspFileSectionId.the-variants.{Planes, TextureInfo, Faces}
+use Rattle.format.specs.declared.section.BspFileSectionId.the-variants.{Planes, TextureInfo, Faces, EdgeList}
+use Rattle.records.specs.Edge.{edgeOf, edgelistOf}
+use Rattle.records.specs.Plane.{vertexOf}
+use Rattle.records.specs.Texinfo.{texinfoOf}
+use Rattle.records.specs.declared.texinfo.BspTexInfo.{BspTexInfo}
 use Rattle.records.specs.Number.{number16At, countAt}
 use Rattle.records.proofs.Readable as Readable
 use Rattle.records.proofs.Agree.{Agree, agree-self, agree-then, agree-after, agree-number16}
 use Rattle.faces.specs.Face.{sideAt, faceAt, faceEndAt, fileFaceOf}
-use Rattle.faces.specs.Extents.{faceOf}
+use Rattle.faces.specs.Extents.{indexed, vertexOn, cornerOf, widened, unbounded, spanOver, spanOf, surfaceIn, surfaceOf, faceOf}
+use Rattle.faces.specs.declared.extents.Span.{Span}
 use Rattle.faces.specs.declared.face.BspFace.{BspFace}
 
 -- an index at or past the count is 20
@@ -37,3 +46,50 @@ file-face-same s m m′ i v w =
     Readable.same Faces (faceAt (recordCount Planes (m .planes)) (recordCount TextureInfo (m .texinfo)))
     (faceAt (recordCount Planes (m′ .planes)) (recordCount TextureInfo (m′ .texinfo))) s m m′ i v w
     (λ at. agree-face (recordCount Planes (m .planes)) (recordCount TextureInfo (m .texinfo)) (recordCount Planes (m′ .planes)) (recordCount TextureInfo (m′ .texinfo)) s at .values)
+
+-- ---- a surface is refused by 23 alone
+
+abbrev Only23 : {A : Type 0} → Answer A → Type 0
+Only23 a = (n : ℕ) → a ≡ refused n → n ≡ 23
+
+only-answer : {A : Type 0} (v : A) → Only23 (answer v)
+only-answer v n e = let z : _≡_ {A = ℕ} 0 1 = cc in absurd (omega arith)
+
+only-refused : {A : Type 0} → Only23 {A = A} (refused 23)
+only-refused n e = let z : _≡_ {A = ℕ} 23 n = cc in omega (arith, z)
+
+only-indexed : {A B : Type 0} (a : Answer A) (k : A → Answer B) → ((v : A) → Only23 (k v)) → Only23 (indexed a k)
+only-indexed (answer v) k h = h v
+only-indexed (refused n) k h = only-refused
+
+only-then : {A B : Type 0} (a : Answer A) (k : A → Answer B) → Only23 a → ((v : A) → Only23 (k v)) → Only23 (thenAnswer a k)
+only-then (answer v) k f h = h v
+only-then (refused n) k f h = λ j e. let z : _≡_ {A = ℕ} n j = cc in let w : n ≡ 23 = f n refl in omega (arith, z, w)
+
+only-when : {A : Type 0} (b : Bool) (a : Answer A) → Only23 a → Only23 (when b (refused 23) a)
+only-when true a h = only-refused
+only-when false a h = h
+
+module _ (s : List ℕ) (m : BspData) where
+  only-corner : (i : ℕ) → Only23 (cornerOf s m i)
+  unfolding cornerOf
+  only-corner i =
+      only-indexed (edgelistOf s m i) _ (λ entry.
+      only-indexed (edgeOf s m (entry .index)) _ (λ edge.
+      only-indexed (vertexOf s m (vertexOn (entry .direction) edge)) _ (λ v. only-answer v)))
+
+  only-over : (info : BspTexInfo) (n i : ℕ) (w : Span) → Only23 (spanOver s m info n i w)
+  unfolding spanOver
+  only-over info zero i w = only-answer w
+  only-over info (suc n) i w = only-then (cornerOf s m i) _ (only-corner i) (λ v. only-over info n (i + 1) (widened info v w))
+
+  only-span : (info : BspTexInfo) (first count : ℕ) → Only23 (spanOf s m info first count)
+  unfolding spanOf
+  only-span info first count =
+      only-when (ltb (recordCount EdgeList (m .edgelist)) (first + count)) _ (only-over info count first unbounded)
+
+  pub surface-refuses : (f : BspFace) (n : ℕ) → surfaceOf s m f ≡ refused n → n ≡ 23
+  unfolding surfaceOf
+  surface-refuses f =
+      only-indexed (texinfoOf s m (f .«texinfo_id»)) _ (λ info.
+      only-then (spanOf s m info (f .«edge_id») (f .«edge_count»)) _ (only-span info (f .«edge_id») (f .«edge_count»)) (λ w. only-answer (surfaceIn w (info .special))))

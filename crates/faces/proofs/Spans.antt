@@ -33,7 +33,7 @@ module _ (s : List ℕ) (m : BspData) (info : BspTexInfo) where
 
   -- the test of the range; `total` is what the count's call answers
   module _ {total : ℕ} (is-total : total ≡ recordCount EdgeList (m .edgelist)) (first count : ℕ) where
-    pub outside : total < first + count → refused 11 ≡ spanOf s m info first count
+    pub outside : total < first + count → refused 23 ≡ spanOf s m info first count
     unfolding spanOf
     outside h = simp (← is-total, lt-ltb total (first + count) h)
 

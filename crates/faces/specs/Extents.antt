@@ -1,5 +1,5 @@
 -- The texture mins and extents of a face, in the order of the Rust's text after 'see Calc_SurfaceExtents'. Each operation on floats is
--- rounded once. An index that leads outside its table is refused with 11, as loading does where the Rust panics.
+-- rounded once. An index that leads to no record is 23; loading makes that 11, where the Rust panics.
 use Prim.Native.Nat.{ℕ, zero, suc, _+_}
 use mathlib.Core.Bool.{Bool}
 use mathlib.Core.List.{List}
@@ -31,10 +31,10 @@ use Rattle.faces.specs.declared.extents.SpanAnswer.the-variants as SpanA
 use Rattle.faces.specs.declared.extents.SurfaceAnswer.{SurfaceAnswer}
 use Rattle.faces.specs.declared.extents.SurfaceAnswer.the-variants as SurfaceA
 
--- a record that an index leads to: where there is none, 11
+-- a record that an index leads to: where there is none, 23
 abbrev pub indexed : {A B : Type 0} → Answer A → (A → Answer B) → Answer B
 indexed (answer v) k = k v
-indexed (refused n) k = refused 11
+indexed (refused n) k = refused 23
 
 -- `vertex_ids[direction as usize]`
 abbrev pub vertexOn : BspEdgeDirection → BspEdge → ℕ
@@ -79,7 +79,7 @@ spanOver s m info (suc n) i w = thenAnswer (cornerOf s m i) (λ v. spanOver s m 
 -- the whole range is tested before its first entry
 unfoldable pub spanOf : List ℕ → BspData → BspTexInfo → ℕ → ℕ → Answer Span
 spanOf s m info first count =
-    when (ltb (recordCount EdgeList (m .edgelist)) (first + count)) (refused 11)
+    when (ltb (recordCount EdgeList (m .edgelist)) (first + count)) (refused 23)
     (spanOver s m info count first unbounded)
 
 abbrev pub sixteen : Float
@@ -127,16 +127,11 @@ withSurface f x = record {
   extents = x .extents;
 }
 
--- what by-index reading makes of the surface: any refusal is 23
-abbrev pub orUnreadable : {A B : Type 0} → Answer A → (A → Answer B) → Answer B
-orUnreadable (answer v) k = k v
-orUnreadable (refused n) k = refused 23
-
 -- the face of an index, with its texture mins and extents; 12 is not tested
 unfoldable pub faceOf : List ℕ → BspData → ℕ → Answer BspFace
 faceOf s m i =
     thenAnswer (fileFaceOf s m i) (λ f.
-    orUnreadable (surfaceOf s m f) (λ x.
+    thenAnswer (surfaceOf s m f) (λ x.
     answer (withSurface f x)))
 
 -- what the answers stand for

@@ -46,13 +46,13 @@ fn corner(s: &[u8], map: BspData, index: usize) -> VertexAnswer
     ensures { λ r. ⌜ vertexAnswer r ≡ cornerOf (now (s .entry)) map index ⌝ }
 {
     match edgelist(s, map, index) {
-        EdgeIndexAnswer::Refused(_) => VertexAnswer::Refused(Refusal::InvalidIndex),
+        EdgeIndexAnswer::Refused(_) => VertexAnswer::Refused(Refusal::Unreadable),
         EdgeIndexAnswer::Value(entry) => match edge(s, map, entry.index) {
-            EdgeAnswer::Refused(_) => VertexAnswer::Refused(Refusal::InvalidIndex),
+            EdgeAnswer::Refused(_) => VertexAnswer::Refused(Refusal::Unreadable),
             EdgeAnswer::Value(e) => {
                 let direction = entry.direction;
                 match vertex(s, map, vertex_on(direction, e)) {
-                    VertexAnswer::Refused(_) => VertexAnswer::Refused(Refusal::InvalidIndex),
+                    VertexAnswer::Refused(_) => VertexAnswer::Refused(Refusal::Unreadable),
                     VertexAnswer::Value(v) => VertexAnswer::Value(v),
                 }
             }
@@ -128,10 +128,10 @@ fn span_in_list(s: &[u8], map: BspData, info: BspTexInfo, first: usize, count: u
 {
     let total = map.edgelist.record_count(BspFileSectionId::EdgeList) as usize;
     if total < count {
-        return SpanAnswer::Refused(Refusal::InvalidIndex);
+        return SpanAnswer::Refused(Refusal::Unreadable);
     }
     if total - count < first {
-        return SpanAnswer::Refused(Refusal::InvalidIndex);
+        return SpanAnswer::Refused(Refusal::Unreadable);
     }
     span_over(s, map, info, first, count)
 }
@@ -178,12 +178,12 @@ pub enum SurfaceAnswer {
     Refused(Refusal),
 }
 
-// The texture mins and extents of a face.
+// The texture mins and extents of a face. 23 where its texture info, its edges or their vertices are not there; loading makes that 11.
 pub fn surface_of(s: &[u8], map: BspData, face: BspFace) -> SurfaceAnswer
     ensures { λ r. ⌜ surfaceAnswer r ≡ surfaceOf (now (s .entry)) map face ⌝ }
 {
     match texinfo(s, map, face.texinfo_id) {
-        TexInfoAnswer::Refused(_) => SurfaceAnswer::Refused(Refusal::InvalidIndex),
+        TexInfoAnswer::Refused(_) => SurfaceAnswer::Refused(Refusal::Unreadable),
         TexInfoAnswer::Value(info) => match span_in_list(
             s,
             map,
@@ -226,7 +226,7 @@ pub fn face(s: &[u8], map: BspData, index: usize) -> FaceAnswer
     match file_face(s, map, index) {
         FaceAnswer::Refused(e) => FaceAnswer::Refused(e),
         FaceAnswer::Value(face) => match surface_of(s, map, face) {
-            SurfaceAnswer::Refused(_) => FaceAnswer::Refused(Refusal::Unreadable),
+            SurfaceAnswer::Refused(e) => FaceAnswer::Refused(e),
             SurfaceAnswer::Value(of) => FaceAnswer::Value(with_surface(face, of)),
         },
     }

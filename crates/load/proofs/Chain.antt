@@ -38,7 +38,7 @@ module _ {B : Type 0} (k : Surface → Step B) where
   pub surface-ok : (r : SurfaceAnswer) (x : Answer Surface) (v : Surface) (y : Step B) → surfaceAnswer r ≡ x → r ≡ Sur.Value v → y ≡ k v → y ≡ withAnswer x k
   surface-ok r x v y e q h = rw (sym e ∙ ap surfaceAnswer q) h
 
-  pub surface-no : (r : SurfaceAnswer) (x : Answer Surface) (n : Refusal) → surfaceAnswer r ≡ x → r ≡ Sur.Refused n → refused (numberOf n) ≡ withAnswer x k
+  pub surface-no : (r : SurfaceAnswer) (x : Answer Surface) (n : Refusal) → surfaceAnswer r ≡ x → r ≡ Sur.Refused n → refused 11 ≡ withAnswer x k
   surface-no r x n e q = rw (sym e ∙ ap surfaceAnswer q)
 
 module _ {B : Type 0} (k : BspRenderNode → ℕ → Step B) where

@@ -7,7 +7,7 @@ use mathlib.Core.Path.{_≡_, refl, sym, ap, _∙_, subst}
 use mathlib.Core.Bool.{Bool, true, false}
 use mathlib.Core.List.{List}
 use native.Mathlib.Omega.{arith}
-use borrow.Author.Tests.{eqb-true, ne-eqb, leb-true, leb-false, lt-leb, ltb-false, le-ltb}
+use borrow.Author.Tests.{eqb-true, leb-true}
 use lib.Dec.{eqb, leb, ltb}
 use lib.ListN.{length}
 use Rattle.format.specs.Answer as Answer
@@ -99,25 +99,21 @@ blob-lies s z e = by (eqb (z .offset + min (z .size) (length s - z .offset)) (z 
     by true h g = omega (arith, eqb-true (z .offset + min (z .size) (length s - z .offset)) (z .offset + z .size) h)
     by false h g = not-ok g
 
--- what the tests of the entity text say of its length
-pub record Told (s : List ℕ) (z : BspFileSection) : Type 0 where
-  pub short : length (textOf s (z .offset)) ≤ 65536
-  pub whole : length (textOf s (z .offset)) ≡ z .size
-
-told : (s : List ℕ) (z : BspFileSection) → Ok (entities s z) → Told s z
+-- an entity text that passed its tests is as long as its section
+as-long : (s : List ℕ) (z : BspFileSection) → Ok (entities s z) → length (textOf s (z .offset)) ≡ z .size
 unfolding entities
-told s z e =
+as-long s z e =
     let n = length (textOf s (z .offset)) in
-    let a = left (ltb 65536 n) 8 _ (e .0) (e .1) in
-    by (isUtf8 (textOf s (z .offset))) (eqb (z .offset + n) (z .offset + z .size)) refl (ltb-false 65536 n (a .0)) (a .1)
+    by (isUtf8 (textOf s (z .offset))) (eqb (z .offset + n) (z .offset + z .size)) refl (left (ltb 65536 n) 8 _ (e .0) (e .1) .1)
   where
-    by : (t u : Bool) → eqb (z .offset + length (textOf s (z .offset))) (z .offset + z .size) ≡ u → length (textOf s (z .offset)) ≤ 65536
-        → when t (when u (here (z .offset + length (textOf s (z .offset)))) (refused 7)) (refused 9) ≡ here (e .0) → Told s z
-    by true true h l g =
+    by : (t u : Bool) → eqb (z .offset + length (textOf s (z .offset))) (z .offset + z .size) ≡ u
+        → when t (when u (here (z .offset + length (textOf s (z .offset)))) (refused 7)) (refused 9) ≡ here (e .0)
+        → length (textOf s (z .offset)) ≡ z .size
+    by true true h g =
         let q = eqb-true (z .offset + length (textOf s (z .offset))) (z .offset + z .size) h in
-        record { short = l; whole = omega arith }
-    by true false h l g = not-ok g
-    by false u h l g = not-ok g
+        omega arith
+    by true false h g = not-ok g
+    by false u h g = not-ok g
 
 -- the leaves that one render node names
 pub record Named (n : ℕ) (v : BspRenderNode) : Type 0 where
@@ -236,23 +232,18 @@ module _ (s : List ℕ) (m : BspData) (loads : loadOf s ≡ answer m) where
   -- the entity text is the entity section
   pub entity-text : entitiesOf s m ≡ part (m .entities .offset) (m .entities .size)
   unfolding entitiesOf
-  entity-text = by (m .entities .size) refl
+  entity-text = by (leb (length s) at) refl
     where
       at : ℕ
       at = m .entities .offset
 
-      by : (k : ℕ) → m .entities .size ≡ k
-          → when (eqb k 0) (part at 0) (when (leb (length s) at) (Answer.refused 23) (when (ltb 65536 (textEnd s at - at)) (Answer.refused 23) (part at (textEnd s at - at)))) ≡ part at k
-      by zero z = refl
-      by (suc k) z =
-          let t = told s (m .entities) (passed s m loads .text) in
-          let l = long s at in
-          let n : textEnd s at - at ≡ suc k = sym l ∙ t .whole ∙ z in
-          simp (n, ne-eqb (suc k) 0 (λ q. omega arith), lt-leb (length s) at (filled (leb (length s) at) refl n), le-ltb 65536 (suc k) (omega arith))
-        where
-          filled : (b : Bool) → leb (length s) at ≡ b → textEnd s at - at ≡ suc k → at < length s
-          filled true q n = absurd (omega (arith, empty s at (leb-true (length s) at q)))
-          filled false q n = omega (arith, leb-false (length s) at q)
+      whole : textEnd s at - at ≡ m .entities .size
+      whole = sym (long s at) ∙ as-long s (m .entities) (passed s m loads .text)
+
+      by : (b : Bool) → leb (length s) at ≡ b
+          → when b (when (eqb (m .entities .size) 0) (part at 0) (Answer.refused 23)) (part at (textEnd s at - at)) ≡ part at (m .entities .size)
+      by true q = let z : m .entities .size ≡ 0 = sym whole ∙ empty s at (leb-true (length s) at q) in rw z refl
+      by false q = ap (part at) whole
 
   -- the visibility data and the lightmaps lie in the file
   pub visibility-lies : m .visibility .size ≤ length s - m .visibility .offset

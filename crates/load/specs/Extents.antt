@@ -19,10 +19,10 @@ use Rattle.sections.specs.Row.{eachRecord}
 unfoldable pub isBad : Bool → ℤ → Bool
 isBad special extent = not special && ltZ (pos 2000) extent
 
--- what was worked out of other records, and what follows
+-- what was worked out of other records, and what follows; where one of them is not there the Rust panics (11)
 abbrev pub withAnswer : {A B : Type 0} → Answer A → (A → Step B) → Step B
 withAnswer (Answer.answer v) k = k v
-withAnswer (Answer.refused n) k = refused n
+withAnswer (Answer.refused n) k = refused 11
 
 -- one face
 unfoldable pub extentsAt : ℕ → ℕ → BspData → List ℕ → ℕ → Step (Unit {0})

@@ -28,7 +28,7 @@ fn read_extents(s: &[u8], at: usize, map: BspData, planes: u32, infos: u32) -> P
     match read_face(s, at, planes, infos) {
         ReadFace::Refused(e) => Position::Refused(e),
         ReadFace::Value(face, next) => match surface_of(s, map, face) {
-            SurfaceAnswer::Refused(e) => Position::Refused(e),
+            SurfaceAnswer::Refused(_) => Position::Refused(Refusal::InvalidIndex),
             SurfaceAnswer::Value(x) => {
                 if is_bad(x.special, x.extents.s) {
                     return Position::Refused(Refusal::BadExtents);

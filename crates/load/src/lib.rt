@@ -2,9 +2,9 @@
 ghost use mathlib.Core.Path.{_≡_};
 ghost use Rattle.load.specs.Load.{loadedStep, loadedAnswer, loadAt, loadOf, fromPlanes, counted, fromVertices, fromTexinfo, fromCollisionNodes, fromEdges, fromExtents};
 
-pub mod extents;
-pub mod section;
-pub mod tested;
+mod extents;
+mod section;
+mod tested;
 
 use crate::extents::check_extents;
 use crate::section::check_edgelist;

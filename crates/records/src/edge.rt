@@ -21,7 +21,7 @@ pub enum ReadEdge {
     EndOfFile,
 }
 
-pub fn read_edge(s: &[u8], at: usize) -> ReadEdge
+fn read_edge(s: &[u8], at: usize) -> ReadEdge
     ensures { λ r. ⌜ edgeStep r ≡ edgeAt (now (s .entry)) at ⌝ }
 {
     let ReadU16::Value(vertex_id_0, p) = read_u16(s, at) else {
@@ -69,7 +69,7 @@ pub struct BspEdgeIndex {
 
 // The entry of a number x: the edge x, or if x is negative the edge -x walked backward. `-x` of the least i32 is itself, and its
 // cast to usize is 2^64 - 2^31.
-pub fn edge_index_of(x: i32) -> BspEdgeIndex
+fn edge_index_of(x: i32) -> BspEdgeIndex
     ensures { λ r. ⌜ r ≡ edgeIndex x ⌝ }
 {
     if x < 0 {
@@ -96,7 +96,7 @@ pub enum ReadEdgeIndex {
     EndOfFile,
 }
 
-pub fn read_edge_index(s: &[u8], at: usize) -> ReadEdgeIndex
+fn read_edge_index(s: &[u8], at: usize) -> ReadEdgeIndex
     ensures { λ r. ⌜ edgeIndexStep r ≡ edgeIndexAt (now (s .entry)) at ⌝ }
 {
     match read_i32(s, at) {

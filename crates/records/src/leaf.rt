@@ -5,9 +5,9 @@ ghost use Rattle.records.specs.Leaf.{contentsAt, contentsStep, soundsAt,
 use crate::number::OptionalOffset;
 use crate::number::ReadOffset;
 use crate::number::read_offset;
+use crate::point::read_point;
 use crate::triple::Point;
 use crate::triple::ReadPoint;
-use crate::triple::read_point;
 use format::code::CodedContents;
 use format::code::contents_of_negated_i32;
 use format::contents::BspLeafContents;

@@ -5,5 +5,6 @@ pub mod leaf;
 pub mod node;
 pub mod number;
 pub mod plane;
+mod point;
 pub mod texinfo;
 pub mod triple;

@@ -2,9 +2,9 @@
 ghost use mathlib.Core.Path.{_≡_};
 ghost use Rattle.records.specs.Node.{renderChild, renderChildAt, renderChildStep, renderNodeAt, renderNodeEndAt, renderNodeStep, renderNodeOf, renderNodeAnswer, collisionChildAt, collisionChildStep, collisionNodeAt, collisionNodeStep, collisionNodeOf, collisionNodeAnswer};
 use crate::number::read_index16;
+use crate::point::read_point;
 use crate::triple::Point;
 use crate::triple::ReadPoint;
-use crate::triple::read_point;
 use format::code::CodedContents;
 use format::code::contents_of_negated_i16;
 use format::contents::BspLeafContents;
@@ -36,7 +36,7 @@ pub struct BspRenderNode {
 }
 
 // A child f: a node, or if it is negative the leaf -1 - f.
-pub fn render_child_of(f: i16) -> BspRenderNodeChild
+fn render_child_of(f: i16) -> BspRenderNodeChild
     ensures { λ r. ⌜ r ≡ renderChild f ⌝ }
 {
     if f < 0 {
@@ -51,7 +51,7 @@ pub enum ReadRenderChild {
     EndOfFile,
 }
 
-pub fn read_render_child(s: &[u8], at: usize) -> ReadRenderChild
+fn read_render_child(s: &[u8], at: usize) -> ReadRenderChild
     ensures { λ r. ⌜ renderChildStep r ≡ renderChildAt (now (s .entry)) at ⌝ }
 {
     match read_i16(s, at) {
@@ -160,7 +160,7 @@ pub enum ReadCollisionChild {
 }
 
 // A child x: a node, or if it is negative the contents of the code -x.
-pub fn read_collision_child(s: &[u8], at: usize) -> ReadCollisionChild
+fn read_collision_child(s: &[u8], at: usize) -> ReadCollisionChild
     ensures { λ r. ⌜ collisionChildStep r ≡ collisionChildAt (now (s .entry)) at ⌝ }
 {
     match read_i16(s, at) {

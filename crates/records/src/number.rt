@@ -77,7 +77,7 @@ pub enum OptionalOffset {
 }
 
 // The offset x; -1 stands for none.
-pub fn offset_of(x: i32) -> OptionalOffset
+fn offset_of(x: i32) -> OptionalOffset
     ensures { λ r. ⌜ r ≡ offsetOf x ⌝ }
 {
     if x < 0 {

@@ -32,7 +32,7 @@ pub enum ReadPlane {
 }
 
 // `read_hyperplane`.
-pub fn read_plane(s: &[u8], at: usize) -> ReadPlane
+fn read_plane(s: &[u8], at: usize) -> ReadPlane
     ensures { λ r. ⌜ planeStep r ≡ planeAt (now (s .entry)) at ⌝ }
 {
     let ReadVector::Value(normal, p) = read_vector(s, at) else {

@@ -1,10 +1,8 @@
 // Three fields in a row: a vector of floats, and a point of whole numbers.
 ghost use mathlib.Core.Path.{_≡_};
-ghost use Rattle.records.specs.Triple.{vectorAt, vectorStep, pointAt, pointStep};
+ghost use Rattle.records.specs.Triple.{vectorAt, vectorStep};
 use format::field::ReadF32;
-use format::field::ReadI16;
 use format::field::read_f32;
-use format::field::read_i16;
 use math::Vector3;
 
 pub enum ReadVector {
@@ -38,20 +36,4 @@ pub struct Point {
 pub enum ReadPoint {
     Value(Point, usize),
     EndOfFile,
-}
-
-// Three whole numbers, `read_i16_3`.
-pub fn read_point(s: &[u8], at: usize) -> ReadPoint
-    ensures { λ r. ⌜ pointStep r ≡ pointAt (now (s .entry)) at ⌝ }
-{
-    let ReadI16::Value(x, p) = read_i16(s, at) else {
-        return ReadPoint::EndOfFile;
-    };
-    let ReadI16::Value(y, q) = read_i16(s, p) else {
-        return ReadPoint::EndOfFile;
-    };
-    let ReadI16::Value(z, next) = read_i16(s, q) else {
-        return ReadPoint::EndOfFile;
-    };
-    ReadPoint::Value(Point { x, y, z }, next)
 }

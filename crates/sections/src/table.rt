@@ -33,7 +33,7 @@ pub enum ReadTable {
     Refused(Refusal),
 }
 
-pub fn read_section(s: &[u8], at: usize, id: BspFileSectionId) -> ReadSection
+fn read_section(s: &[u8], at: usize, id: BspFileSectionId) -> ReadSection
     ensures { λ r. ⌜ Table.sectionStep r ≡ Table.sectionAt id (now (s .entry)) at ⌝ }
 {
     match format::field::read_index(s, at, Refusal::NegativeSectionOffset) {
@@ -80,7 +80,7 @@ fn read_three_sections(
     }
 }
 
-pub fn read_table(s: &[u8], at: usize) -> ReadTable
+fn read_table(s: &[u8], at: usize) -> ReadTable
     ensures { λ r. ⌜ Table.tableStep r ≡ Table.tableAt (now (s .entry)) at ⌝ }
 {
     match read_three_sections(

@@ -283,8 +283,10 @@ impl Map<'_> {
 
 /// The entity text.
 impl<'a> Map<'a> {
-    /// The bytes of the entity text: a part of the file, through its zero byte or to the file's end.
-    /// Refuses with 23 on a map record made by hand.
+    /// The bytes of the entity text: a part of the file, from its section's offset through the first
+    /// zero byte or to the file's end. Of a map that was loaded it is the section, at most 65,536 bytes;
+    /// on a map record made by hand it may be of any length, and it refuses with 23 where a section that
+    /// is not empty starts at or past the file's end.
     ///
     /// ```
     /// # let file = std::fs::read(concat!(env!("CARGO_MANIFEST_DIR"), "/../../maps/smallest.bsp")).unwrap();
@@ -316,7 +318,8 @@ impl<'a> Map<'a> {
 /// Hulls, points and segments.
 impl Map<'_> {
     /// A hull of a model: 0 for points, 1 for a player, 2 for larger ones. Refuses with 20 for a hull
-    /// above 2 or a model outside its table, and with 23 on a map record made by hand.
+    /// above 2 or a model outside its table, and with 23 on a map record made by hand where the model's
+    /// own record cannot be read; the models before it are not looked at.
     ///
     /// ```
     /// # let file = std::fs::read(concat!(env!("CARGO_MANIFEST_DIR"), "/../../maps/rooms.bsp")).unwrap();

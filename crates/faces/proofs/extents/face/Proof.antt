@@ -19,5 +19,5 @@ face-spec =
     (λ c. search needs)
     (λ c κs. search needs)
     (λ c. unfold faceOf in rw (found faceAnswer (c .before .before .before .file-face .ensures) (c .before .e .given .1)))
-    (λ c. unfold faceOf in rw (found faceAnswer (c .before .before .before .before .before .before .file-face .ensures) (c .before .before .before .before .face .given .1), found surfaceAnswer (c .before .before .surface-of .ensures) (c .enum-told .given .1)))
+    (λ c. unfold faceOf in rw (found faceAnswer (c .before .before .before .before .before .before .before .file-face .ensures) (c .before .before .before .before .before .face .given .1), found surfaceAnswer (c .before .before .before .surface-of .ensures) (c .before .e2 .given .1)))
     (λ c. unfold faceOf in rw (found faceAnswer (c .before .before .before .before .before .before .before .before .file-face .ensures) (c .before .before .before .before .before .before .face .given .1), found surfaceAnswer (c .before .before .before .before .surface-of .ensures) (c .before .before .of .given .1), c .with-surface .ensures)))

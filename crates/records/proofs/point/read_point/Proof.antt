@@ -1,10 +1,10 @@
--- `records::triple::read_point` meets its contract: a chain of reads and tests.
+-- `records::point::read_point` meets its contract: a chain of reads and tests.
 -- Assumes nothing.
 use borrow.Author.Needs.{needs}
 use Rattle.format.proofs.Chain.{values, i16}
 use Rattle.records.specs.Triple.{pointAt}
-use Rattle.records.proofs.triple.read_point.Statement.{statement}
-use Rattle.records.proofs.triple.read_point.Tie as tie
+use Rattle.records.proofs.point.read_point.Statement.{statement}
+use Rattle.records.proofs.point.read_point.Tie as tie
 
 pub read-point-spec : {M : Type 1} → statement M
 read-point-spec =
