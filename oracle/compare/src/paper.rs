@@ -130,18 +130,15 @@ impl<'a> Map<'a> {
     }
 
     /// The entity text: its offset, and its length through the first zero byte or to the file's
-    /// end. An empty section has an empty text, wherever it lies.
+    /// end, whatever the section's size. At or past the file's end there is nothing to read: a
+    /// section that is not empty leads outside (23), and an empty one never does.
     pub fn entities(&self) -> Answer<[u64; 2]> {
         let at = self.offset(ENTITIES);
-        if self.size(ENTITIES) == 0 {
-            return Ok([at, 0]);
-        }
         let rest = self.file.get(at as usize..).unwrap_or(&[]);
-        let zero = rest.iter().position(|&byte| byte == 0);
-        let length = zero.map_or(rest.len(), |zero| zero + 1) as u64;
-        if length == 0 || length > 65_536 {
+        if rest.is_empty() && self.size(ENTITIES) > 0 {
             return Err(23);
         }
-        Ok([at, length])
+        let zero = rest.iter().position(|&byte| byte == 0);
+        Ok([at, zero.map_or(rest.len(), |zero| zero + 1) as u64])
     }
 }

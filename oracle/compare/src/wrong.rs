@@ -188,10 +188,20 @@ wrong! {
             refusal => refusal,
         }
     };
-    hand_made: entities_of_any_length, entities, "bsp_entities", |f, m, o| {
-        match stub::bsp_entities(f, m, o) {
-            23 if (m[0] as usize) < f.len() => 8,
-            refusal => refusal,
+    hand_made: entities_of_65536_at_most, entities, "bsp_entities", |f, m, o| {
+        let mut found = [0; 2];
+        match stub::bsp_entities(f, m, &mut found) {
+            0 if found[1] > 65_536 => 23,
+            _ => stub::bsp_entities(f, m, o),
+        }
+    };
+    hand_made: entities_of_an_empty_section, entities, "bsp_entities", |f, m, o| {
+        changed(stub::bsp_entities(f, m, o), o, |o| if m[1] == 0 { o[1] = 0 })
+    };
+    hand_made: hull_reads_the_models_before, hull, "bsp_hull", |f, m, n, i, o| {
+        match stub::bsp_record(f, m, 14, n, &mut [0; stub::RECORD_WORDS]) {
+            23 if i < 3 => 23,
+            _ => stub::bsp_hull(f, m, n, i, o),
         }
     };
     hand_made: list_above_its_limit, pvs, "bsp_pvs", |f, m, l, c, list, o| {

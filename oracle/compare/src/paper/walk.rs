@@ -51,13 +51,14 @@ pub fn box_words(bounds: &[f32]) -> Answer<Vec<u64>> {
 }
 
 impl Map<'_> {
-    /// The nine words of a model's hull: both numbers (20), then the model (23).
+    /// The nine words of a model's hull: both numbers (20), then the model's own record (23). The
+    /// models before it are not asked for: they are leaf_id's.
     pub fn hull_words(&self, model: u64, index: u64) -> Answer<Vec<u64>> {
         if model >= self.count(MODELS) || index > 2 {
             return Err(20);
         }
-        let (model, _) = self.model(model)?;
-        let root = model.roots[index as usize];
+        let own = self.by_index(MODELS, model, records::model)?;
+        let root = own.roots[index as usize];
         let bounds: [f32; 6] = match index {
             0 => [0.0; 6],
             1 => [-16.0, -16.0, -24.0, 16.0, 16.0, 32.0],
