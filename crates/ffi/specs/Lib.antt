@@ -1,2 +1,2 @@
--- What the contracts of `ffi` cite, beside the definitions of `ffi_records`, `ffi_hull` and `ffi_entered`.
+-- What the contracts of `ffi` cite.
 pub mod Calls

@@ -1,35 +1,17 @@
 // The map core for C and Rust: numbers and lists of numbers alone. A slice is a pointer and then a length. Each call answers 0, or the
 // number of a refusal of document 01; what it answers goes to the front of a list that the caller lends. A refusal writes nothing.
+// Each hands its arguments on: the calls themselves stand in the crates `ffi_..`, since a static library has the exported functions of one
+// crate alone.
 ghost use mathlib.Core.Path.{_≡_};
-ghost use Prim.Native.Nat.{_≤_};
-ghost use lib.ListN.{length};
-ghost use Rattle.format.specs.Answer.{mapped};
-ghost use Rattle.words.specs.Words.{written, left, given, numberWords};
-ghost use Rattle.vis.specs.Pvs.{lengthOf};
-ghost use Rattle.tree.specs.Check.{heightAnswer};
-ghost use Rattle.ffi_records.specs.Calls as Records;
-ghost use Rattle.ffi_hull.specs.Calls as Hulls;
-ghost use Rattle.ffi_entered.specs.Calls as Listing;
+ghost use Rattle.words.specs.Words.{written, left};
 ghost use Rattle.ffi.specs.Calls as Calls;
-use load::Loaded;
-use nodes::table::HullTable;
-use tree::TreeChecked;
-use vis::Pvs;
-use words::give;
-use words::map_of;
 
 // Loads a file: the 31 words of its map record.
 #[no_mangle]
 pub extern "C" fn bsp_load(file: &[u8], map: &mut [u32]) -> u32
     ensures { λ r. ⌜ written r (now (map .exit)) ≡ Calls.bspLoad (now (file .entry)) (now (map .entry)) ⌝ }
 {
-    if map.len() < 31 {
-        return 22;
-    }
-    match load::load(file) {
-        Loaded::Refused(e) => e.number(),
-        Loaded::Map(data) => words::give_u32(&words::map_words(data), map),
-    }
+    ffi_load::load(file, map)
 }
 
 // The record of an index, in the words of its section.
@@ -41,7 +23,7 @@ pub extern "C" fn bsp_record(
     index: u64,
     out: &mut [u64],
 ) -> u32
-    ensures { λ r. ⌜ written r (now (out .exit)) ≡ Records.bspRecord (now (file .entry)) (now (map .entry)) section index (now (out .entry)) ⌝ }
+    ensures { λ r. ⌜ written r (now (out .exit)) ≡ Calls.bspRecord (now (file .entry)) (now (map .entry)) section index (now (out .entry)) ⌝ }
 {
     ffi_records::record(file, map, section, index, out)
 }
@@ -49,17 +31,17 @@ pub extern "C" fn bsp_record(
 // How many records a section has.
 #[no_mangle]
 pub extern "C" fn bsp_count(map: &[u32], section: u32, out: &mut [u64]) -> u32
-    ensures { λ r. ⌜ written r (now (out .exit)) ≡ Records.bspCount (now (map .entry)) section (now (out .entry)) ⌝ }
+    ensures { λ r. ⌜ written r (now (out .exit)) ≡ Calls.bspCount (now (map .entry)) section (now (out .entry)) ⌝ }
 {
-    ffi_records::count(map, section, out)
+    ffi_counts::count(map, section, out)
 }
 
 // Offset and length of the entity text.
 #[no_mangle]
 pub extern "C" fn bsp_entities(file: &[u8], map: &[u32], out: &mut [u64]) -> u32
-    ensures { λ r. ⌜ written r (now (out .exit)) ≡ Records.bspEntities (now (file .entry)) (now (map .entry)) (now (out .entry)) ⌝ }
+    ensures { λ r. ⌜ written r (now (out .exit)) ≡ Calls.bspEntities (now (file .entry)) (now (map .entry)) (now (out .entry)) ⌝ }
 {
-    ffi_records::entities(file, map, out)
+    ffi_counts::entities(file, map, out)
 }
 
 // The hull of a model: 9 words.
@@ -71,7 +53,7 @@ pub extern "C" fn bsp_hull(
     index: u64,
     hull: &mut [u64],
 ) -> u32
-    ensures { λ r. ⌜ written r (now (hull .exit)) ≡ Hulls.bspHull (now (file .entry)) (now (map .entry)) model index (now (hull .entry)) ⌝ }
+    ensures { λ r. ⌜ written r (now (hull .exit)) ≡ Calls.bspHull (now (file .entry)) (now (map .entry)) model index (now (hull .entry)) ⌝ }
 {
     ffi_hull::hull_of_model(file, map, model, index, hull)
 }
@@ -79,7 +61,7 @@ pub extern "C" fn bsp_hull(
 // The hull of a box: 9 words.
 #[no_mangle]
 pub extern "C" fn bsp_box(bounds: &[f32], hull: &mut [u64]) -> u32
-    ensures { λ r. ⌜ written r (now (hull .exit)) ≡ Hulls.bspBox (now (bounds .entry)) (now (hull .entry)) ⌝ }
+    ensures { λ r. ⌜ written r (now (hull .exit)) ≡ Calls.bspBox (now (bounds .entry)) (now (hull .entry)) ⌝ }
 {
     ffi_hull::hull_of_box(bounds, hull)
 }
@@ -93,9 +75,9 @@ pub extern "C" fn bsp_contents(
     point: &[f32],
     out: &mut [u64],
 ) -> u32
-    ensures { λ r. ⌜ written r (now (out .exit)) ≡ Hulls.bspContents (now (file .entry)) (now (map .entry)) (now (hull .entry)) (now (point .entry)) (now (out .entry)) ⌝ }
+    ensures { λ r. ⌜ written r (now (out .exit)) ≡ Calls.bspContents (now (file .entry)) (now (map .entry)) (now (hull .entry)) (now (point .entry)) (now (out .entry)) ⌝ }
 {
-    ffi_hull::contents(file, map, hull, point, out)
+    ffi_walks::contents(file, map, hull, point, out)
 }
 
 // Leaf and visits.
@@ -107,9 +89,9 @@ pub extern "C" fn bsp_find_leaf(
     point: &[f32],
     out: &mut [u64],
 ) -> u32
-    ensures { λ r. ⌜ written r (now (out .exit)) ≡ Hulls.bspFindLeaf (now (file .entry)) (now (map .entry)) root (now (point .entry)) (now (out .entry)) ⌝ }
+    ensures { λ r. ⌜ written r (now (out .exit)) ≡ Calls.bspFindLeaf (now (file .entry)) (now (map .entry)) root (now (point .entry)) (now (out .entry)) ⌝ }
 {
-    ffi_hull::find_leaf(file, map, root, point, out)
+    ffi_walks::find_leaf(file, map, root, point, out)
 }
 
 // The trace of a segment: 17 words.
@@ -121,9 +103,9 @@ pub extern "C" fn bsp_trace(
     segment: &[f32],
     out: &mut [u64],
 ) -> u32
-    ensures { λ r. ⌜ written r (now (out .exit)) ≡ Hulls.bspTrace (now (file .entry)) (now (map .entry)) (now (hull .entry)) (now (segment .entry)) (now (out .entry)) ⌝ }
+    ensures { λ r. ⌜ written r (now (out .exit)) ≡ Calls.bspTrace (now (file .entry)) (now (map .entry)) (now (hull .entry)) (now (segment .entry)) (now (out .entry)) ⌝ }
 {
-    ffi_hull::trace(file, map, hull, segment, out)
+    ffi_traces::trace(file, map, hull, segment, out)
 }
 
 // The nodes that a call of `bsp_contents` enters, in order, at the front of `list`, and their count.
@@ -136,7 +118,7 @@ pub extern "C" fn bsp_contents_nodes(
     list: &mut [u32],
     out: &mut [u64],
 ) -> u32
-    ensures { λ r. ⌜ left r (now (list .exit)) (now (out .exit)) ≡ Listing.bspContentsNodes (now (file .entry)) (now (map .entry)) (now (hull .entry)) (now (point .entry)) (now (list .entry)) (now (out .entry)) ⌝ }
+    ensures { λ r. ⌜ left r (now (list .exit)) (now (out .exit)) ≡ Calls.bspContentsNodes (now (file .entry)) (now (map .entry)) (now (hull .entry)) (now (point .entry)) (now (list .entry)) (now (out .entry)) ⌝ }
 {
     ffi_entered::contents_nodes(file, map, hull, point, list, out)
 }
@@ -151,7 +133,7 @@ pub extern "C" fn bsp_find_leaf_nodes(
     list: &mut [u32],
     out: &mut [u64],
 ) -> u32
-    ensures { λ r. ⌜ left r (now (list .exit)) (now (out .exit)) ≡ Listing.bspFindLeafNodes (now (file .entry)) (now (map .entry)) root (now (point .entry)) (now (list .entry)) (now (out .entry)) ⌝ }
+    ensures { λ r. ⌜ left r (now (list .exit)) (now (out .exit)) ≡ Calls.bspFindLeafNodes (now (file .entry)) (now (map .entry)) root (now (point .entry)) (now (list .entry)) (now (out .entry)) ⌝ }
 {
     ffi_entered::find_leaf_nodes(file, map, root, point, list, out)
 }
@@ -166,19 +148,9 @@ pub extern "C" fn bsp_trace_nodes(
     list: &mut [u32],
     out: &mut [u64],
 ) -> u32
-    ensures { λ r. ⌜ left r (now (list .exit)) (now (out .exit)) ≡ Listing.bspTraceNodes (now (file .entry)) (now (map .entry)) (now (hull .entry)) (now (segment .entry)) (now (list .entry)) (now (out .entry)) ⌝ }
+    ensures { λ r. ⌜ left r (now (list .exit)) (now (out .exit)) ≡ Calls.bspTraceNodes (now (file .entry)) (now (map .entry)) (now (hull .entry)) (now (segment .entry)) (now (list .entry)) (now (out .entry)) ⌝ }
 {
     ffi_entered::trace_nodes(file, map, hull, segment, list, out)
-}
-
-fn give_length(pvs: Pvs, out: &mut [u64]) -> u32
-    requires { ⌜ 1 ≤ length (now out) ⌝ }
-    ensures { λ r. ⌜ written r (now (out .exit)) ≡ given (mapped numberWords (lengthOf pvs)) (now (out .entry)) ⌝ }
-{
-    match pvs {
-        Pvs::Refused(e) => e.number(),
-        Pvs::Length(n) => give(&[n as u64], out),
-    }
 }
 
 // The leaves that can be seen from a leaf, at the front of `list`, and their count.
@@ -193,43 +165,7 @@ pub extern "C" fn bsp_pvs(
 ) -> u32
     ensures { λ r. ⌜ left r (now (list .exit)) (now (out .exit)) ≡ Calls.bspPvs (now (file .entry)) (now (map .entry)) leaf «leaf_count» (now (list .entry)) (now (out .entry)) ⌝ }
 {
-    if map.len() < 31 {
-        return 22;
-    }
-    if out.len() < 1 {
-        return 22;
-    }
-    give_length(
-        vis::get_pvs(file, map_of(map), leaf as usize, leaf_count as usize, list),
-        out,
-    )
-}
-
-// The node table of a number.
-pub enum TableNumbered {
-    Table(HullTable),
-    NoTable,
-}
-
-fn table_numbered(n: u32) -> TableNumbered
-    ensures { λ r. ⌜ r ≡ Calls.tableNumbered n ⌝ }
-{
-    match n {
-        0 => TableNumbered::Table(HullTable::Render),
-        1 => TableNumbered::Table(HullTable::Clip),
-        2 => TableNumbered::Table(HullTable::Box),
-        _ => TableNumbered::NoTable,
-    }
-}
-
-fn give_height(checked: TreeChecked, out: &mut [u64]) -> u32
-    requires { ⌜ 1 ≤ length (now out) ⌝ }
-    ensures { λ r. ⌜ written r (now (out .exit)) ≡ given (mapped numberWords (heightAnswer checked)) (now (out .entry)) ⌝ }
-{
-    match checked {
-        TreeChecked::Refused(e) => e.number(),
-        TreeChecked::Height(h) => give(&[h as u64], out),
-    }
+    ffi_vis::pvs(file, map, leaf, leaf_count, list, out)
 }
 
 // The tree check from a root of a node table: the tree's height.
@@ -244,17 +180,5 @@ pub extern "C" fn bsp_tree_check(
 ) -> u32
     ensures { λ r. ⌜ left r (now (marks .exit)) (now (out .exit)) ≡ Calls.bspTreeCheck (now (file .entry)) (now (map .entry)) table root (now (marks .entry)) (now (out .entry)) ⌝ }
 {
-    if map.len() < 31 {
-        return 22;
-    }
-    if out.len() < 1 {
-        return 22;
-    }
-    match table_numbered(table) {
-        TableNumbered::NoTable => 20,
-        TableNumbered::Table(t) => give_height(
-            tree::tree_check(file, map_of(map), t, root as usize, marks),
-            out,
-        ),
-    }
+    ffi_tree::tree_check(file, map, table, root, marks, out)
 }

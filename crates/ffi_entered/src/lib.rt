@@ -12,6 +12,7 @@ use entered::walked::nodes_to_leaf;
 use entered::walked::nodes_to_point;
 use ffi_hull::layout;
 use hull::collision::HullAnswer;
+use words::LIST_TOO_SHORT;
 use words::give;
 
 fn give_count(entered: EnteredAnswer, out: &mut [u64]) -> u32
@@ -38,16 +39,16 @@ pub fn contents_nodes(
     ensures { λ r. ⌜ left r (now (list .exit)) (now (out .exit)) ≡ Calls.bspContentsNodes (now (file .entry)) (now (map .entry)) (now (hull .entry)) (now (point .entry)) (now (list .entry)) (now (out .entry)) ⌝ }
 {
     if map.len() < 31 {
-        return 22;
+        return LIST_TOO_SHORT;
     }
     if hull.len() < 9 {
-        return 22;
+        return LIST_TOO_SHORT;
     }
     if point.len() < 3 {
-        return 22;
+        return LIST_TOO_SHORT;
     }
     if out.len() < 1 {
-        return 22;
+        return LIST_TOO_SHORT;
     }
     match layout::walked_hull(hull) {
         HullAnswer::Refused(e) => e.number(),
@@ -71,13 +72,13 @@ pub fn find_leaf_nodes(
     ensures { λ r. ⌜ left r (now (list .exit)) (now (out .exit)) ≡ Calls.bspFindLeafNodes (now (file .entry)) (now (map .entry)) root (now (point .entry)) (now (list .entry)) (now (out .entry)) ⌝ }
 {
     if map.len() < 31 {
-        return 22;
+        return LIST_TOO_SHORT;
     }
     if point.len() < 3 {
-        return 22;
+        return LIST_TOO_SHORT;
     }
     if out.len() < 1 {
-        return 22;
+        return LIST_TOO_SHORT;
     }
     let m = layout::walked_map(map);
     let p = layout::first_point(point);
@@ -96,16 +97,16 @@ pub fn trace_nodes(
     ensures { λ r. ⌜ left r (now (list .exit)) (now (out .exit)) ≡ Calls.bspTraceNodes (now (file .entry)) (now (map .entry)) (now (hull .entry)) (now (segment .entry)) (now (list .entry)) (now (out .entry)) ⌝ }
 {
     if map.len() < 31 {
-        return 22;
+        return LIST_TOO_SHORT;
     }
     if hull.len() < 9 {
-        return 22;
+        return LIST_TOO_SHORT;
     }
     if segment.len() < 6 {
-        return 22;
+        return LIST_TOO_SHORT;
     }
     if out.len() < 1 {
-        return 22;
+        return LIST_TOO_SHORT;
     }
     match layout::walked_hull(hull) {
         HullAnswer::Refused(e) => e.number(),

@@ -1,2 +1,2 @@
--- What the proofs of `ffi_hull` and of `ffi_entered` share.
+-- What the proofs of `ffi_walks`, `ffi_traces` and `ffi_entered` share.
 pub mod Walked

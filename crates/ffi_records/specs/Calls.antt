@@ -1,12 +1,10 @@
--- What each call says, and what it leaves in the lent list.
+-- What the call says, and what it leaves in the lent list.
 use Prim.Native.Nat.{ℕ}
 use mathlib.Core.List.{List}
 use lib.Dec.{eqb}
-use Rattle.format.specs.Answer.{Answer, answer, refused, mapped}
+use Rattle.format.specs.Answer.{Answer, refused, mapped}
 use Rattle.format.specs.Step.{when}
-use Rattle.format.specs.Section.{sectionOf, recordCount}
 use Rattle.format.specs.declared.section.BspData.{BspData}
-use Rattle.format.specs.declared.section.BspFileSectionId.the-variants.{Entities, Planes, Textures, Vertices, Visibility, RenderNodes, TextureInfo, Faces, Lightmaps, CollisionNodes, Leaves, FaceList, Edges, EdgeList, Models}
 use Rattle.words.specs.Words.{Written, given, atLeast, mapOf}
 use Rattle.records.specs.Plane.{planeOf, vertexOf}
 use Rattle.records.specs.Node.{renderNodeOf, collisionNodeOf}
@@ -15,10 +13,7 @@ use Rattle.faces.specs.Extents.{faceOf}
 use Rattle.records.specs.Leaf.{leafOf}
 use Rattle.records.specs.Edge.{facelistOf, edgeOf, edgelistOf}
 use Rattle.models.specs.Model.{modelOf}
-use Rattle.models.specs.Text.{entitiesOf}
-use Rattle.ffi_records.specs.declared.SectionNumbered.{SectionNumbered}
-use Rattle.ffi_records.specs.declared.SectionNumbered.the-variants.{Section, NoSection}
-use Rattle.ffi_records.specs.Layout.{planeWords, vectorWords, renderNodeWords, texinfoWords, faceWords, collisionNodeWords, leafWords, numberWords, edgeWords, edgeIndexWords, modelWords, partWords}
+use Rattle.record_words.specs.Layout.{planeWords, vectorWords, renderNodeWords, texinfoWords, faceWords, collisionNodeWords, leafWords, numberWords, edgeWords, edgeIndexWords, modelWords}
 
 -- record i of a section, by its number in the file's header; 20 where it is none of these
 unfoldable pub recordIn : ℕ → List ℕ → BspData → ℕ → Answer (List ℕ)
@@ -38,34 +33,3 @@ recordIn section s m i =
 
 unfoldable pub bspRecord : List ℕ → List ℕ → ℕ → ℕ → List ℕ → Written
 bspRecord s map section i out = atLeast 31 map out (atLeast 20 out out (given (recordIn section s (mapOf map) i) out))
-
--- the section of a number, in the order of the file's header
-unfoldable pub sectionNumbered : ℕ → SectionNumbered
-sectionNumbered n =
-    when (eqb n 0) (Section Entities)
-    (when (eqb n 1) (Section Planes)
-    (when (eqb n 2) (Section Textures)
-    (when (eqb n 3) (Section Vertices)
-    (when (eqb n 4) (Section Visibility)
-    (when (eqb n 5) (Section RenderNodes)
-    (when (eqb n 6) (Section TextureInfo)
-    (when (eqb n 7) (Section Faces)
-    (when (eqb n 8) (Section Lightmaps)
-    (when (eqb n 9) (Section CollisionNodes)
-    (when (eqb n 10) (Section Leaves)
-    (when (eqb n 11) (Section FaceList)
-    (when (eqb n 12) (Section Edges)
-    (when (eqb n 13) (Section EdgeList)
-    (when (eqb n 14) (Section Models)
-    NoSection))))))))))))))
-
--- how many records a section has, or 20 where there is none of the number
-abbrev pub countIn : SectionNumbered → BspData → Answer ℕ
-countIn (Section id) m = answer (recordCount id (sectionOf id m))
-countIn NoSection m = refused 20
-
-unfoldable pub bspCount : List ℕ → ℕ → List ℕ → Written
-bspCount map section out = atLeast 31 map out (atLeast 1 out out (given (mapped numberWords (countIn (sectionNumbered section) (mapOf map))) out))
-
-unfoldable pub bspEntities : List ℕ → List ℕ → List ℕ → Written
-bspEntities s map out = atLeast 31 map out (atLeast 2 out out (given (mapped partWords (entitiesOf s (mapOf map))) out))

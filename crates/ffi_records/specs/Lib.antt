@@ -1,3 +1,2 @@
 -- What the contracts of `ffi_records` cite.
-pub mod Layout
 pub mod Calls

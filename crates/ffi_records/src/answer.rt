@@ -11,8 +11,7 @@ ghost use Rattle.models.specs.Model.{modelOf};
 ghost use Rattle.records.specs.Node.{renderNodeOf, collisionNodeOf};
 ghost use Rattle.records.specs.Plane.{planeOf, vertexOf};
 ghost use Rattle.records.specs.Texinfo.{texinfoOf};
-ghost use Rattle.ffi_records.specs.Layout as Layout;
-use crate::layout;
+ghost use Rattle.record_words.specs.Layout as Layout;
 use faces::face::FaceAnswer;
 use format::section::BspData;
 use models::model::ModelAnswer;
@@ -43,7 +42,7 @@ pub fn give_vertex(file: &[u8], map: BspData, index: usize, out: &mut [u64]) -> 
 {
     match records::plane::vertex(file, map, index) {
         VertexAnswer::Refused(e) => e.number(),
-        VertexAnswer::Value(value) => give(&layout::vector_words(value), out),
+        VertexAnswer::Value(value) => give(&record_words::vector_words(value), out),
     }
 }
 
@@ -53,7 +52,7 @@ pub fn give_render_node(file: &[u8], map: BspData, index: usize, out: &mut [u64]
 {
     match records::node::render_node(file, map, index) {
         RenderNodeAnswer::Refused(e) => e.number(),
-        RenderNodeAnswer::Value(value) => give(&layout::render_node_words(value), out),
+        RenderNodeAnswer::Value(value) => give(&record_words::render_node_words(value), out),
     }
 }
 
@@ -63,7 +62,7 @@ pub fn give_texinfo(file: &[u8], map: BspData, index: usize, out: &mut [u64]) ->
 {
     match records::texinfo::texinfo(file, map, index) {
         TexInfoAnswer::Refused(e) => e.number(),
-        TexInfoAnswer::Value(value) => give(&layout::texinfo_words(value), out),
+        TexInfoAnswer::Value(value) => give(&record_words::texinfo_words(value), out),
     }
 }
 
@@ -73,7 +72,7 @@ pub fn give_face(file: &[u8], map: BspData, index: usize, out: &mut [u64]) -> u3
 {
     match faces::extents::face(file, map, index) {
         FaceAnswer::Refused(e) => e.number(),
-        FaceAnswer::Value(value) => give(&layout::face_words(value), out),
+        FaceAnswer::Value(value) => give(&record_words::face_words(value), out),
     }
 }
 
@@ -83,7 +82,7 @@ pub fn give_collision_node(file: &[u8], map: BspData, index: usize, out: &mut [u
 {
     match records::node::collision_node(file, map, index) {
         CollisionNodeAnswer::Refused(e) => e.number(),
-        CollisionNodeAnswer::Value(value) => give(&layout::collision_node_words(value), out),
+        CollisionNodeAnswer::Value(value) => give(&record_words::collision_node_words(value), out),
     }
 }
 
@@ -93,7 +92,7 @@ pub fn give_leaf(file: &[u8], map: BspData, index: usize, out: &mut [u64]) -> u3
 {
     match records::leaf::leaf(file, map, index) {
         LeafAnswer::Refused(e) => e.number(),
-        LeafAnswer::Value(value) => give(&layout::leaf_words(value), out),
+        LeafAnswer::Value(value) => give(&record_words::leaf_words(value), out),
     }
 }
 
@@ -103,7 +102,7 @@ pub fn give_edge(file: &[u8], map: BspData, index: usize, out: &mut [u64]) -> u3
 {
     match records::edge::edge(file, map, index) {
         EdgeAnswer::Refused(e) => e.number(),
-        EdgeAnswer::Value(value) => give(&layout::edge_words(value), out),
+        EdgeAnswer::Value(value) => give(&record_words::edge_words(value), out),
     }
 }
 
@@ -113,7 +112,7 @@ pub fn give_edge_index(file: &[u8], map: BspData, index: usize, out: &mut [u64])
 {
     match records::edge::edgelist(file, map, index) {
         EdgeIndexAnswer::Refused(e) => e.number(),
-        EdgeIndexAnswer::Value(value) => give(&layout::edge_index_words(value), out),
+        EdgeIndexAnswer::Value(value) => give(&record_words::edge_index_words(value), out),
     }
 }
 
@@ -123,7 +122,7 @@ pub fn give_model(file: &[u8], map: BspData, index: usize, out: &mut [u64]) -> u
 {
     match models::model::model(file, map, index) {
         ModelAnswer::Refused(e) => e.number(),
-        ModelAnswer::Value(value) => give(&layout::model_words(value), out),
+        ModelAnswer::Value(value) => give(&record_words::model_words(value), out),
     }
 }
 

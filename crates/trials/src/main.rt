@@ -1,12 +1,16 @@
-// The trials: document 01's unmarked trials on the code, and a stored sample of the Rust's answers beside the code's. Standard input is the
-// sample, which `oracle/run sample` makes, at most 524,288 bytes. What is printed says how many cases of each kind ran and how many of all
-// differed: none, says the file `stdout`. (A program here has no exit status of its own.)
+// A stored sample of the Rust's answers beside the code's. Standard input is the sample, which `oracle/run sample` makes, at most 524,288
+// bytes. What is printed says how many cases of each kind ran and how many of all differed: none, says the file `stdout`. (A program here
+// has no exit status of its own.)
 mod replay;
 mod text;
-mod unmarked;
 
 use replay::Tally;
-use unmarked::print_line;
+
+fn print_line(name: &[u8], count: u64) {
+    io::write_all(1, name);
+    io::print_decimal(1, count);
+    io::write_all(1, b"\n");
+}
 
 // How many cases of each kind ran, how many in all, and how many of them differed.
 fn print_tally(tally: Tally) {
@@ -32,7 +36,6 @@ fn print_tally(tally: Tally) {
 }
 
 fn main() {
-    unmarked::run();
     let mut text = [0u8; 524288];
     let length = io::read_full(0, &mut text);
     let mut list = [0u64; 262144];

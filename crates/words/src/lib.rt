@@ -11,6 +11,11 @@ use math::Alignment;
 use math::Axis;
 use math::Hyperplane;
 
+// The numbers of the refusals that a call for C gives by itself, as `Refusal::number` has them.
+pub const LIST_TOO_SHORT: u32 = 22;
+
+pub const NO_SUCH_RECORD: u32 = 20;
+
 // Writes the words to the front of the list. What lies past them is kept.
 fn put(words: &[u64], out: &mut [u64])
     requires { ⌜ length (now words) ≤ length (now out) ⌝ }
@@ -28,7 +33,7 @@ pub fn give(words: &[u64], out: &mut [u64]) -> u32
     ensures { λ r. ⌜ Words.written r (now (out .exit)) ≡ Words.give (now (words .entry)) (now (out .entry)) ⌝ }
 {
     if out.len() < words.len() {
-        return 22;
+        return LIST_TOO_SHORT;
     }
     put(words, out);
     0
@@ -50,7 +55,7 @@ pub fn give_u32(words: &[u32], out: &mut [u32]) -> u32
     ensures { λ r. ⌜ Words.written r (now (out .exit)) ≡ Words.give (now (words .entry)) (now (out .entry)) ⌝ }
 {
     if out.len() < words.len() {
-        return 22;
+        return LIST_TOO_SHORT;
     }
     put_u32(words, out);
     0

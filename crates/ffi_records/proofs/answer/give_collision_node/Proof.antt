@@ -4,7 +4,7 @@ use mathlib.Core.Path.{refl}
 use native.Mathlib.Omega.{arith}
 use Rattle.words.proofs.Giving.{refuses, gives}
 use Rattle.records.specs.Node.{collisionNodeAnswer}
-use Rattle.ffi_records.specs.Layout.{collisionNodeWords}
+use Rattle.record_words.specs.Layout.{collisionNodeWords}
 use Rattle.ffi_records.proofs.answer.give_collision_node.Statement.{statement}
 use Rattle.ffi_records.proofs.answer.give_collision_node.Tie as tie
 

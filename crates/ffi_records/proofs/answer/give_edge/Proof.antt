@@ -4,7 +4,7 @@ use mathlib.Core.Path.{refl}
 use native.Mathlib.Omega.{arith}
 use Rattle.words.proofs.Giving.{refuses, gives}
 use Rattle.records.specs.Edge.{edgeAnswer}
-use Rattle.ffi_records.specs.Layout.{edgeWords}
+use Rattle.record_words.specs.Layout.{edgeWords}
 use Rattle.ffi_records.proofs.answer.give_edge.Statement.{statement}
 use Rattle.ffi_records.proofs.answer.give_edge.Tie as tie
 

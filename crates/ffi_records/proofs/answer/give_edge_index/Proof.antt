@@ -4,7 +4,7 @@ use mathlib.Core.Path.{refl}
 use native.Mathlib.Omega.{arith}
 use Rattle.words.proofs.Giving.{refuses, gives}
 use Rattle.records.specs.Edge.{edgeIndexAnswer}
-use Rattle.ffi_records.specs.Layout.{edgeIndexWords}
+use Rattle.record_words.specs.Layout.{edgeIndexWords}
 use Rattle.ffi_records.proofs.answer.give_edge_index.Statement.{statement}
 use Rattle.ffi_records.proofs.answer.give_edge_index.Tie as tie
 

@@ -4,7 +4,7 @@ use mathlib.Core.Path.{refl}
 use native.Mathlib.Omega.{arith}
 use Rattle.words.proofs.Giving.{refuses, gives}
 use Rattle.faces.specs.Face.{faceAnswer}
-use Rattle.ffi_records.specs.Layout.{faceWords}
+use Rattle.record_words.specs.Layout.{faceWords}
 use Rattle.ffi_records.proofs.answer.give_face.Statement.{statement}
 use Rattle.ffi_records.proofs.answer.give_face.Tie as tie
 

@@ -4,7 +4,7 @@ use mathlib.Core.Path.{refl}
 use native.Mathlib.Omega.{arith}
 use Rattle.words.proofs.Giving.{refuses, gives}
 use Rattle.records.specs.Edge.{faceIndexAnswer}
-use Rattle.ffi_records.specs.Layout.{numberWords}
+use Rattle.record_words.specs.Layout.{numberWords}
 use Rattle.ffi_records.proofs.answer.give_face_index.Statement.{statement}
 use Rattle.ffi_records.proofs.answer.give_face_index.Tie as tie
 

@@ -4,7 +4,7 @@ use mathlib.Core.Path.{refl}
 use native.Mathlib.Omega.{arith}
 use Rattle.words.proofs.Giving.{refuses, gives}
 use Rattle.records.specs.Leaf.{leafAnswer}
-use Rattle.ffi_records.specs.Layout.{leafWords}
+use Rattle.record_words.specs.Layout.{leafWords}
 use Rattle.ffi_records.proofs.answer.give_leaf.Statement.{statement}
 use Rattle.ffi_records.proofs.answer.give_leaf.Tie as tie
 

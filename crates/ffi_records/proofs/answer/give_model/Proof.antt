@@ -4,7 +4,7 @@ use mathlib.Core.Path.{refl}
 use native.Mathlib.Omega.{arith}
 use Rattle.words.proofs.Giving.{refuses, gives}
 use Rattle.models.specs.Model.{modelAnswer}
-use Rattle.ffi_records.specs.Layout.{modelWords}
+use Rattle.record_words.specs.Layout.{modelWords}
 use Rattle.ffi_records.proofs.answer.give_model.Statement.{statement}
 use Rattle.ffi_records.proofs.answer.give_model.Tie as tie
 

@@ -4,7 +4,7 @@ use mathlib.Core.Path.{refl}
 use native.Mathlib.Omega.{arith}
 use Rattle.words.proofs.Giving.{refuses, gives}
 use Rattle.records.specs.Plane.{planeAnswer}
-use Rattle.ffi_records.specs.Layout.{planeWords}
+use Rattle.record_words.specs.Layout.{planeWords}
 use Rattle.ffi_records.proofs.answer.give_plane.Statement.{statement}
 use Rattle.ffi_records.proofs.answer.give_plane.Tie as tie
 

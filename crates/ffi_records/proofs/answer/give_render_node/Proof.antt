@@ -4,7 +4,7 @@ use mathlib.Core.Path.{refl}
 use native.Mathlib.Omega.{arith}
 use Rattle.words.proofs.Giving.{refuses, gives}
 use Rattle.records.specs.Node.{renderNodeAnswer}
-use Rattle.ffi_records.specs.Layout.{renderNodeWords}
+use Rattle.record_words.specs.Layout.{renderNodeWords}
 use Rattle.ffi_records.proofs.answer.give_render_node.Statement.{statement}
 use Rattle.ffi_records.proofs.answer.give_render_node.Tie as tie
 

@@ -4,7 +4,7 @@ use mathlib.Core.Path.{refl}
 use native.Mathlib.Omega.{arith}
 use Rattle.words.proofs.Giving.{refuses, gives}
 use Rattle.records.specs.Texinfo.{texinfoAnswer}
-use Rattle.ffi_records.specs.Layout.{texinfoWords}
+use Rattle.record_words.specs.Layout.{texinfoWords}
 use Rattle.ffi_records.proofs.answer.give_texinfo.Statement.{statement}
 use Rattle.ffi_records.proofs.answer.give_texinfo.Tie as tie
 

@@ -4,7 +4,7 @@ use mathlib.Core.Path.{refl}
 use native.Mathlib.Omega.{arith}
 use Rattle.words.proofs.Giving.{refuses, gives}
 use Rattle.records.specs.Plane.{vertexAnswer}
-use Rattle.ffi_records.specs.Layout.{vectorWords}
+use Rattle.record_words.specs.Layout.{vectorWords}
 use Rattle.ffi_records.proofs.answer.give_vertex.Statement.{statement}
 use Rattle.ffi_records.proofs.answer.give_vertex.Tie as tie
 

@@ -1,0 +1,84 @@
+-- `ffi_counts::count` meets its contract. Assumes nothing.
+use borrow.Author.Needs.{needs}
+use mathlib.Core.Path.{_≡_, refl, ap, _∙_}
+use native.Mathlib.Omega.{arith}
+use borrow.Author.Tests.{lt-ltb, le-ltb}
+use Rattle.format.specs.Answer.{mapped}
+use Rattle.format.specs.Section.{recordCount}
+use Rattle.words.specs.Words.{Written, given, numberWords}
+use Rattle.words.proofs.Giving.{gives}
+use Rattle.ffi_counts.specs.Calls.{countIn, bspCount}
+use Rattle.ffi_counts.proofs.count.Statement.{statement}
+use Rattle.ffi_counts.proofs.count.Tie as tie
+
+-- where the lists are long enough
+long-enough : (c : tie.After-section-numbered) (w : Written)
+    → w ≡ given (mapped numberWords (countIn (c .section-numbered .result) (c .before .map-of .result))) (c .before .before .before .before .before .before .args .out .now)
+    → w ≡ bspCount (c .before .before .before .before .before .before .args .map .now) (c .before .before .before .before .before .before .args .section) (c .before .before .before .before .before .before .args .out .now)
+unfolding bspCount
+long-enough c w g = simp (le-ltb _ _ (c .before .before .before .if1 .left), le-ltb _ _ (c .before .before .if2 .left)) (rw (← c .section-numbered .ensures, ← c .before .map-of .ensures) g)
+
+returns : tie.Need-returns
+unfolding bspCount
+returns c = simp (lt-ltb _ _ (c .if1 .taken))
+
+returns-2 : tie.Need-returns-2
+unfolding bspCount
+returns-2 c = simp (le-ltb _ _ (c .before .if1 .left), lt-ltb _ _ (c .if2 .taken))
+
+map-of-requires : tie.Need-map-of-requires
+map-of-requires c κs = search needs
+
+section-numbered-requires : tie.Need-section-numbered-requires
+section-numbered-requires c κs = search needs
+
+enum-told : tie.Need-enum-told
+enum-told c = search needs
+
+enum-known-id : tie.Need-enum-known-id
+enum-known-id c = search needs
+
+section-requires : tie.Need-section-requires
+section-requires c κs = search needs
+
+record-count-requires : tie.Need-record-count-requires
+record-count-requires c κs = search needs
+
+cast-t13 : tie.Need-cast-t13
+cast-t13 c = search needs
+
+slice-aggregate-give : tie.Need-slice-aggregate-give
+slice-aggregate-give c = search needs
+
+give-requires : tie.Need-give-requires
+give-requires c κs = search needs
+
+returns-3 : tie.Need-returns-3
+returns-3 c = long-enough (c .before .before) _ (rw (c .enum-told .given .1))
+
+same-length : tie.Need-same-length
+same-length c = search needs
+
+returns-4 : tie.Need-returns-4
+returns-4 c =
+    let m = c .before .before .before .before .before .before .before .before .before .before .before .map-of .result in
+    long-enough (c .before .before .before .before .before .before .before .before .before .before) _ (gives (λ z. countIn z m) numberWords (c .before .before .before .before .before .before .before .before .before .before .before .before .before .before .before .before .args .out .now) refl (c .before .before .before .before .before .before .before .before .id .given .1) refl (ap numberWords (c .before .before .before .before .before .record-count .ensures ∙ ap (recordCount _) (c .before .before .before .before .before .before .section .ensures))) (omega (arith, c .before .before .before .before .before .before .before .before .before .before .before .before .if2 .left)) (c .before .before .give .ensures))
+
+pub count-spec : {M : Type 1} → statement M
+count-spec =
+    tie.close
+    (tie.spec
+    returns
+    returns-2
+    map-of-requires
+    section-numbered-requires
+    enum-told
+    enum-known-id
+    section-requires
+    record-count-requires
+    cast-t13
+    slice-aggregate-give
+    give-requires
+    returns-3
+    same-length
+    returns-4)

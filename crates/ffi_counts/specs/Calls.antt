@@ -1,0 +1,48 @@
+-- What each call says, and what it leaves in the lent list.
+use Prim.Native.Nat.{ℕ}
+use mathlib.Core.List.{List, [], _∷_}
+use lib.Dec.{eqb}
+use Rattle.format.specs.Answer.{Answer, answer, refused, mapped}
+use Rattle.format.specs.Step.{when}
+use Rattle.format.specs.Section.{sectionOf, recordCount}
+use Rattle.format.specs.declared.section.BspData.{BspData}
+use Rattle.format.specs.declared.section.BspFileSectionId.the-variants.{Entities, Planes, Textures, Vertices, Visibility, RenderNodes, TextureInfo, Faces, Lightmaps, CollisionNodes, Leaves, FaceList, Edges, EdgeList, Models}
+use Rattle.words.specs.Words.{Written, given, atLeast, numberWords, mapOf}
+use Rattle.models.specs.Text.{Part, entitiesOf}
+use Rattle.ffi_counts.specs.declared.SectionNumbered.{SectionNumbered}
+use Rattle.ffi_counts.specs.declared.SectionNumbered.the-variants.{Section, NoSection}
+
+-- the section of a number, in the order of the file's header
+unfoldable pub sectionNumbered : ℕ → SectionNumbered
+sectionNumbered n =
+    when (eqb n 0) (Section Entities)
+    (when (eqb n 1) (Section Planes)
+    (when (eqb n 2) (Section Textures)
+    (when (eqb n 3) (Section Vertices)
+    (when (eqb n 4) (Section Visibility)
+    (when (eqb n 5) (Section RenderNodes)
+    (when (eqb n 6) (Section TextureInfo)
+    (when (eqb n 7) (Section Faces)
+    (when (eqb n 8) (Section Lightmaps)
+    (when (eqb n 9) (Section CollisionNodes)
+    (when (eqb n 10) (Section Leaves)
+    (when (eqb n 11) (Section FaceList)
+    (when (eqb n 12) (Section Edges)
+    (when (eqb n 13) (Section EdgeList)
+    (when (eqb n 14) (Section Models)
+    NoSection))))))))))))))
+
+-- how many records a section has, or 20 where there is none of the number
+abbrev pub countIn : SectionNumbered → BspData → Answer ℕ
+countIn (Section id) m = answer (recordCount id (sectionOf id m))
+countIn NoSection m = refused 20
+
+unfoldable pub bspCount : List ℕ → ℕ → List ℕ → Written
+bspCount map section out = atLeast 31 map out (atLeast 1 out out (given (mapped numberWords (countIn (sectionNumbered section) (mapOf map))) out))
+
+-- where the entity text lies, and its length
+abbrev pub partWords : Part → List ℕ
+partWords p = p .offset ∷ p .size ∷ []
+
+unfoldable pub bspEntities : List ℕ → List ℕ → List ℕ → Written
+bspEntities s map out = atLeast 31 map out (atLeast 2 out out (given (mapped partWords (entitiesOf s (mapOf map))) out))

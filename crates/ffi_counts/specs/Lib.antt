@@ -1,0 +1,2 @@
+-- What the contracts of `ffi_counts` cite.
+pub mod Calls

@@ -1,0 +1,2 @@
+-- What the contract of `ffi_load` cites.
+pub mod Calls

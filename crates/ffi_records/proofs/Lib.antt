@@ -1,2 +1,0 @@
--- What the proofs of `ffi_records` share.
-pub mod Rows

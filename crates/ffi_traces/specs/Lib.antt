@@ -1,0 +1,3 @@
+-- What the contracts of `ffi_traces` cite.
+pub mod Layout
+pub mod Calls

@@ -1,0 +1,120 @@
+// Traces, as words in a list that a caller lends.
+ghost use mathlib.Core.Path.{_≡_};
+ghost use Prim.Native.Nat.{_≤_};
+ghost use lib.ListN.{length};
+ghost use Rattle.format.specs.Answer.{mapped};
+ghost use Rattle.words.specs.Words.{written, given};
+ghost use Rattle.walk.specs.Walk.{withVisits};
+ghost use Rattle.walk.specs.Trace as Tracing;
+ghost use Rattle.hull.specs.Hull.{hullTable};
+ghost use Rattle.ffi_traces.specs.Layout as Layout;
+ghost use Rattle.ffi_traces.specs.Calls as Calls;
+use ffi_hull::layout;
+use format::section::BspData;
+use hull::collision::BspCollisionHull;
+use hull::collision::HullAnswer;
+use hull::tracing::Traced;
+use math::Vector3;
+use phys::Trace;
+use phys::TraceEndBoundary;
+use phys::TraceEndKind;
+use words::LIST_TOO_SHORT;
+use words::flag_word;
+use words::float_word;
+use words::give;
+
+// 1, the ratio and the plane.
+fn boundary_words(boundary: TraceEndBoundary) -> [u64; 7]
+    ensures { λ r. ⌜ r ≡ Layout.boundaryWords boundary ⌝ }
+{
+    let p = words::plane_words(boundary.plane);
+    [1, float_word(boundary.ratio), p[0], p[1], p[2], p[3], p[4]]
+}
+
+// 0 and zeros for an end within a leaf.
+fn kind_words(kind: TraceEndKind) -> [u64; 7]
+    ensures { λ r. ⌜ r ≡ Layout.kindWords kind ⌝ }
+{
+    match kind {
+        TraceEndKind::Terminal => [0, 0, 0, 0, 0, 0, 0],
+        TraceEndKind::Boundary(boundary) => boundary_words(boundary),
+    }
+}
+
+fn trace_words(trace: Trace, visits: u64) -> [u64; 17]
+    ensures { λ r. ⌜ r ≡ Layout.traceWords (trace, visits) ⌝ }
+{
+    let contents = trace.contents;
+    let start = trace.start;
+    let end = trace.end;
+    let from = start.point;
+    let to = end.point;
+    let kind = end.kind;
+    let k = kind_words(kind);
+    [
+        visits,
+        contents.code() as u64,
+        flag_word(trace.start_solid),
+        float_word(from.x),
+        float_word(from.y),
+        float_word(from.z),
+        float_word(start.ratio),
+        float_word(to.x),
+        float_word(to.y),
+        float_word(to.z),
+        k[0],
+        k[1],
+        k[2],
+        k[3],
+        k[4],
+        k[5],
+        k[6],
+    ]
+}
+
+fn give_trace(
+    file: &[u8],
+    map: BspData,
+    hull: BspCollisionHull,
+    start: Vector3,
+    end: Vector3,
+    out: &mut [u64],
+) -> u32
+    requires { ⌜ 17 ≤ length (now out) ⌝ }
+    ensures { λ r. ⌜ written r (now (out .exit)) ≡ given (mapped Layout.traceWords (withVisits (Tracing.trace (hullTable (now (file .entry)) map hull) (hull .«node_id») start end))) (now (out .entry)) ⌝ }
+{
+    match hull::tracing::trace(file, map, hull, start, end) {
+        Traced::Refused(e) => e.number(),
+        Traced::Trace(value, visits) => give(&trace_words(value, visits), out),
+    }
+}
+
+// The trace of a segment through a hull. 22: a map of fewer than 31 words, a hull of fewer than 9, a segment of fewer than 6 floats or a
+// list of fewer than 17; 20: a hull of no table.
+pub fn trace(file: &[u8], map: &[u32], hull: &[u64], segment: &[f32], out: &mut [u64]) -> u32
+    ensures { λ r. ⌜ written r (now (out .exit)) ≡ Calls.bspTrace (now (file .entry)) (now (map .entry)) (now (hull .entry)) (now (segment .entry)) (now (out .entry)) ⌝ }
+{
+    if map.len() < 31 {
+        return LIST_TOO_SHORT;
+    }
+    if hull.len() < 9 {
+        return LIST_TOO_SHORT;
+    }
+    if segment.len() < 6 {
+        return LIST_TOO_SHORT;
+    }
+    if out.len() < 17 {
+        return LIST_TOO_SHORT;
+    }
+    match layout::walked_hull(hull) {
+        HullAnswer::Refused(e) => e.number(),
+        HullAnswer::Hull(h) => give_trace(
+            file,
+            layout::walked_map(map),
+            h,
+            layout::first_point(segment),
+            layout::second_point(segment),
+            out,
+        ),
+    }
+}

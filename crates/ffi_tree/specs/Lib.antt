@@ -1,0 +1,2 @@
+-- What the contract of `ffi_tree` cites.
+pub mod Calls

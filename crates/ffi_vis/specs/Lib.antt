@@ -1,0 +1,2 @@
+-- What the contract of `ffi_vis` cites.
+pub mod Calls

@@ -1,0 +1,111 @@
+-- `ffi_walks::contents` meets its contract. Assumes nothing.
+use borrow.Author.Needs.{needs}
+use Prim.Native.Nat.{ℕ}
+use mathlib.Core.Path.{_≡_, ap, _∙_}
+use borrow.Author.Tests.{lt-ltb, le-ltb}
+use Rattle.format.specs.Answer.{Answer, refused, mapped, thenAnswer}
+use Rattle.math.specs.declared.Vector3.{Vector3}
+use Rattle.words.specs.Words.{given, mapOf}
+use Rattle.hull.specs.Hull.{hullTable}
+use Rattle.ffi_hull.proofs.Walked.{no-hull, the-tables}
+use Rattle.walk.specs.Table.{Table}
+use Rattle.nodes.specs.Tables.{End}
+use Rattle.nodes.specs.Fast as Fast
+use Rattle.walk.specs.Walk.{withVisits, pointWalk}
+use Rattle.format.specs.declared.contents.BspLeafContents.{BspLeafContents}
+use Rattle.ffi_hull.specs.Layout.{pointAt, hullFrom}
+use Rattle.ffi_walks.specs.Calls.{contentsWords, bspContents}
+use Rattle.ffi_walks.proofs.contents.Statement.{statement}
+use Rattle.ffi_walks.proofs.contents.Tie as tie
+
+-- what is asked of a hull's table and root
+abbrev asked : Vector3 → Table End BspLeafContents → ℕ → Answer (BspLeafContents × ℕ)
+asked p T root = withVisits (pointWalk T root p)
+
+-- where the lists are long enough
+at-hull : (c : tie.After-walked-hull) (a : Answer (BspLeafContents × ℕ)) → let s = c .before .before .before .before .before .before .before .before .before .before .args in
+    a ≡ thenAnswer (hullFrom (s .hull .now)) (λ h. asked (pointAt (s .point .now) 0) (hullTable (s .file .now) (mapOf (s .map .now)) h) (h .«node_id»))
+    → given (mapped contentsWords a) (s .out .now) ≡ bspContents (s .file .now) (s .map .now) (s .hull .now) (s .point .now) (s .out .now)
+unfolding bspContents
+at-hull c a g =
+    simp (le-ltb _ _ (c .before .before .before .before .if1 .left), le-ltb _ _ (c .before .before .before .if2 .left), le-ltb _ _ (c .before .before .if3 .left), le-ltb _ _ (c .before .if4 .left))
+    (ap (λ (a : Answer (BspLeafContents × ℕ)). given (mapped contentsWords a) (c .before .before .before .before .before .before .before .before .before .before .args .out .now)) g)
+
+returns : tie.Need-returns
+unfolding bspContents
+returns c = simp (lt-ltb _ _ (c .if1 .taken))
+
+returns-2 : tie.Need-returns-2
+unfolding bspContents
+returns-2 c = simp (le-ltb _ _ (c .before .if1 .left), lt-ltb _ _ (c .if2 .taken))
+
+returns-3 : tie.Need-returns-3
+unfolding bspContents
+returns-3 c = simp (le-ltb _ _ (c .before .before .if1 .left), le-ltb _ _ (c .before .if2 .left), lt-ltb _ _ (c .if3 .taken))
+
+returns-4 : tie.Need-returns-4
+unfolding bspContents
+returns-4 c = simp (le-ltb _ _ (c .before .before .before .if1 .left), le-ltb _ _ (c .before .before .if2 .left), le-ltb _ _ (c .before .if3 .left), lt-ltb _ _ (c .if4 .taken))
+
+walked-hull-requires : tie.Need-walked-hull-requires
+walked-hull-requires c κs = search needs
+
+enum-known-e : tie.Need-enum-known-e
+enum-known-e c = search needs
+
+number-requires : tie.Need-number-requires
+number-requires c κs = search needs
+
+enum-known-h : tie.Need-enum-known-h
+enum-known-h c = search needs
+
+walked-map-requires : tie.Need-walked-map-requires
+walked-map-requires c κs = search needs
+
+tables-of-requires : tie.Need-tables-of-requires
+tables-of-requires c κs = search needs
+
+first-point-requires : tie.Need-first-point-requires
+first-point-requires c κs = search needs
+
+give-contents-requires : tie.Need-give-contents-requires
+give-contents-requires c κs = search needs
+
+returns-5 : tie.Need-returns-5
+returns-5 c =
+    let s = c .before .before .before .before .before .before .before .before .before .before .before .before .before .before .args in
+    at-hull (c .before .before .before .before) (refused _)
+    (no-hull (s .file .now) (s .map .now) (s .hull .now) (asked (pointAt (s .point .now) 0)) _ (c .before .before .before .before .walked-hull .ensures) _ (c .before .before .e .given .1) _ (c .number .ensures))
+
+same-length : tie.Need-same-length
+same-length c = search needs
+
+returns-6 : tie.Need-returns-6
+returns-6 c =
+    let w = c .before .before .before .before .before .before .before .before .before .before in
+    let s = w .before .before .before .before .before .before .before .before .before .before .args in
+    let h = c .before .before .before .before .before .before .before .before .h .given .0 .0 in
+    c .before .before .give-contents .ensures
+    ∙ at-hull w _
+    (ap (λ (p : Vector3). asked p (Fast.table (s .file .now) (c .before .before .before .before .before .tables-of .result)) (h .«node_id»)) (c .before .before .before .before .first-point .ensures)
+    ∙ the-tables (s .file .now) (s .map .now) (s .hull .now) (asked (pointAt (s .point .now) 0)) _ (w .walked-hull .ensures) h (c .before .before .before .before .before .before .before .before .h .given .1) _ (c .before .before .before .before .before .before .walked-map .ensures) _ (c .before .before .before .before .before .tables-of .ensures))
+
+pub contents-spec : {M : Type 1} → statement M
+contents-spec =
+    tie.close
+    (tie.spec
+    returns
+    returns-2
+    returns-3
+    returns-4
+    walked-hull-requires
+    enum-known-e
+    number-requires
+    enum-known-h
+    walked-map-requires
+    tables-of-requires
+    first-point-requires
+    give-contents-requires
+    returns-5
+    same-length
+    returns-6)

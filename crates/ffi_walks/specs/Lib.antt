@@ -1,0 +1,2 @@
+-- What the contracts of `ffi_walks` cite.
+pub mod Calls

@@ -1,0 +1,2 @@
+-- What the proofs of `record_words` share.
+pub mod Rows

@@ -1,0 +1,2 @@
+-- What the contracts of `record_words` cite.
+pub mod Layout
