@@ -3,3 +3,4 @@ mod Listing
 mod Trails
 mod Steps
 mod Parts
+mod Downs

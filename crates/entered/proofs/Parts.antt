@@ -1,13 +1,14 @@
 -- A part of a trace and the list that its nodes are written into: each way through `write_onward`, from what the calls for its parts answered.
 -- Assumes nothing.
-use Prim.Native.Nat.{ℕ, suc, _+_, _-_, _^_, _<_, _≤_}
+use Prim.Native.Nat.{ℕ, suc, _+_, _*_, _^_, _<_, _≤_}
 use mathlib.Core.Path.{_≡_, refl, sym, ap, ap₂, _∙_}
 use mathlib.Core.Bool.{Bool, true, false, cond}
 use mathlib.Core.List.{List, [], _∷_, _++_}
 use native.Mathlib.Omega.{arith}
-use borrow.Author.Tests.{lt-ltb, ltb-true, ltb-false}
+use borrow.Author.Tests.{ltb-true, ltb-false}
 use lib.Dec.{ltb}
-use lib.ListN.{length, set, length-set, length-append}
+use lib.Ieee.{Float}
+use lib.ListN.{length, set, length-append}
 use lib.Seq.{sets, length-sets, set-out}
 use Rattle.format.proofs.Answers.{mapped-answer, mapped-refused}
 use Rattle.format.specs.Answer as Ans
@@ -23,26 +24,28 @@ use Rattle.phys.specs.declared.Trace.{Trace as TraceT}
 use Rattle.phys.specs.declared.TraceStart.{TraceStart}
 use Rattle.phys.specs.declared.TraceEnd.{TraceEnd}
 use Rattle.walk.specs.Table.{Table}
-use Rattle.walk.specs.Walk.{Outcome, done, refused, entered, held, after, enter, meet, ended}
-use Rattle.walk.specs.Trace.{joined, withFar, traceAt, recursiveTrace, trace}
-use Rattle.walk.proofs.Steps.{trace-outside, trace-spent}
+use Rattle.walk.specs.Walk.{Outcome, done, refused, entered, held, after, ended}
+use Rattle.walk.specs.Trace.{joined, withFar, recursiveTrace, trace}
 use Rattle.nodes.specs.Tables.{End, tableOf}
 use Rattle.nodes.specs.Fast as Fast
 use Rattle.nodes.specs.Fast.{tablesOf, contentsMet}
 use Rattle.nodes.specs.declared.table.HullTable.{HullTable}
 use Rattle.nodes.specs.declared.table.Tables.{Tables}
+use Rattle.nodes.specs.declared.read.Words.{Words as WordsT}
 use Rattle.nodes.specs.declared.read.EndContents.{EndContents}
 use Rattle.nodes.specs.declared.read.EndContents.the-variants as E
 use Rattle.hull.proofs.Founds.{table-same}
 use Rattle.hull.specs.Traces.{stopsAt, joinedWith, joinFar, tracedAnswer}
 use Rattle.hull.specs.declared.tracing.Traced.{Traced}
 use Rattle.hull.specs.declared.tracing.Traced.the-variants as T
-use Rattle.entered.specs.Onward.{bothParts, part, followed, Steps, partOf, written, saysWith}
+use Rattle.entered.specs.Onward.{bothParts, followed, wholeOf, Crosses, partOf, written, saysWith, resumed, Goes}
 use Rattle.entered.specs.declared.traced.Onward.{Onward}
 use Rattle.entered.specs.declared.traced.Onward.the-variants as O
 use Rattle.entered.specs.declared.traced.Way.{Way}
-use Rattle.entered.specs.declared.traced.Step.{Step}
-use Rattle.entered.specs.declared.traced.Step.the-variants as S
+use Rattle.entered.specs.declared.traced.Down.{Down}
+use Rattle.entered.specs.declared.traced.Down.the-variants as D
+use Rattle.entered.specs.declared.traced.Crossed.{Crossed}
+use Rattle.entered.specs.declared.traced.Crossed.the-variants as C
 
 -- ---- entries written one after the other
 
@@ -64,17 +67,21 @@ sets-held ns l v short = by-test (ltb v (2 ^ 63)) refl
     by-test true q = let h : v < 2 ^ 63 = ltb-true v (2 ^ 63) q in ap (λ (k : ℕ). sets l k ns) {x = held v} {y = v} (omega arith)
     by-test false q = let h : 2 ^ 63 ≤ v = ltb-false v (2 ^ 63) q in sets-past ns l (held v) (omega arith) ∙ sym (sets-past ns l v (omega arith))
 
+-- a list as long as one that takes fewer than 2^63 bytes
+pub shorter : {a b : ℕ} → a ≡ b → b * 4 < 2 ^ 63 → a < 2 ^ 63
+shorter q h = omega arith
+
 -- ---- a trace and the list
 
 -- a node is entered
-written-entered : (v i : ℕ) (l : List ℕ) (o : Outcome TraceT) → written v l (entered i o) ≡ written (v + 1) (set l v i) o
+pub written-entered : (v i : ℕ) (l : List ℕ) (o : Outcome TraceT) → written v l (entered i o) ≡ written (v + 1) (set l v i) o
 written-entered v i l (done a ns) =
     let n : v + suc (length ns) ≡ v + 1 + length ns = omega arith in
     let k : suc v ≡ v + 1 = omega arith in
     ap₂ (λ (n k : ℕ). answer ((a, held n), sets (set l v i) k ns)) n k
 written-entered v i l (refused n) = refl
 
-written-held : (v : ℕ) (l : List ℕ) → length l < 2 ^ 63 → (o : Outcome TraceT) → written (held v) l o ≡ written v l o
+pub written-held : (v : ℕ) (l : List ℕ) → length l < 2 ^ 63 → (o : Outcome TraceT) → written (held v) l o ≡ written v l o
 written-held v l short (done a ns) =
     ap₂ (λ (n : ℕ) (m : List ℕ). answer ((a, n), m)) {x = held (held v + length ns)} {y = held (v + length ns)} (omega arith) (sets-held ns l v short)
 written-held v l short (refused n) = refl
@@ -126,6 +133,11 @@ module _ (f : List ℕ) (t : Tables) (w v : ℕ) (way : Way) (x : EndContents) (
   pub leaf-unmet : (z : Refusal) → x ≡ E.Refused z → Ans.refused (numberOf z) ≡ after v (in-leaf (contentsMet f t w))
   leaf-unmet z q = ap (λ (y : Answer BspLeafContents). after v (in-leaf y)) (sym (ap Fast.endAnswer q) ∙ is-x)
 
+in-one : (f : List ℕ) (t : Tables) (v : ℕ) (l : List ℕ) (way : Way) (x : Answer BspLeafContents)
+    → mapped (λ (z : TraceT × ℕ). (z, l)) (after v (ended (Fast.table f t) (λ y. Tr.newTrace (way .from) (way .to) y) x)) ≡ written v l (ended (Fast.table f t) (λ y. Tr.newTrace (way .from) (way .to) y) x)
+in-one f t v l way (answer y) = refl
+in-one f t v l way (Ans.refused n) = refl
+
 -- ---- the part that goes on to a child
 
 module _ (f : List ℕ) (t : Tables) (k v : ℕ) (l : List ℕ) (way : Way) (c : Onward) where
@@ -136,71 +148,49 @@ module _ (f : List ℕ) (t : Tables) (k v : ℕ) (l : List ℕ) (way : Way) (c :
   whole = written v l (partOf f t k way c)
 
   -- to an end
-  in-one : (x : Answer BspLeafContents) → mapped (λ (z : TraceT × ℕ). (z, l)) (after v (ended table (λ y. Tr.newTrace (way .from) (way .to) y) x)) ≡ written v l (ended table (λ y. Tr.newTrace (way .from) (way .to) y) x)
-  in-one (answer y) = refl
-  in-one (Ans.refused n) = refl
-
   pub at-end : (w : ℕ) → c ≡ O.End w → (r : Traced) → tracedAnswer r ≡ after v (ended table (λ y. Tr.newTrace (way .from) (way .to) y) (contentsMet f t w)) → saysWith l r ≡ whole
   unfolding contentsMet
   at-end w is-c r is-r =
-      ap (mapped (λ (z : TraceT × ℕ). (z, l))) is-r ∙ in-one (contentsMet f t w) ∙ sym (ap (λ (y : Onward). written v l (partOf f t k way y)) is-c)
+      ap (mapped (λ (z : TraceT × ℕ). (z, l))) is-r ∙ in-one f t v l way (contentsMet f t w) ∙ sym (ap (λ (y : Onward). written v l (partOf f t k way y)) is-c)
 
-  -- to the node i
-  module _ (i : ℕ) (is-c : c ≡ O.Node i) where
-    at-node : written v l (recursiveTrace table k i (way .from .point) (way .to .point)) ≡ whole
-    at-node = sym (ap (λ (y : Onward). written v l (partOf f t k way y)) is-c)
+  -- to the node i: down to where the segment crosses a plane or ends
+  module _ (i : ℕ) (is-c : c ≡ O.Node i) (l1 : List ℕ) (r : Down) (goes : Goes f t (way .from .point) (way .to .point) k (written v l (recursiveTrace table k i (way .from .point) (way .to .point))) l1 r) where
+    says : (x : Down) → r ≡ x → resumed f t (way .from .point) (way .to .point) l1 x ≡ whole
+    says x q = ap (resumed f t (way .from .point) (way .to .point) l1) (sym q) ∙ goes .says ∙ sym (ap (λ (y : Onward). written v l (partOf f t k way y)) is-c)
 
-    pub outside : t .nodes .count ≤ i → Ans.refused 30 ≡ whole
-    outside h = sym (ap (written v l) (trace-outside table (way .from .point) (way .to .point) k i h)) ∙ at-node
+    pub down-refused : (x : Refusal) → r ≡ D.Refused x → Ans.refused (numberOf x) ≡ whole
+    down-refused x q = says (D.Refused x) q
 
-    module _ (h : i < t .nodes .count) where
-      pub spent : k ≡ 0 → Ans.refused 32 ≡ whole
-      spent z = sym (ap (written v l) (trace-spent table (way .from .point) (way .to .point) k i z h)) ∙ at-node
+    pub down-end : (w u : ℕ) → r ≡ D.End w u → (way1 : Way) → way1 ≡ wholeOf way
+        → (p : Traced) → tracedAnswer p ≡ after u (ended table (λ y. Tr.newTrace (way1 .from) (way1 .to) y) (contentsMet f t w)) → saysWith l1 p ≡ whole
+    down-end w u q way1 is-way p is-p =
+        ap (mapped (λ (z : TraceT × ℕ). (z, l1))) is-p ∙ in-one f t u l1 way1 (contentsMet f t w)
+        ∙ ap (λ (y : Way). written u l1 (ended table (λ x. Tr.newTrace (y .from) (y .to) x) (contentsMet f t w))) is-way ∙ says (D.End w u) q
 
-      module _ (more : k ≡ 0 → ⊥) (short : length l < 2 ^ 63) (l1 : List ℕ) (is-l1 : l1 ≡ set l v i) (u : ℕ) (is-u : u ≡ held (v + 1)) (r : Step) (is-r : Steps f t i (way .from .point) (way .to .point) r) where
-        abbrev go : ℕ → Vector3 → Vector3 → Outcome TraceT
-        go n s e = recursiveTrace table (k - 1) n s e
+    module _ (w : WordsT) (a b : Float) (j u : ℕ) (is-d : r ≡ D.Crossing w a b j u) where
+      module _ (z : Crossed) (is-z : Crosses f t w a b (way .from .point) (way .to .point) z) where
+        crossed : (x : Crossed) → z ≡ x → written u l1 (followed f t (λ n s e. recursiveTrace table j n s e) x) ≡ whole
+        crossed x q = ap (λ (y : Crossed). written u l1 (followed f t (λ n s e. recursiveTrace table j n s e) y)) (sym q) ∙ ap (written u l1) (is-z j) ∙ says (D.Crossing w a b j u) is-d
 
-        step : recursiveTrace table k i (way .from .point) (way .to .point) ≡ traceAt table go i (way .from .point) (way .to .point) (enter table i)
-        unfolding recursiveTrace
-        step = by-left (k - 1) (omega arith)
-          where
-            by-left : (j : ℕ) → k ≡ suc j → recursiveTrace table k i (way .from .point) (way .to .point) ≡ traceAt table (λ n s e. recursiveTrace table j n s e) i (way .from .point) (way .to .point) (enter table i)
-            by-left j p = rw p (simp (lt-ltb i (t .nodes .count) h))
+        pub no-plane : (x : Refusal) → z ≡ C.Refused x → Ans.refused (numberOf x) ≡ whole
+        no-plane x q = crossed (C.Refused x) q
 
-        short1 : length l1 < 2 ^ 63
-        short1 = omega (arith, ap length is-l1, length-set l v i)
-
-        says : (x : Step) → r ≡ x → written u l1 (followed f t go x) ≡ whole
-        says x q =
-            ap₂ (λ (n : ℕ) (m : List ℕ). written n m (followed f t go x)) is-u is-l1
-            ∙ written-held (v + 1) (set l v i) (omega (arith, length-set l v i)) (followed f t go x)
-            ∙ sym (written-entered v i l (followed f t go x))
-            ∙ ap (λ (y : Step). written v l (entered i (followed f t go y))) (sym q)
-            ∙ ap (written v l) (is-r go ∙ sym step) ∙ at-node
-
-        pub unread : (x : Refusal) → r ≡ S.Refused x → Ans.refused (numberOf x) ≡ whole
-        unread x q = says (S.Refused x) q
-
-        pub one-child : (c1 : Onward) (w1 : Way) → r ≡ S.Whole c1 w1 → (x : List ℕ) (p : Traced) → saysWith x p ≡ written u l1 (partOf f t (k - 1) w1 c1) → saysWith x p ≡ whole
-        one-child c1 w1 q x p is-p = is-p ∙ says (S.Whole c1 w1) q
-
-        -- a crossing: the near part, then the far part
-        module _ (c1 : Onward) (w1 : Way) (c2 : Onward) (w2 : Way) (is-x : r ≡ S.Crossing c1 w1 c2 w2) (l2 : List ℕ) (p : Traced) (is-p : saysWith l2 p ≡ written u l1 (partOf f t (k - 1) w1 c1)) where
+        -- the near part, then the far part
+        module _ (c1 : Onward) (w1 : Way) (c2 : Onward) (w2 : Way) (is-x : z ≡ C.Parts c1 w1 c2 w2) (l2 : List ℕ) (p : Traced) (is-p : saysWith l2 p ≡ written u l1 (partOf f t j w1 c1)) where
           abbrev near : Outcome TraceT
-          near = partOf f t (k - 1) w1 c1
+          near = partOf f t j w1 c1
 
           abbrev far : Outcome TraceT
-          far = partOf f t (k - 1) w2 c2
+          far = partOf f t j w2 c2
 
-          crossed : written u l1 (bothParts (w1 .to .point) near far) ≡ whole
-          crossed = says (S.Crossing c1 w1 c2 w2) is-x
+          two : written u l1 (bothParts (w1 .to .point) near far) ≡ whole
+          two = crossed (C.Parts c1 w1 c2 w2) is-x
 
-          pub near-refused : (z : Refusal) → p ≡ T.Refused z → saysWith l2 p ≡ whole
-          near-refused z q =
+          pub near-refused : (x : Refusal) → p ≡ T.Refused x → saysWith l2 p ≡ whole
+          near-refused x q =
               ap (saysWith l2) q
-              ∙ sym (ap (λ (o : Outcome TraceT). written u l1 (bothParts (w1 .to .point) o far)) (written-refused u l1 near (numberOf z) (sym (ap (saysWith l2) q) ∙ is-p)))
-              ∙ crossed
+              ∙ sym (ap (λ (o : Outcome TraceT). written u l1 (bothParts (w1 .to .point) o far)) (written-refused u l1 near (numberOf x) (sym (ap (saysWith l2) q) ∙ is-p)))
+              ∙ two
 
           module _ (y : TraceT) (n : ℕ) (is-y : p ≡ T.Trace y n) (st? : Bool) (is-st? : st? ≡ stopsAt y (w1 .to .point)) where
             near-done : (ns : List ℕ) × (near ≡ done y ns) × (held (u + length ns) ≡ n) × (sets l1 u ns ≡ l2)
@@ -209,15 +199,15 @@ module _ (f : List ℕ) (t : Tables) (k v : ℕ) (l : List ℕ) (way : Way) (c :
             passed : (q : Bool) → st? ≡ q → written u l1 (cond q (done y (near-done .0)) (withFar y (near-done .0) far)) ≡ whole
             passed q e =
                 ap (λ (z : Bool). written u l1 (cond z (done y (near-done .0)) (withFar y (near-done .0) far))) (sym e ∙ is-st?)
-                ∙ sym (ap (λ (o : Outcome TraceT). written u l1 (bothParts (w1 .to .point) o far)) (near-done .1)) ∙ crossed
+                ∙ sym (ap (λ (o : Outcome TraceT). written u l1 (bothParts (w1 .to .point) o far)) (near-done .1)) ∙ two
 
             pub near-stops : st? ≡ true → answer ((y, n), l2) ≡ whole
             near-stops e = sym (ap (saysWith l2) is-y) ∙ is-p ∙ ap (written u l1) (near-done .1) ∙ passed true e
 
-            pub both : st? ≡ false → (x : List ℕ) (w : Traced) → saysWith x w ≡ written n l2 far → (res : Traced) → tracedAnswer res ≡ joinFar y (tracedAnswer w) → saysWith x res ≡ whole
-            both e x w is-w res is-res =
+            pub both : st? ≡ false → (x : List ℕ) (w : Traced) → saysWith x w ≡ written n l2 far → (res : Traced) → tracedAnswer res ≡ joinFar y (tracedAnswer w) → length l1 < 2 ^ 63 → saysWith x res ≡ whole
+            both e x w is-w res is-res short =
                 ap (mapped (λ (z : TraceT × ℕ). (z, x))) is-res
-                ∙ joins y u n (near-done .0) l1 l2 short1 (near-done .2) (near-done .3) x far (tracedAnswer w) is-w ∙ passed false e
+                ∙ joins y u n (near-done .0) l1 l2 short (near-done .2) (near-done .3) x far (tracedAnswer w) is-w ∙ passed false e
 
 -- ---- the trace through a hull, with the tables that the readers go by
 

@@ -1,32 +1,37 @@
 -- For the private contracts of `traced`: the part of a trace that goes on to a child, what a segment does at a node, and a trace with the list that its
 -- nodes are written into.
-use Prim.Native.Nat.{ℕ, _+_}
+use Prim.Native.Nat.{ℕ, suc, _+_, _≤_}
 use mathlib.Core.Path.{_≡_}
 use mathlib.Core.Bool.{cond}
 use mathlib.Core.List.{List}
 use lib.Dec.{ltb}
+use lib.Ieee.{Float}
 use lib.ListN.{length}
 use lib.Seq.{sets}
 use Rattle.format.specs.Answer as Ans
 use Rattle.format.specs.Answer.{Answer, answer, mapped}
 use Rattle.format.specs.Refusal.{numberOf}
+use Rattle.math.specs.Vector.{zero32}
 use Rattle.math.specs.declared.Vector3.{Vector3}
 use Rattle.phys.specs.Trace as Tr
 use Rattle.phys.specs.declared.Trace.{Trace}
 use Rattle.walk.specs.Table.{Child, node, end}
-use Rattle.walk.specs.Walk.{Outcome, done, refused, entered, held, enter, onto}
-use Rattle.walk.specs.Trace.{withFar, traceAt, recursiveTrace}
+use Rattle.walk.specs.Walk.{Outcome, done, refused, held, ended, onto}
+use Rattle.walk.specs.Trace.{withFar, recursiveTrace}
 use Rattle.nodes.specs.Tables.{End}
 use Rattle.nodes.specs.Fast as Fast
 use Rattle.nodes.specs.declared.table.HullTable.{HullTable}
 use Rattle.nodes.specs.declared.table.Tables.{Tables}
-use Rattle.hull.specs.Traces.{stopsAt, tracedAnswer}
+use Rattle.nodes.specs.declared.read.Words.{Words}
+use Rattle.hull.specs.Traces.{stopsAt, tracedAnswer, crossedAt}
 use Rattle.hull.specs.declared.tracing.Traced.{Traced}
 use Rattle.entered.specs.declared.traced.Onward.{Onward}
 use Rattle.entered.specs.declared.traced.Onward.the-variants as O
 use Rattle.entered.specs.declared.traced.Way.{Way}
-use Rattle.entered.specs.declared.traced.Step.{Step}
-use Rattle.entered.specs.declared.traced.Step.the-variants as S
+use Rattle.entered.specs.declared.traced.Down.{Down}
+use Rattle.entered.specs.declared.traced.Down.the-variants as D
+use Rattle.entered.specs.declared.traced.Crossed.{Crossed}
+use Rattle.entered.specs.declared.traced.Crossed.the-variants as C
 
 -- ---- a child
 
@@ -51,16 +56,19 @@ module _ (f : List ℕ) (t : Tables) (go : ℕ → Vector3 → Vector3 → Outco
   abbrev pub part : Way → Onward → Outcome Trace
   part w c = onto (Fast.table f t) (λ n. go n (w .from .point) (w .to .point)) (λ x. Tr.newTrace (w .from) (w .to) x) (childOf (t .table) c)
 
-  -- the trace that goes on as a step says
-  abbrev pub followed : Step → Outcome Trace
-  followed (S.Whole c w) = part w c
-  followed (S.Crossing c w c′ w′) = bothParts (w .to .point) (part w c) (part w′ c′)
-  followed (S.Refused x) = refused (numberOf x)
+  -- the trace of a segment in its two parts
+  abbrev pub followed : Crossed → Outcome Trace
+  followed (C.Parts c w c′ w′) = bothParts (w .to .point) (part w c) (part w′ c′)
+  followed (C.Refused x) = refused (numberOf x)
 
--- whatever the trace below a node is, the step at the node i goes on as the trace does
-abbrev pub Steps : List ℕ → Tables → ℕ → Vector3 → Vector3 → Step → Type 0
-Steps f t i s e r =
-    (go : ℕ → Vector3 → Vector3 → Outcome Trace) → entered i (followed f t go r) ≡ traceAt (Fast.table f t) go i s e (enter (Fast.table f t) i)
+-- all of a segment, as a leaf has it
+abbrev pub wholeOf : Way → Way
+wholeOf w = record { from = Tr.start (w .from .point) zero32; to = Tr.terminal (w .to .point) }
+
+-- the two parts of a segment whose ends are at the distances a and b of a node's plane are what the trace there has
+abbrev pub Crosses : List ℕ → Tables → Words → Float → Float → Vector3 → Vector3 → Crossed → Type 0
+Crosses f t w a b s e r =
+    (k : ℕ) → followed f t (λ n s e. recursiveTrace (Fast.table f t) k n s e) r ≡ crossedAt (Fast.table f t) k (Fast.nodeOf (t .table) w) s e a b (Fast.planeIn f t (w .plane))
 
 -- the part with k calls left
 abbrev pub partOf : List ℕ → Tables → ℕ → Way → Onward → Outcome Trace
@@ -76,3 +84,22 @@ written v l (refused n) = Ans.refused n
 -- what a call says, and the list after it; of a refusal the number alone
 abbrev pub saysWith : List ℕ → Traced → Answer ((Trace × ℕ) × List ℕ)
 saysWith l r = mapped (λ x. (x, l)) (tracedAnswer r)
+
+-- ---- the way down
+
+-- the trace from s to e taken up again where the way down came to, with the list as it is there
+abbrev pub resumed : List ℕ → Tables → Vector3 → Vector3 → List ℕ → Down → Answer ((Trace × ℕ) × List ℕ)
+resumed f t s e l (D.End w v) = written v l (ended (Fast.table f t) (λ c. Tr.newTrace (Tr.start s zero32) (Tr.terminal e) c) (Fast.contentsMet f t w))
+resumed f t s e l (D.Crossing w a b k v) = written v l (crossedAt (Fast.table f t) k (Fast.nodeOf (t .table) w) s e a b (Fast.planeIn f t (w .plane)))
+resumed f t s e l (D.Refused x) = Ans.refused (numberOf x)
+
+-- the calls that a crossing has taken are at least one
+abbrev pub withOneMore : Down → ℕ
+withOneMore (D.End w v) = 0
+withOneMore (D.Crossing w a b k v) = suc k
+withOneMore (D.Refused x) = 0
+
+-- taken up again, it says what the whole trace says
+pub record Goes (f : List ℕ) (t : Tables) (s e : Vector3) (left : ℕ) (all : Answer ((Trace × ℕ) × List ℕ)) (l : List ℕ) (r : Down) : Type 0 where
+  pub says : resumed f t s e l r ≡ all
+  pub falls : withOneMore r ≤ left

@@ -5,6 +5,7 @@ ghost use Rattle.format.specs.Listed.{listed, into};
 ghost use Rattle.phys.specs.Trace as Tr;
 ghost use Rattle.walk.specs.Walk.{after, ended};
 ghost use Rattle.walk.specs.Trace as Tracing;
+ghost use Rattle.walk.specs.Trace.{recursiveTrace};
 ghost use Rattle.nodes.specs.Fast as Fast;
 ghost use Rattle.hull.specs.Hull.{hullTable};
 ghost use Rattle.hull.specs.Traces.{tracedAnswer};
@@ -19,17 +20,19 @@ use hull::tracing::join_far;
 use hull::tracing::one_more;
 use hull::tracing::stops;
 use hull::tracing::trace;
-use math::LinePlaneIntersect;
 use math::Vector3;
 use nodes::read::EndContents;
-use nodes::read::ReadWords;
 use nodes::read::Words;
 use nodes::read::end_contents;
 use nodes::read::is_front;
 use nodes::read::plane_at;
-use nodes::read::read_words;
 use nodes::table::Tables;
 use nodes::table::tables_of;
+use nodes::walking::SegmentAt;
+use nodes::walking::are_whole;
+use nodes::walking::node_bytes;
+use nodes::walking::plane_bytes;
+use nodes::walking::segment_from;
 use phys::Trace;
 use phys::TraceEnd;
 use phys::TraceStart;
@@ -47,11 +50,24 @@ struct Way {
     to: TraceEnd,
 }
 
-// What a segment does at a node: all of it goes on to one child; or it crosses the plane, and the part up to the crossing goes on to the
-// near child and the part behind it to the far one. Refused: the node or its plane can't be read.
-enum Step {
-    Whole(Onward, Way),
-    Crossing(Onward, Way, Onward, Way),
+// The calls left and the nodes entered before.
+struct Counts {
+    left: u32,
+    visits: u64,
+}
+
+// Where a segment's way down comes to: the end of the leaf that all of it lies in, by its word; or a plane that it crosses, with the node's
+// words, the distances of its ends, the calls left below it; and the nodes entered.
+enum Down {
+    End(u16, u64),
+    Crossing(Words, f32, f32, u32, u64),
+    Refused(Refusal),
+}
+
+// What becomes of a segment that crosses a node's plane: the part up to the crossing goes on to the near child and the part behind it to the
+// far one. Refused: the plane can't be read.
+enum Crossed {
+    Parts(Onward, Way, Onward, Way),
     Refused(Refusal),
 }
 
@@ -66,38 +82,42 @@ fn child_on(w: Words, front: bool) -> Onward
     Onward::End(word)
 }
 
-fn step_at(s: &[u8], t: Tables, node: usize, start: Vector3, end: Vector3) -> Step
-    ensures { λ r. ⌜ Going.Steps (now (s .entry)) t node start end r ⌝ }
+// All of a segment, as a leaf has it.
+fn whole_of(way: Way) -> Way
+    ensures { λ r. ⌜ r ≡ Going.wholeOf way ⌝ }
 {
-    match read_words(s, t, node) {
-        ReadWords::Refused(e) => Step::Refused(e),
-        ReadWords::Words(w) => match plane_at(s, t, w.plane as usize) {
-            PlaneAnswer::Refused(e) => Step::Refused(e),
-            PlaneAnswer::Value(plane) => match plane.line_segment_intersection(start, end) {
-                LinePlaneIntersect::NoIntersection(side) => {
-                    let from = TraceStart::new(start, 0.0);
-                    let to = TraceEnd::terminal(end);
-                    Step::Whole(child_on(w, is_front(side)), Way { from, to })
-                }
-                LinePlaneIntersect::PointIntersection(x) => {
-                    let side = plane.point_side(start);
-                    let far_side = plane.point_side(end);
-                    let from = TraceStart::new(start, 0.0);
-                    let to = TraceEnd::boundary(x.point, x.ratio, plane.facing(side));
-                    let from_mid = TraceStart::new(x.point, x.ratio);
-                    let to_end = TraceEnd::terminal(end);
-                    Step::Crossing(
-                        child_on(w, is_front(side)),
-                        Way { from, to },
-                        child_on(w, is_front(far_side)),
-                        Way {
-                            from: from_mid,
-                            to: to_end,
-                        },
-                    )
-                }
-            },
-        },
+    let from = TraceStart::new(way.from.point, 0.0);
+    let to = TraceEnd::terminal(way.to.point);
+    Way { from, to }
+}
+
+// The two parts of a segment whose ends are at the distances a and b of a node's plane.
+fn parts_of(s: &[u8], t: Tables, w: Words, a: f32, b: f32, way: Way) -> Crossed
+    ensures { λ r. ⌜ Going.Crosses (now (s .entry)) t w a b (way .from .point) (way .to .point) r ⌝ }
+{
+    match plane_at(s, t, w.plane as usize) {
+        PlaneAnswer::Refused(e) => Crossed::Refused(e),
+        PlaneAnswer::Value(plane) => {
+            let start = way.from.point;
+            let end = way.to.point;
+            let ratio = a / (a - b);
+            let mid = start.add(end.sub(start).scale(ratio));
+            let side = plane.point_side(start);
+            let far_side = plane.point_side(end);
+            let from = TraceStart::new(start, 0.0);
+            let to = TraceEnd::boundary(mid, ratio, plane.facing(side));
+            let from_mid = TraceStart::new(mid, ratio);
+            let to_end = TraceEnd::terminal(end);
+            Crossed::Parts(
+                child_on(w, is_front(side)),
+                Way { from, to },
+                child_on(w, is_front(far_side)),
+                Way {
+                    from: from_mid,
+                    to: to_end,
+                },
+            )
+        }
     }
 }
 
@@ -122,8 +142,45 @@ fn write_at(list: &mut [u32], place: u64, node: u32)
     }
 }
 
-// The part of a trace that goes on to a child, with the calls left and the nodes entered before; each node is written into the list as it
-// is entered, as far as the list goes. At most 513 calls deep: one for each of 512 nodes, and one for an end.
+// Down from a node as long as the segment lies on one side of each plane; each node is written into the list as it is entered, as far as
+// the list goes.
+fn go_down(s: &[u8], t: Tables, node: usize, way: Way, c: Counts, list: &mut [u32]) -> Down
+    ensures { λ r. ⌜ Going.Goes (now (s .entry)) t (way .from .point) (way .to .point) (c .left) (Going.written (c .visits) (now (list .entry)) (recursiveTrace (Fast.table (now (s .entry)) t) (c .left) node (way .from .point) (way .to .point))) (now (list .exit)) r ⌝ }
+{
+    let whole = are_whole(t, s.len());
+    let nodes = node_bytes(s, t, whole);
+    let planes = plane_bytes(s, t, whole);
+    let mut i = node;
+    let mut left = c.left;
+    let mut visits = c.visits;
+    loop {
+        if (t.nodes.count as usize) <= i {
+            return Down::Refused(Refusal::IndexOutsideTable);
+        }
+        if left == 0 {
+            return Down::Refused(Refusal::TooDeep);
+        }
+        write_at(list, visits, i as u32);
+        match segment_from(s, t, nodes, planes, whole, i, way.from.point, way.to.point) {
+            SegmentAt::Refused(e) => return Down::Refused(e),
+            SegmentAt::Dists(w, a, b) => {
+                visits = one_more(visits);
+                left -= 1;
+                let front = a >= 0.0;
+                if front != (b >= 0.0) {
+                    return Down::Crossing(w, a, b, left, visits);
+                }
+                match child_on(w, front) {
+                    Onward::Node(n) => i = n,
+                    Onward::End(word) => return Down::End(word, visits),
+                }
+            }
+        }
+    }
+}
+
+// The part of a trace that goes on to a child, with the calls left and the nodes entered before; the nodes that it enters are written into
+// the list, as far as it goes. At most 513 calls deep: one for each of 512 nodes, and one for an end.
 fn write_onward(
     s: &[u8],
     t: Tables,
@@ -137,31 +194,24 @@ fn write_onward(
 {
     match child {
         Onward::End(word) => in_leaf(s, t, word, way, visits),
-        Onward::Node(node) => {
-            if (t.nodes.count as usize) <= node {
-                return Traced::Refused(Refusal::IndexOutsideTable);
-            }
-            if left == 0 {
-                return Traced::Refused(Refusal::TooDeep);
-            }
-            write_at(list, visits, node as u32);
-            let v = one_more(visits);
-            match step_at(s, t, node, way.from.point, way.to.point) {
-                Step::Refused(e) => Traced::Refused(e),
-                Step::Whole(only, whole) => write_onward(s, t, only, whole, left - 1, v, list),
-                Step::Crossing(near, to_mid, far, from_mid) => {
-                    let part = write_onward(s, t, near, to_mid, left - 1, v, list);
+        Onward::Node(node) => match go_down(s, t, node, way, Counts { left, visits }, list) {
+            Down::Refused(e) => Traced::Refused(e),
+            Down::End(word, v) => in_leaf(s, t, word, whole_of(way), v),
+            Down::Crossing(w, a, b, below, v) => match parts_of(s, t, w, a, b, way) {
+                Crossed::Refused(e) => Traced::Refused(e),
+                Crossed::Parts(near, to_mid, far, from_mid) => {
+                    let part = write_onward(s, t, near, to_mid, below, v, list);
                     let Traced::Trace(near_trace, n) = part else {
                         return part;
                     };
                     if stops(near_trace, to_mid.to.point) {
                         return part;
                     }
-                    let rest = write_onward(s, t, far, from_mid, left - 1, n, list);
+                    let rest = write_onward(s, t, far, from_mid, below, n, list);
                     join_far(near_trace, rest)
                 }
-            }
-        }
+            },
+        },
     }
 }
 

@@ -1,0 +1,146 @@
+-- `go_down` meets its contract. The loop's invariant: the trace from the present node, with the calls left, the visits so far and the list as
+-- it is, says what the trace from the first one says.
+-- Assumes nothing.
+use Prim.Native.Nat.{_*_, _^_, _<_, _≤_}
+use native.Mathlib.Omega.{arith}
+use mathlib.Core.Path.{_≡_, refl, _∙_}
+use lib.ListN.{length}
+use Rattle.walk.specs.Trace.{recursiveTrace}
+use Rattle.nodes.specs.Fast as Fast
+use Rattle.entered.specs.Onward.{written}
+use borrow.Author.Needs.{needs}
+use Rattle.entered.proofs.Downs.{outside, spent, unread, crosses, to-node, to-end}
+use Rattle.entered.proofs.traced.go_down.Statement.{statement}
+use Rattle.entered.proofs.traced.go_down.Tie as tie
+
+abbrev Inv-loop : tie.InvT-loop
+Inv-loop s t node way list₀ whole nodes planes i₀ left₀ visits₀ list i left visits =
+    (left ≤ left₀)
+    × ((length list ≡ length list₀)
+    × (written visits list (recursiveTrace (Fast.table s t) left i (way .from .point) (way .to .point)) ≡ written visits₀ list₀ (recursiveTrace (Fast.table s t) left₀ node (way .from .point) (way .to .point))))
+
+abbrev μ-loop : tie.MeasureT-loop
+μ-loop s t node way list₀ whole nodes planes i₀ left₀ visits₀ list i left visits = left
+
+-- a slice takes fewer than 2^63 bytes
+bytes : (c : tie.After-slice-known Inv-loop μ-loop) → length (c .before .before .args .list .now) * 4 < 2 ^ 63
+bytes c = omega arith
+
+-- what the reader says of the node, and the list before it
+short : (c : tie.After-segment-from Inv-loop μ-loop) → length (c .before .before .before .before .before .before .before .before .loop .list) < 2 ^ 63
+short c = omega (arith, bytes (c .before .before .before .before .before .before .before .before .before .before .before .before), c .before .before .before .before .before .before .before .before .loop .inv .1 .0)
+
+are-whole-requires : tie.Need-are-whole-requires Inv-loop μ-loop
+are-whole-requires c κs = search needs
+
+node-bytes-requires : tie.Need-node-bytes-requires Inv-loop μ-loop
+node-bytes-requires c κs = search needs
+
+plane-bytes-requires : tie.Need-plane-bytes-requires Inv-loop μ-loop
+plane-bytes-requires c κs = search needs
+
+loop-holds : tie.Need-loop-holds Inv-loop μ-loop
+loop-holds c = (search needs, (refl, refl))
+
+cast-if1 : tie.Need-cast-if1 Inv-loop μ-loop
+cast-if1 c = search needs
+
+same-length : tie.Need-same-length Inv-loop μ-loop
+same-length c = c .before .before .loop .inv .1 .0
+
+returns : tie.Need-returns Inv-loop μ-loop
+returns c = record { says = outside _ _ _ _ _ _ _ _ (c .if1 .taken) ∙ c .before .before .loop .inv .1 .1; falls = search needs }
+
+same-length-2 : tie.Need-same-length-2 Inv-loop μ-loop
+same-length-2 c = c .before .before .before .loop .inv .1 .0
+
+returns-2 : tie.Need-returns-2 Inv-loop μ-loop
+returns-2 c = record { says = spent _ _ _ _ _ _ _ _ (c .before .if1 .left) (c .if2 .taken) ∙ c .before .before .before .loop .inv .1 .1; falls = search needs }
+
+cast-write-at : tie.Need-cast-write-at Inv-loop μ-loop
+cast-write-at c = omega arith
+
+write-at-requires : tie.Need-write-at-requires Inv-loop μ-loop
+write-at-requires c κs = search needs
+
+segment-from-requires : tie.Need-segment-from-requires Inv-loop μ-loop
+segment-from-requires c κs = search needs
+
+enum-known-e : tie.Need-enum-known-e Inv-loop μ-loop
+enum-known-e c = search needs
+
+same-length-3 : tie.Need-same-length-3 Inv-loop μ-loop
+same-length-3 c = c .before .before .before .before .before .list .given ∙ c .before .before .before .before .before .before .before .before .before .before .before .loop .inv .1 .0
+
+returns-3 : tie.Need-returns-3 Inv-loop μ-loop
+returns-3 c = record { says = unread _ _ _ _ _ _ _ _ (c .before .before .before .before .before .before .before .before .before .if1 .left) (c .before .before .before .before .before .before .before .before .if2 .left) (c .before .before .before .segment-from .result) (c .before .before .before .segment-from .ensures .1 (record { told = c .before .before .before .before .before .before .before .before .before .before .before .before .before .before .are-whole .ensures; its-nodes = c .before .before .before .before .before .before .before .before .before .before .before .before .before .node-bytes .ensures; its-planes = c .before .before .before .before .before .before .before .before .before .before .before .before .plane-bytes .ensures })) _ (c .before .e .given .1) ∙ c .before .before .before .before .before .before .before .before .before .before .before .loop .inv .1 .1; falls = search needs }
+
+enum-known-w : tie.Need-enum-known-w Inv-loop μ-loop
+enum-known-w c = search needs
+
+one-more-requires : tie.Need-one-more-requires Inv-loop μ-loop
+one-more-requires c κs = search needs
+
+sub-left : tie.Need-sub-left Inv-loop μ-loop
+sub-left c = omega (arith, c .before .before .before .before .before .before .before .before .before .if2 .left)
+
+same-length-4 : tie.Need-same-length-4 Inv-loop μ-loop
+same-length-4 c = c .before .before .before .before .before .before .before .list .given ∙ c .before .before .before .before .before .before .before .before .before .before .before .before .before .loop .inv .1 .0
+
+returns-4 : tie.Need-returns-4 Inv-loop μ-loop
+returns-4 c = record { says = crosses _ _ _ _ _ _ _ _ (c .before .before .before .before .before .before .before .before .before .before .before .if1 .left) (c .before .before .before .before .before .before .before .before .before .before .if2 .left) (c .before .before .before .before .before .segment-from .result) (c .before .before .before .before .before .segment-from .ensures .1 (record { told = c .before .before .before .before .before .before .before .before .before .before .before .before .before .before .before .before .are-whole .ensures; its-nodes = c .before .before .before .before .before .before .before .before .before .before .before .before .before .before .before .node-bytes .ensures; its-planes = c .before .before .before .before .before .before .before .before .before .before .before .before .before .before .plane-bytes .ensures })) _ _ _ (c .before .before .before .w .given .1) (short (c .before .before .before .before .before)) _ (c .before .before .before .before .before .before .before .before .write-at .ensures) _ (c .before .one-more .ensures) (c .if3 .taken) ∙ c .before .before .before .before .before .before .before .before .before .before .before .before .before .loop .inv .1 .1; falls = omega (arith, c .before .before .before .before .before .before .before .before .before .before .if2 .left, c .before .before .before .before .before .before .before .before .before .before .before .before .before .loop .inv .0) }
+
+child-on-requires : tie.Need-child-on-requires Inv-loop μ-loop
+child-on-requires c κs = search needs
+
+enum-known-n : tie.Need-enum-known-n Inv-loop μ-loop
+enum-known-n c = search needs
+
+loop-less : tie.Need-loop-less Inv-loop μ-loop
+loop-less c = omega (arith, c .before .before .before .before .before .before .before .before .before .before .before .before .before .before .if2 .left)
+
+loop-again : tie.Need-loop-again Inv-loop μ-loop
+loop-again c = (omega (arith, c .before .before .before .before .before .before .before .before .before .before .before .before .before .before .before .before .before .loop .inv .0), (c .before .before .before .before .before .before .before .before .before .before .before .list .given ∙ c .before .before .before .before .before .before .before .before .before .before .before .before .before .before .before .before .before .loop .inv .1 .0, to-node _ _ _ _ _ _ _ _ (c .before .before .before .before .before .before .before .before .before .before .before .before .before .before .before .if1 .left) (c .before .before .before .before .before .before .before .before .before .before .before .before .before .before .if2 .left) (c .before .before .before .before .before .before .before .before .before .segment-from .result) (c .before .before .before .before .before .before .before .before .before .segment-from .ensures .1 (record { told = c .before .before .before .before .before .before .before .before .before .before .before .before .before .before .before .before .before .before .before .before .are-whole .ensures; its-nodes = c .before .before .before .before .before .before .before .before .before .before .before .before .before .before .before .before .before .before .before .node-bytes .ensures; its-planes = c .before .before .before .before .before .before .before .before .before .before .before .before .before .before .before .before .before .before .plane-bytes .ensures })) _ _ _ (c .before .before .before .before .before .before .before .w .given .1) (short (c .before .before .before .before .before .before .before .before .before)) _ (c .before .before .before .before .before .before .before .before .before .before .before .before .write-at .ensures) _ (c .before .before .before .before .before .one-more .ensures) (c .before .before .before .before .if3 .left) _ (c .before .before .before .child-on .ensures) _ (c .before .n .given .1) ∙ c .before .before .before .before .before .before .before .before .before .before .before .before .before .before .before .before .before .loop .inv .1 .1))
+
+enum-known-word : tie.Need-enum-known-word Inv-loop μ-loop
+enum-known-word c = search needs
+
+same-length-5 : tie.Need-same-length-5 Inv-loop μ-loop
+same-length-5 c = c .before .before .before .before .before .before .before .before .before .before .before .list .given ∙ c .before .before .before .before .before .before .before .before .before .before .before .before .before .before .before .before .before .loop .inv .1 .0
+
+returns-5 : tie.Need-returns-5 Inv-loop μ-loop
+returns-5 c = record { says = to-end _ _ _ _ _ _ _ _ (c .before .before .before .before .before .before .before .before .before .before .before .before .before .before .before .if1 .left) (c .before .before .before .before .before .before .before .before .before .before .before .before .before .before .if2 .left) (c .before .before .before .before .before .before .before .before .before .segment-from .result) (c .before .before .before .before .before .before .before .before .before .segment-from .ensures .1 (record { told = c .before .before .before .before .before .before .before .before .before .before .before .before .before .before .before .before .before .before .before .before .are-whole .ensures; its-nodes = c .before .before .before .before .before .before .before .before .before .before .before .before .before .before .before .before .before .before .before .node-bytes .ensures; its-planes = c .before .before .before .before .before .before .before .before .before .before .before .before .before .before .before .before .before .before .plane-bytes .ensures })) _ _ _ (c .before .before .before .before .before .before .before .w .given .1) (short (c .before .before .before .before .before .before .before .before .before)) _ (c .before .before .before .before .before .before .before .before .before .before .before .before .write-at .ensures) _ (c .before .before .before .before .before .one-more .ensures) (c .before .before .before .before .if3 .left) _ (c .before .before .before .child-on .ensures) _ (c .before .word .given .1) ∙ c .before .before .before .before .before .before .before .before .before .before .before .before .before .before .before .before .before .loop .inv .1 .1; falls = search needs }
+
+pub go-down-spec : {M : Type 1} → statement M
+go-down-spec =
+    tie.close
+    (tie.spec
+    Inv-loop
+    μ-loop
+    are-whole-requires
+    node-bytes-requires
+    plane-bytes-requires
+    loop-holds
+    cast-if1
+    same-length
+    returns
+    same-length-2
+    returns-2
+    cast-write-at
+    write-at-requires
+    segment-from-requires
+    enum-known-e
+    same-length-3
+    returns-3
+    enum-known-w
+    one-more-requires
+    sub-left
+    same-length-4
+    returns-4
+    child-on-requires
+    enum-known-n
+    loop-less
+    loop-again
+    enum-known-word
+    same-length-5
+    returns-5)
