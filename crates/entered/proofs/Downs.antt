@@ -11,7 +11,7 @@ use lib.Ieee.{Float}
 use lib.ListN.{length, set, length-set}
 use Rattle.format.proofs.Answers.{mapped-answer, mapped-refused}
 use Rattle.format.specs.Answer as Ans
-use Rattle.format.specs.Answer.{Answer, answer}
+use Rattle.format.specs.Answer.{Answer, answer, mapped}
 use Rattle.format.specs.Refusal.{numberOf}
 use Rattle.format.specs.declared.refusal.Refusal.{Refusal}
 use Rattle.format.specs.declared.contents.BspLeafContents.{BspLeafContents}
@@ -28,14 +28,18 @@ use Rattle.walk.specs.Walk.{Outcome, entered, held, Entered, enter, ended, onto
 use Rattle.walk.specs.Trace.{across, traceAt, recursiveTrace}
 use Rattle.walk.proofs.Steps.{trace-outside, trace-spent, trace-unread}
 use Rattle.nodes.specs.Tables.{End}
-use Rattle.nodes.specs.Fast.{nodeOf, planeIn, twoDists, contentsMet, wordOn, endOf}
+use Rattle.nodes.specs.Fast.{wordsAnswer, nodeOf, planeIn, twoDists, distsAnswer, distsFrom, contentsMet, wordOn}
 use Rattle.nodes.specs.Fast as Fast
 use Rattle.nodes.specs.declared.table.Tables.{Tables}
 use Rattle.nodes.specs.declared.read.Words.{Words as WordsT}
+use Rattle.nodes.specs.declared.read.ReadWords.{ReadWords}
+use Rattle.nodes.specs.declared.read.ReadWords.the-variants as W
+use Rattle.nodes.specs.declared.read.Dists.{Dists}
+use Rattle.nodes.specs.declared.read.Dists.the-variants as D
 use Rattle.nodes.specs.declared.walking.SegmentAt.{SegmentAt}
 use Rattle.nodes.specs.declared.walking.SegmentAt.the-variants as G
 use Rattle.nodes.specs.Walks.{madeFrom, nodeAndDists, segmentAnswer}
-use Rattle.nodes.proofs.Entering.{planed}
+use Rattle.nodes.proofs.Entering.{planed, enter-not, enter-is, enter-no-plane}
 use Rattle.hull.specs.Traces.{crossedAt}
 use Rattle.entered.specs.Onward.{childOf, wordOnward, written}
 use Rattle.entered.specs.declared.traced.Onward.{Onward}
@@ -149,3 +153,19 @@ module _ (f : List ℕ) (t : Tables) (s e : Vector3) (v k i : ℕ) (l : List ℕ
           pub to-end : (x : ℕ) → c ≡ O.End x → written u l1 (ended T (λ y. Tr.newTrace (Tr.start s zero32) (Tr.terminal e) y) (contentsMet f t x)) ≡ all
           unfolding contentsMet
           to-end x q = whole (O.End x) q
+
+-- ---- what the readers say of a node
+
+module _ (f : List ℕ) (t : Tables) (p q : Vector3) (i : ℕ) (r : ReadWords) (is-r : wordsAnswer (t .table) r ≡ Fast.nodeAt f t i) where
+  pub no-node : (x : Refusal) → r ≡ W.Refused x → Ans.refused (numberOf x) ≡ madeFrom (nodeAndDists p q) f t i
+  no-node x e = sym (ap (mapped (nodeAndDists p q)) (enter-not f t (Fast.table f t) refl refl refl i r is-r x e))
+
+  module _ (w : WordsT) (is-w : r ≡ W.Words w) (d : Dists) (is-d : distsAnswer d ≡ distsFrom p q (planeIn f t (w .plane))) where
+    pub no-plane : (x : Refusal) → d ≡ D.Refused x → Ans.refused (numberOf x) ≡ madeFrom (nodeAndDists p q) f t i
+    no-plane x e =
+        sym (ap (mapped (nodeAndDists p q)) (enter-no-plane f t (Fast.table f t) refl refl refl i r is-r w is-w (numberOf x) (mapped-refused (twoDists p q) (planeIn f t (w .plane)) (numberOf x) (sym is-d ∙ ap distsAnswer e))))
+
+    pub two-dists : (a b : Float) → d ≡ D.Two a b → answer (nodeOf (t .table) w, (a, b)) ≡ madeFrom (nodeAndDists p q) f t i
+    two-dists a b e =
+        let k = mapped-answer (twoDists p q) (planeIn f t (w .plane)) (a, b) (sym is-d ∙ ap distsAnswer e) in
+        ap (λ (y : Float × Float). answer (nodeOf (t .table) w, y)) (sym (k .2)) ∙ sym (ap (mapped (nodeAndDists p q)) (enter-is f t (Fast.table f t) refl refl refl i r is-r w is-w (k .0) (k .1)))

@@ -7,6 +7,7 @@ ghost use Rattle.walk.specs.Walk.{after, ended};
 ghost use Rattle.walk.specs.Trace as Tracing;
 ghost use Rattle.walk.specs.Trace.{recursiveTrace};
 ghost use Rattle.nodes.specs.Fast as Fast;
+ghost use Rattle.nodes.specs.Walks as Walks;
 ghost use Rattle.hull.specs.Hull.{hullTable};
 ghost use Rattle.hull.specs.Traces.{tracedAnswer};
 ghost use Rattle.entered.specs.Lists as Lists;
@@ -21,18 +22,18 @@ use hull::tracing::one_more;
 use hull::tracing::stops;
 use hull::tracing::trace;
 use math::Vector3;
+use nodes::read::Dists;
 use nodes::read::EndContents;
+use nodes::read::ReadWords;
 use nodes::read::Words;
+use nodes::read::dists_at;
 use nodes::read::end_contents;
 use nodes::read::is_front;
 use nodes::read::plane_at;
+use nodes::read::read_words;
 use nodes::table::Tables;
 use nodes::table::tables_of;
 use nodes::walking::SegmentAt;
-use nodes::walking::are_whole;
-use nodes::walking::node_bytes;
-use nodes::walking::plane_bytes;
-use nodes::walking::segment_from;
 use phys::Trace;
 use phys::TraceEnd;
 use phys::TraceStart;
@@ -142,14 +143,24 @@ fn write_at(list: &mut [u32], place: u64, node: u32)
     }
 }
 
+// A node's words, and how far the segment's ends are from its plane.
+fn seen_at(s: &[u8], t: Tables, node: usize, start: Vector3, end: Vector3) -> SegmentAt
+    ensures { λ r. ⌜ Walks.segmentAnswer (t .table) r ≡ Walks.madeFrom (Walks.nodeAndDists start end) (now (s .entry)) t node ⌝ }
+{
+    match read_words(s, t, node) {
+        ReadWords::Refused(e) => SegmentAt::Refused(e),
+        ReadWords::Words(w) => match dists_at(s, t, w.plane as usize, start, end) {
+            Dists::Refused(e) => SegmentAt::Refused(e),
+            Dists::Two(a, b) => SegmentAt::Dists(w, a, b),
+        },
+    }
+}
+
 // Down from a node as long as the segment lies on one side of each plane; each node is written into the list as it is entered, as far as
 // the list goes.
 fn go_down(s: &[u8], t: Tables, node: usize, way: Way, c: Counts, list: &mut [u32]) -> Down
     ensures { λ r. ⌜ Going.Goes (now (s .entry)) t (way .from .point) (way .to .point) (c .left) (Going.written (c .visits) (now (list .entry)) (recursiveTrace (Fast.table (now (s .entry)) t) (c .left) node (way .from .point) (way .to .point))) (now (list .exit)) r ⌝ }
 {
-    let whole = are_whole(t, s.len());
-    let nodes = node_bytes(s, t, whole);
-    let planes = plane_bytes(s, t, whole);
     let mut i = node;
     let mut left = c.left;
     let mut visits = c.visits;
@@ -161,7 +172,7 @@ fn go_down(s: &[u8], t: Tables, node: usize, way: Way, c: Counts, list: &mut [u3
             return Down::Refused(Refusal::TooDeep);
         }
         write_at(list, visits, i as u32);
-        match segment_from(s, t, nodes, planes, whole, i, way.from.point, way.to.point) {
+        match seen_at(s, t, i, way.from.point, way.to.point) {
             SegmentAt::Refused(e) => return Down::Refused(e),
             SegmentAt::Dists(w, a, b) => {
                 visits = one_more(visits);

@@ -14,30 +14,21 @@ use Rattle.entered.proofs.traced.go_down.Statement.{statement}
 use Rattle.entered.proofs.traced.go_down.Tie as tie
 
 abbrev Inv-loop : tie.InvT-loop
-Inv-loop s t node way list₀ whole nodes planes i₀ left₀ visits₀ list i left visits =
+Inv-loop s t node way list₀ i₀ left₀ visits₀ list i left visits =
     (left ≤ left₀)
     × ((length list ≡ length list₀)
     × (written visits list (recursiveTrace (Fast.table s t) left i (way .from .point) (way .to .point)) ≡ written visits₀ list₀ (recursiveTrace (Fast.table s t) left₀ node (way .from .point) (way .to .point))))
 
 abbrev μ-loop : tie.MeasureT-loop
-μ-loop s t node way list₀ whole nodes planes i₀ left₀ visits₀ list i left visits = left
+μ-loop s t node way list₀ i₀ left₀ visits₀ list i left visits = left
 
 -- a slice takes fewer than 2^63 bytes
 bytes : (c : tie.After-slice-known Inv-loop μ-loop) → length (c .before .before .args .list .now) * 4 < 2 ^ 63
 bytes c = omega arith
 
 -- what the reader says of the node, and the list before it
-short : (c : tie.After-segment-from Inv-loop μ-loop) → length (c .before .before .before .before .before .before .before .before .loop .list) < 2 ^ 63
-short c = omega (arith, bytes (c .before .before .before .before .before .before .before .before .before .before .before .before), c .before .before .before .before .before .before .before .before .loop .inv .1 .0)
-
-are-whole-requires : tie.Need-are-whole-requires Inv-loop μ-loop
-are-whole-requires c κs = search needs
-
-node-bytes-requires : tie.Need-node-bytes-requires Inv-loop μ-loop
-node-bytes-requires c κs = search needs
-
-plane-bytes-requires : tie.Need-plane-bytes-requires Inv-loop μ-loop
-plane-bytes-requires c κs = search needs
+short : (c : tie.After-seen-at Inv-loop μ-loop) → length (c .before .before .before .before .before .before .before .before .loop .list) < 2 ^ 63
+short c = omega (arith, bytes (c .before .before .before .before .before .before .before .before .before), c .before .before .before .before .before .before .before .before .loop .inv .1 .0)
 
 loop-holds : tie.Need-loop-holds Inv-loop μ-loop
 loop-holds c = (search needs, (refl, refl))
@@ -63,8 +54,8 @@ cast-write-at c = omega arith
 write-at-requires : tie.Need-write-at-requires Inv-loop μ-loop
 write-at-requires c κs = search needs
 
-segment-from-requires : tie.Need-segment-from-requires Inv-loop μ-loop
-segment-from-requires c κs = search needs
+seen-at-requires : tie.Need-seen-at-requires Inv-loop μ-loop
+seen-at-requires c κs = search needs
 
 enum-known-e : tie.Need-enum-known-e Inv-loop μ-loop
 enum-known-e c = search needs
@@ -73,7 +64,7 @@ same-length-3 : tie.Need-same-length-3 Inv-loop μ-loop
 same-length-3 c = c .before .before .before .before .before .list .given ∙ c .before .before .before .before .before .before .before .before .before .before .before .loop .inv .1 .0
 
 returns-3 : tie.Need-returns-3 Inv-loop μ-loop
-returns-3 c = record { says = unread _ _ _ _ _ _ _ _ (c .before .before .before .before .before .before .before .before .before .if1 .left) (c .before .before .before .before .before .before .before .before .if2 .left) (c .before .before .before .segment-from .result) (c .before .before .before .segment-from .ensures .1 (record { told = c .before .before .before .before .before .before .before .before .before .before .before .before .before .before .are-whole .ensures; its-nodes = c .before .before .before .before .before .before .before .before .before .before .before .before .before .node-bytes .ensures; its-planes = c .before .before .before .before .before .before .before .before .before .before .before .before .plane-bytes .ensures })) _ (c .before .e .given .1) ∙ c .before .before .before .before .before .before .before .before .before .before .before .loop .inv .1 .1; falls = search needs }
+returns-3 c = record { says = unread _ _ _ _ _ _ _ _ (c .before .before .before .before .before .before .before .before .before .if1 .left) (c .before .before .before .before .before .before .before .before .if2 .left) (c .before .before .before .seen-at .result) (c .before .before .before .seen-at .ensures) _ (c .before .e .given .1) ∙ c .before .before .before .before .before .before .before .before .before .before .before .loop .inv .1 .1; falls = search needs }
 
 enum-known-w : tie.Need-enum-known-w Inv-loop μ-loop
 enum-known-w c = search needs
@@ -88,7 +79,7 @@ same-length-4 : tie.Need-same-length-4 Inv-loop μ-loop
 same-length-4 c = c .before .before .before .before .before .before .before .list .given ∙ c .before .before .before .before .before .before .before .before .before .before .before .before .before .loop .inv .1 .0
 
 returns-4 : tie.Need-returns-4 Inv-loop μ-loop
-returns-4 c = record { says = crosses _ _ _ _ _ _ _ _ (c .before .before .before .before .before .before .before .before .before .before .before .if1 .left) (c .before .before .before .before .before .before .before .before .before .before .if2 .left) (c .before .before .before .before .before .segment-from .result) (c .before .before .before .before .before .segment-from .ensures .1 (record { told = c .before .before .before .before .before .before .before .before .before .before .before .before .before .before .before .before .are-whole .ensures; its-nodes = c .before .before .before .before .before .before .before .before .before .before .before .before .before .before .before .node-bytes .ensures; its-planes = c .before .before .before .before .before .before .before .before .before .before .before .before .before .before .plane-bytes .ensures })) _ _ _ (c .before .before .before .w .given .1) (short (c .before .before .before .before .before)) _ (c .before .before .before .before .before .before .before .before .write-at .ensures) _ (c .before .one-more .ensures) (c .if3 .taken) ∙ c .before .before .before .before .before .before .before .before .before .before .before .before .before .loop .inv .1 .1; falls = omega (arith, c .before .before .before .before .before .before .before .before .before .before .if2 .left, c .before .before .before .before .before .before .before .before .before .before .before .before .before .loop .inv .0) }
+returns-4 c = record { says = crosses _ _ _ _ _ _ _ _ (c .before .before .before .before .before .before .before .before .before .before .before .if1 .left) (c .before .before .before .before .before .before .before .before .before .before .if2 .left) (c .before .before .before .before .before .seen-at .result) (c .before .before .before .before .before .seen-at .ensures) _ _ _ (c .before .before .before .w .given .1) (short (c .before .before .before .before .before)) _ (c .before .before .before .before .before .before .before .before .write-at .ensures) _ (c .before .one-more .ensures) (c .if3 .taken) ∙ c .before .before .before .before .before .before .before .before .before .before .before .before .before .loop .inv .1 .1; falls = omega (arith, c .before .before .before .before .before .before .before .before .before .before .if2 .left, c .before .before .before .before .before .before .before .before .before .before .before .before .before .loop .inv .0) }
 
 child-on-requires : tie.Need-child-on-requires Inv-loop μ-loop
 child-on-requires c κs = search needs
@@ -100,7 +91,7 @@ loop-less : tie.Need-loop-less Inv-loop μ-loop
 loop-less c = omega (arith, c .before .before .before .before .before .before .before .before .before .before .before .before .before .before .if2 .left)
 
 loop-again : tie.Need-loop-again Inv-loop μ-loop
-loop-again c = (omega (arith, c .before .before .before .before .before .before .before .before .before .before .before .before .before .before .before .before .before .loop .inv .0), (c .before .before .before .before .before .before .before .before .before .before .before .list .given ∙ c .before .before .before .before .before .before .before .before .before .before .before .before .before .before .before .before .before .loop .inv .1 .0, to-node _ _ _ _ _ _ _ _ (c .before .before .before .before .before .before .before .before .before .before .before .before .before .before .before .if1 .left) (c .before .before .before .before .before .before .before .before .before .before .before .before .before .before .if2 .left) (c .before .before .before .before .before .before .before .before .before .segment-from .result) (c .before .before .before .before .before .before .before .before .before .segment-from .ensures .1 (record { told = c .before .before .before .before .before .before .before .before .before .before .before .before .before .before .before .before .before .before .before .before .are-whole .ensures; its-nodes = c .before .before .before .before .before .before .before .before .before .before .before .before .before .before .before .before .before .before .before .node-bytes .ensures; its-planes = c .before .before .before .before .before .before .before .before .before .before .before .before .before .before .before .before .before .before .plane-bytes .ensures })) _ _ _ (c .before .before .before .before .before .before .before .w .given .1) (short (c .before .before .before .before .before .before .before .before .before)) _ (c .before .before .before .before .before .before .before .before .before .before .before .before .write-at .ensures) _ (c .before .before .before .before .before .one-more .ensures) (c .before .before .before .before .if3 .left) _ (c .before .before .before .child-on .ensures) _ (c .before .n .given .1) ∙ c .before .before .before .before .before .before .before .before .before .before .before .before .before .before .before .before .before .loop .inv .1 .1))
+loop-again c = (omega (arith, c .before .before .before .before .before .before .before .before .before .before .before .before .before .before .before .before .before .loop .inv .0), (c .before .before .before .before .before .before .before .before .before .before .before .list .given ∙ c .before .before .before .before .before .before .before .before .before .before .before .before .before .before .before .before .before .loop .inv .1 .0, to-node _ _ _ _ _ _ _ _ (c .before .before .before .before .before .before .before .before .before .before .before .before .before .before .before .if1 .left) (c .before .before .before .before .before .before .before .before .before .before .before .before .before .before .if2 .left) (c .before .before .before .before .before .before .before .before .before .seen-at .result) (c .before .before .before .before .before .before .before .before .before .seen-at .ensures) _ _ _ (c .before .before .before .before .before .before .before .w .given .1) (short (c .before .before .before .before .before .before .before .before .before)) _ (c .before .before .before .before .before .before .before .before .before .before .before .before .write-at .ensures) _ (c .before .before .before .before .before .one-more .ensures) (c .before .before .before .before .if3 .left) _ (c .before .before .before .child-on .ensures) _ (c .before .n .given .1) ∙ c .before .before .before .before .before .before .before .before .before .before .before .before .before .before .before .before .before .loop .inv .1 .1))
 
 enum-known-word : tie.Need-enum-known-word Inv-loop μ-loop
 enum-known-word c = search needs
@@ -109,7 +100,7 @@ same-length-5 : tie.Need-same-length-5 Inv-loop μ-loop
 same-length-5 c = c .before .before .before .before .before .before .before .before .before .before .before .list .given ∙ c .before .before .before .before .before .before .before .before .before .before .before .before .before .before .before .before .before .loop .inv .1 .0
 
 returns-5 : tie.Need-returns-5 Inv-loop μ-loop
-returns-5 c = record { says = to-end _ _ _ _ _ _ _ _ (c .before .before .before .before .before .before .before .before .before .before .before .before .before .before .before .if1 .left) (c .before .before .before .before .before .before .before .before .before .before .before .before .before .before .if2 .left) (c .before .before .before .before .before .before .before .before .before .segment-from .result) (c .before .before .before .before .before .before .before .before .before .segment-from .ensures .1 (record { told = c .before .before .before .before .before .before .before .before .before .before .before .before .before .before .before .before .before .before .before .before .are-whole .ensures; its-nodes = c .before .before .before .before .before .before .before .before .before .before .before .before .before .before .before .before .before .before .before .node-bytes .ensures; its-planes = c .before .before .before .before .before .before .before .before .before .before .before .before .before .before .before .before .before .before .plane-bytes .ensures })) _ _ _ (c .before .before .before .before .before .before .before .w .given .1) (short (c .before .before .before .before .before .before .before .before .before)) _ (c .before .before .before .before .before .before .before .before .before .before .before .before .write-at .ensures) _ (c .before .before .before .before .before .one-more .ensures) (c .before .before .before .before .if3 .left) _ (c .before .before .before .child-on .ensures) _ (c .before .word .given .1) ∙ c .before .before .before .before .before .before .before .before .before .before .before .before .before .before .before .before .before .loop .inv .1 .1; falls = search needs }
+returns-5 c = record { says = to-end _ _ _ _ _ _ _ _ (c .before .before .before .before .before .before .before .before .before .before .before .before .before .before .before .if1 .left) (c .before .before .before .before .before .before .before .before .before .before .before .before .before .before .if2 .left) (c .before .before .before .before .before .before .before .before .before .seen-at .result) (c .before .before .before .before .before .before .before .before .before .seen-at .ensures) _ _ _ (c .before .before .before .before .before .before .before .w .given .1) (short (c .before .before .before .before .before .before .before .before .before)) _ (c .before .before .before .before .before .before .before .before .before .before .before .before .write-at .ensures) _ (c .before .before .before .before .before .one-more .ensures) (c .before .before .before .before .if3 .left) _ (c .before .before .before .child-on .ensures) _ (c .before .word .given .1) ∙ c .before .before .before .before .before .before .before .before .before .before .before .before .before .before .before .before .before .loop .inv .1 .1; falls = search needs }
 
 pub go-down-spec : {M : Type 1} → statement M
 go-down-spec =
@@ -117,9 +108,6 @@ go-down-spec =
     (tie.spec
     Inv-loop
     μ-loop
-    are-whole-requires
-    node-bytes-requires
-    plane-bytes-requires
     loop-holds
     cast-if1
     same-length
@@ -128,7 +116,7 @@ go-down-spec =
     returns-2
     cast-write-at
     write-at-requires
-    segment-from-requires
+    seen-at-requires
     enum-known-e
     same-length-3
     returns-3
