@@ -9,7 +9,7 @@ ghost use Rattle.walk.specs.Trace.{recursiveTrace};
 ghost use Rattle.nodes.specs.Fast as Fast;
 ghost use Rattle.nodes.specs.Walks as Walks;
 ghost use Rattle.hull.specs.Hull.{hullTable};
-ghost use Rattle.hull.specs.Traces.{tracedAnswer};
+ghost use Rattle.hull.specs.Traces.{tracedAnswer, joinFar};
 ghost use Rattle.entered.specs.Lists as Lists;
 ghost use Rattle.entered.specs.Onward as Going;
 use crate::walked::EnteredAnswer;
@@ -17,7 +17,6 @@ use format::refusal::Refusal;
 use format::section::BspData;
 use hull::collision::BspCollisionHull;
 use hull::tracing::Traced;
-use hull::tracing::join_far;
 use hull::tracing::one_more;
 use hull::tracing::stops;
 use hull::tracing::trace;
@@ -34,6 +33,7 @@ use nodes::read::read_words;
 use nodes::table::Tables;
 use nodes::table::tables_of;
 use nodes::walking::SegmentAt;
+use phys::Joined;
 use phys::Trace;
 use phys::TraceEnd;
 use phys::TraceStart;
@@ -190,6 +190,19 @@ fn go_down(s: &[u8], t: Tables, node: usize, way: Way, c: Counts, list: &mut [u3
     }
 }
 
+// The near part joined with the far one. `join_far` of `hull` says the same: with two callers it would be a call in the trace itself.
+fn join_rest(near: Trace, far: Traced) -> Traced
+    ensures { λ r. ⌜ tracedAnswer r ≡ joinFar near (tracedAnswer far) ⌝ }
+{
+    match far {
+        Traced::Refused(e) => Traced::Refused(e),
+        Traced::Trace(far_trace, visits) => match near.join(far_trace) {
+            Joined::Trace(joined) => Traced::Trace(joined, visits),
+            Joined::Refused(e) => Traced::Refused(e),
+        },
+    }
+}
+
 // The part of a trace that goes on to a child, with the calls left and the nodes entered before; the nodes that it enters are written into
 // the list, as far as it goes. At most 513 calls deep: one for each of 512 nodes, and one for an end.
 fn write_onward(
@@ -219,7 +232,7 @@ fn write_onward(
                         return part;
                     }
                     let rest = write_onward(s, t, far, from_mid, below, n, list);
-                    join_far(near_trace, rest)
+                    join_rest(near_trace, rest)
                 }
             },
         },
