@@ -23,7 +23,7 @@ use Rattle.math.specs.declared.LinePlaneIntersect.{LinePlaneIntersect}
 use Rattle.math.specs.declared.LinePlaneIntersect.the-variants.{NoIntersection, PointIntersection}
 use Rattle.phys.specs.Trace as Tr
 use Rattle.phys.specs.declared.Trace.{Trace as TraceT}
-use Rattle.walk.specs.Table.{Child, node, end, Node, Table, childOn}
+use Rattle.walk.specs.Table.{Child, Node, Table}
 use Rattle.walk.specs.Walk.{Outcome, entered, held, Entered, enter, ended, onto}
 use Rattle.walk.specs.Trace.{across, traceAt, recursiveTrace}
 use Rattle.walk.proofs.Steps.{trace-outside, trace-spent, trace-unread}

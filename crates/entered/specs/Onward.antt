@@ -1,5 +1,5 @@
--- For the private contracts of `traced`: the part of a trace that goes on to a child, what a segment does at a node, and a trace with the list that its
--- nodes are written into.
+-- For the private contracts of `traced`: the part of a trace that goes on to a child, the two parts of a segment at a crossing, a trace with the list that
+-- its nodes are written into, and the way down to a crossing.
 use Prim.Native.Nat.{ℕ, suc, _+_, _≤_}
 use mathlib.Core.Path.{_≡_}
 use mathlib.Core.Bool.{cond}
