@@ -1,5 +1,5 @@
-// A stored sample of the Rust's answers, case by case, beside the calls of the crate `ffi`. A case is its kind, how many arguments it has,
-// the arguments, the number of a refusal (0 for an answer), how many words the answer has, and these words.
+// A stored sample of the Rust's answers, case by case, beside the calls that the crate `ffi` hands on. A case is its kind, how many
+// arguments it has, the arguments, the number of a refusal (0 for an answer), how many words the answer has, and these words.
 //
 //     kind  call                  arguments                answer
 //     1     bsp_load              the bytes of a file      the words of its map record
@@ -118,7 +118,7 @@ fn call_list(
     out: &mut [u64; 4097],
 ) -> u32 {
     match kind {
-        10 => ffi::bsp_pvs(
+        10 => ffi_vis::pvs(
             file,
             map,
             word_at_u64(args, 0),
@@ -126,9 +126,16 @@ fn call_list(
             list,
             out,
         ),
-        11 => ffi::bsp_contents_nodes(file, map, hull, &point(args, 0), list, out),
-        12 => ffi::bsp_find_leaf_nodes(file, map, word_at_u64(args, 0), &point(args, 1), list, out),
-        13 => ffi::bsp_trace_nodes(file, map, hull, &segment(args), list, out),
+        11 => ffi_entered::contents_nodes(file, map, hull, &point(args, 0), list, out),
+        12 => ffi_entered::find_leaf_nodes(
+            file,
+            map,
+            word_at_u64(args, 0),
+            &point(args, 1),
+            list,
+            out,
+        ),
+        13 => ffi_entered::trace_nodes(file, map, hull, &segment(args), list, out),
         _ => NO_KIND,
     }
 }
@@ -158,19 +165,19 @@ fn ask(
     out: &mut [u64; 4097],
 ) -> u32 {
     match kind {
-        2 => ffi::bsp_record(file, map, short(args, 0), word_at_u64(args, 1), out),
-        3 => ffi::bsp_count(map, short(args, 0), out),
-        4 => ffi::bsp_entities(file, map, out),
-        7 => ffi::bsp_contents(file, map, hull, &point(args, 0), out),
-        8 => ffi::bsp_find_leaf(file, map, word_at_u64(args, 0), &point(args, 1), out),
-        9 => ffi::bsp_trace(file, map, hull, &segment(args), out),
+        2 => ffi_records::record(file, map, short(args, 0), word_at_u64(args, 1), out),
+        3 => ffi_counts::count(map, short(args, 0), out),
+        4 => ffi_counts::entities(file, map, out),
+        7 => ffi_walks::contents(file, map, hull, &point(args, 0), out),
+        8 => ffi_walks::find_leaf(file, map, word_at_u64(args, 0), &point(args, 1), out),
+        9 => ffi_traces::trace(file, map, hull, &segment(args), out),
         _ => ask_list(kind, args, file, map, hull, out),
     }
 }
 
 // Loads a file: its map record becomes the current one, and its words are the answer.
 fn ask_load(file: &[u8], map: &mut [u32; 31], out: &mut [u64; 4097]) -> u32 {
-    let refusal = ffi::bsp_load(file, map);
+    let refusal = ffi_load::load(file, map);
     if refusal == 0 {
         put_list(map, 0, out);
     }
@@ -187,9 +194,9 @@ fn ask_hull(
     out: &mut [u64; 4097],
 ) -> u32 {
     let refusal = if kind == 5 {
-        ffi::bsp_hull(file, map, word_at_u64(args, 0), word_at_u64(args, 1), hull)
+        ffi_hull::hull_of_model(file, map, word_at_u64(args, 0), word_at_u64(args, 1), hull)
     } else {
-        ffi::bsp_box(&segment(args), hull)
+        ffi_hull::hull_of_box(&segment(args), hull)
     };
     if refusal == 0 {
         words::give(hull, out);
