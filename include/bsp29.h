@@ -11,8 +11,9 @@
  * kept. A refusal writes nothing, but for the marks of bsp_tree_check. The library holds no state:
  * any thread may call it at any time.
  *
- * Stack: a call needs less than 1 MiB (bsp_trace and bsp_trace_nodes go up to 512 calls deep). This
- * was tested and is not proved.
+ * Stack: bsp_trace and bsp_trace_nodes go up to 512 nodes deep and need up to 574,000 bytes,
+ * bsp_tree_check up to 164,000 (measured on a chain of 512 nodes, not proved). The other calls have
+ * no such depth.
  *
  * A list is two parameters: a pointer to its first entry and the number of its entries.
  *   - The pointer is not null and is aligned for its entries, even where the number is 0.
