@@ -1,4 +1,5 @@
--- Demand 3 from end to end, and note 13.
+-- What specs/ says, proved.
 pub mod EveryFile
-pub mod NoPanic
+pub mod Refusals
+pub mod Loading
 pub mod StartedSolid

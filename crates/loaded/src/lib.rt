@@ -1,1 +1,2 @@
-// No code: demand 3 from end to end, for every file that loads. specs/EveryFile.antt says it, proofs/EveryFile.antt proves it.
+// No code: what holds from end to end. specs/ says it: demand 3 for every file that loads (EveryFile), what walks, traces and loading
+// are refused with (Refusals), note 13 (StartedSolid). proofs/ proves it.

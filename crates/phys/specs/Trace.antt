@@ -45,11 +45,15 @@ isTerminalKind (Boundary b) = false
 abbrev pub isTerminal : TraceT → Bool
 isTerminal t = isTerminalKind (t .end .kind)
 
+-- traces of the same contents that meet, joined: it started solid if the first did
+abbrev pub joinSame : TraceT → TraceT → TraceT
+joinSame t u = trace (t .start) (u .end) (t .contents) (t .«start_solid»)
+
 -- Traces that meet, joined: of the same contents; out of a solid; otherwise the first alone
 abbrev pub joinMet : TraceT → TraceT → TraceT
 joinMet t u =
     cond (Contents.equal (t .contents) (u .contents))
-    (trace (t .start) (u .end) (t .contents) (t .«start_solid»))
+    (joinSame t u)
     (cond (Contents.equal (t .contents) Solid && not (Contents.equal (u .contents) Solid))
     (trace (t .start) (u .end) (u .contents) true)
     t)

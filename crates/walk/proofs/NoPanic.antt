@@ -1,11 +1,13 @@
 -- The two panics of `join` are unreachable from a trace: no trace is refused with 19, whatever the points and the planes are, NaNs and infinities among them,
 -- for every table whose own refusals are not 19. A trace that is answered starts at the segment's start, so the far part starts where the near part has
--- been seen to end. The same argument shows which numbers a trace is refused with, and so for walks.
-use Prim.Native.Nat.{ℕ, zero, suc}
+-- been seen to end. The same argument shows which numbers a trace is refused with, and so for walks: 30, 31 or 32, and what the table refuses of records
+-- that are in range, since every number is tested before its record is read.
+use Prim.Native.Nat.{ℕ, zero, suc, _<_}
 use native.Mathlib.Omega.{arith}
 use mathlib.Core.Bool.{Bool, true, false, not, cond, _&&_, _||_}
 use mathlib.Core.List.{List, _++_}
 use mathlib.Core.Path.{_≡_, refl, sym, ap, _∙_, subst}
+use borrow.Author.Tests.{ltb-true}
 use lib.Dec.{ltb}
 use Rattle.format.specs.Answer as Ans
 use Rattle.format.specs.Answer.{Answer, answer}
@@ -25,11 +27,11 @@ use Rattle.walk.specs.Table.{Child, node, end, Node, Table, childOn}
 use Rattle.walk.specs.Walk.{Outcome, done, refused, entered, Entered, withPlane, withNode, enter, meet, ended, onto, walkAt, walk}
 use Rattle.walk.specs.Trace.{joined, withFar, stops, nearOf, farOf, afterNear, withNear, across, traceAt, recursiveTrace, trace}
 
--- each refusal of the table's own records is one of those of P
+-- each refusal of the table's own records, where they are in range, is one of those of P
 pub record Own (P : ℕ → Type 0) {E A : Type 0} (T : Table E A) : Type 0 where
-  pub nodes-refuse : (i n : ℕ) → T .nodes .nodeAt i ≡ Ans.refused n → P n
-  pub planes-refuse : (i n : ℕ) → T .planeAt i ≡ Ans.refused n → P n
-  pub leaves-refuse : (e : E) (n : ℕ) → T .leafAt e ≡ Ans.refused n → P n
+  pub nodes-refuse : (i n : ℕ) → i < T .nodes .count → T .nodes .nodeAt i ≡ Ans.refused n → P n
+  pub planes-refuse : (i n : ℕ) → i < T .nodes .planes → T .planeAt i ≡ Ans.refused n → P n
+  pub leaves-refuse : (e : E) (n : ℕ) → T .nodes .leafIn e ≡ true → T .leafAt e ≡ Ans.refused n → P n
 
 -- ---- a join of t with what starts where t ends
 
@@ -68,8 +70,8 @@ module _ (P : ℕ → Type 0) where
   entered-keeps Q i (done t ns) a = a
   entered-keeps Q i (refused n) a = a
 
-  test-keeps : {A : Type 0} (Q : A → Type 0) (b : Bool) (n : ℕ) (o : Outcome A) → Keeps Q o → P n → Keeps Q (cond b o (refused n))
-  test-keeps Q true n o p q = p
+  test-keeps : {A : Type 0} (Q : A → Type 0) (b : Bool) (n : ℕ) (o : Outcome A) → (b ≡ true → Keeps Q o) → P n → Keeps Q (cond b o (refused n))
+  test-keeps Q true n o p q = p refl
   test-keeps Q false n o p q = q
 
   module _ {E A : Type 0} (T : Table E A) (own : Own P T) (p30 : P 30) where
@@ -79,17 +81,18 @@ module _ (P : ℕ → Type 0) where
     at-plane nd (answer h) k = tt
     at-plane nd (Ans.refused n) k = k n refl
 
-    at-test : (b : Bool) {B : Type 0} (r : Answer B) → Refuses r → Refuses (cond b r (Ans.refused 30))
-    at-test true r a = a
+    at-test : (b : Bool) {B : Type 0} (r : Answer B) → (b ≡ true → Refuses r) → Refuses (cond b r (Ans.refused 30))
+    at-test true r a = a refl
     at-test false r a = p30
 
     at-node : (r : Answer (Node E)) → ((n : ℕ) → r ≡ Ans.refused n → P n) → Refuses (withNode T r)
-    at-node (answer nd) k = at-test (ltb (nd .plane) (T .nodes .planes)) (withPlane T nd (T .planeAt (nd .plane))) (at-plane nd (T .planeAt (nd .plane)) (own .planes-refuse (nd .plane)))
+    at-node (answer nd) k = at-test (ltb (nd .plane) (T .nodes .planes)) (withPlane T nd (T .planeAt (nd .plane)))
+        (λ t. at-plane nd (T .planeAt (nd .plane)) (λ n. own .planes-refuse (nd .plane) n (ltb-true _ _ t)))
     at-node (Ans.refused n) k = k n refl
 
-    enter-refuses : (i : ℕ) → Refuses (enter T i)
+    enter-refuses : (i : ℕ) → ltb i (T .nodes .count) ≡ true → Refuses (enter T i)
     unfolding enter
-    enter-refuses i = at-node (T .nodes .nodeAt i) (own .nodes-refuse i)
+    enter-refuses i t = at-node (T .nodes .nodeAt i) (λ n. own .nodes-refuse i n (ltb-true _ _ t))
 
     at-leaf : (r : Answer A) → ((n : ℕ) → r ≡ Ans.refused n → P n) → Refuses r
     at-leaf (answer a) k = tt
@@ -97,7 +100,7 @@ module _ (P : ℕ → Type 0) where
 
     meet-refuses : (e : E) → Refuses (meet T e)
     unfolding meet
-    meet-refuses e = at-test (T .nodes .leafIn e) (T .leafAt e) (at-leaf (T .leafAt e) (own .leaves-refuse e))
+    meet-refuses e = at-test (T .nodes .leafIn e) (T .leafAt e) (λ t. at-leaf (T .leafAt e) (λ n. own .leaves-refuse e n t))
 
     module _ {W : Type 0} (Q : W → Type 0) (go : ℕ → Outcome W) (ih : (n : ℕ) → Keeps Q (go n)) (here : A → W) (h : (a : A) → Q (here a)) where
       ended-keeps : (r : Answer A) → Refuses r → Keeps Q (ended T here r)
@@ -121,9 +124,9 @@ module _ (P : ℕ → Type 0) where
 
       walk-keeps : (k i : ℕ) → Keeps Any (walk T k i p)
       unfolding walk
-      walk-keeps zero i = test-keeps Any (ltb i (T .nodes .count)) 30 (refused 31) p31 p30
+      walk-keeps zero i = test-keeps Any (ltb i (T .nodes .count)) 30 (refused 31) (λ t. p31) p30
       walk-keeps (suc k) i =
-          test-keeps Any (ltb i (T .nodes .count)) 30 (walkAt T (λ n. walk T k n p) i p (enter T i)) (walk-at (λ n. walk T k n p) (walk-keeps k) i (enter T i) (enter-refuses i)) p30
+          test-keeps Any (ltb i (T .nodes .count)) 30 (walkAt T (λ n. walk T k n p) i p (enter T i)) (λ t. walk-at (λ n. walk T k n p) (walk-keeps k) i (enter T i) (enter-refuses i t)) p30
 
       -- a walk is refused with 30, 31 or what the table's own records refuse
       pub walk-refuses : (k i n : ℕ) → walk T k i p ≡ refused n → P n
@@ -163,10 +166,10 @@ module _ (P : ℕ → Type 0) where
     module _ (p32 : P 32) where
       trace-keeps : (k i : ℕ) (s e : Vector3) → Keeps (From s) (recursiveTrace T k i s e)
       unfolding recursiveTrace
-      trace-keeps zero i s e = test-keeps (From s) (ltb i (T .nodes .count)) 30 (refused 32) p32 p30
+      trace-keeps zero i s e = test-keeps (From s) (ltb i (T .nodes .count)) 30 (refused 32) (λ t. p32) p30
       trace-keeps (suc k) i s e =
           test-keeps (From s) (ltb i (T .nodes .count)) 30 (traceAt T (λ n s e. recursiveTrace T k n s e) i s e (enter T i))
-          (trace-at (λ n s e. recursiveTrace T k n s e) (trace-keeps k) i s e (enter T i) (enter-refuses T own p30 i)) p30
+          (λ t. trace-at (λ n s e. recursiveTrace T k n s e) (trace-keeps k) i s e (enter T i) (enter-refuses T own p30 i t)) p30
 
       -- a trace is refused with 30, 32 or what the table's own records refuse
       pub trace-refuses : (k i : ℕ) (s e : Vector3) (n : ℕ) → recursiveTrace T k i s e ≡ refused n → P n
@@ -181,7 +184,7 @@ module _ {E : Type 0} (T : Table E BspLeafContents) where
   Every n = Unit {0}
 
   any : Own Every T
-  any = record { nodes-refuse = λ i n q. tt; planes-refuse = λ i n q. tt; leaves-refuse = λ e n q. tt }
+  any = record { nodes-refuse = λ i n h q. tt; planes-refuse = λ i n h q. tt; leaves-refuse = λ e n h q. tt }
 
   -- what a trace answers starts at the segment's start, for every table
   pub starts-there : (k i : ℕ) (s e : Vector3) (t : TraceT) (ns : List ℕ) → recursiveTrace T k i s e ≡ done t ns → t .start .point ≡ s

@@ -1,6 +1,8 @@
 //! Point contents, leaf lookups and traces with the nodes they enter, beside the published Rust
 //! and document 01 read as a program: on generated maps, on chains, on tables with shared branches
-//! and loops, and on boxes.
+//! and loops, and on boxes. And note 13 of document 02 on the Rust's own answers: where its trace
+//! and its walk from the trace's start are both answered and the start is finite, the trace started
+//! solid exactly if the walk says Solid.
 
 use maps::record::Plane;
 use maps::world::{self, World};
@@ -9,7 +11,7 @@ use richter::map::RenderChild;
 use richter::Hull;
 
 use crate::asked::Asked;
-use crate::board::{shown, Board, Plan, Sides};
+use crate::board::{shown, Board, Plan, Side, Sides};
 use crate::calls::Calls;
 use crate::calls_stub::{TRACE_WORDS, WALK_WORDS};
 use crate::paper::{self, walk};
@@ -19,6 +21,12 @@ use crate::words::{self, Words};
 /// A trace of more nodes than this is left out.
 pub const PATIENCE: usize = 300_000;
 
+/// The contents code Solid.
+const SOLID: u32 = 2;
+
+/// The word of a trace's answer that says whether it started solid.
+const START_SOLID: usize = 2;
+
 pub fn run(plan: &Plan) -> bool {
     compare(&Calls::linked(), plan).print()
 }
@@ -26,6 +34,7 @@ pub fn run(plan: &Plan) -> bool {
 pub fn compare(calls: &Calls, plan: &Plan) -> Board {
     let mut board = Board::new();
     richter::probe::set_patience(PATIENCE);
+    infinite_start(&mut board);
     for (case, mut seed) in plan.seeds("walks") {
         let seed = &mut seed;
         if seed.once_in(60) {
@@ -154,6 +163,10 @@ pub fn trace(
         return;
     }
     let Asked { calls, file, map, .. } = *asked;
+    let input = || asked.input(format!("hull {}, segment {}", shown(&hull), bits_of(&segment)));
+    if let (Some(rust), Some(Some((Ok(words), _)))) = (rust, &found) {
+        started_solid(board, rust, start, words[START_SOLID] == 1, input);
+    }
     both_calls(
         board,
         seed,
@@ -162,8 +175,48 @@ pub fn trace(
         (found.flatten(), paper),
         |out| (calls.trace)(file, map, hull, &segment, out),
         |list, out| (calls.trace_nodes)(file, map, hull, &segment, list, out),
-        || asked.input(format!("hull {}, segment {}", shown(&hull), bits_of(&segment))),
+        input,
     );
+}
+
+/// Note 13 for one trace that the Rust answered, beside the Rust's own walk from its start.
+fn started_solid(
+    board: &mut Board,
+    hull: &Hull,
+    start: [f32; 3],
+    flag: bool,
+    input: impl FnOnce() -> (usize, String),
+) {
+    let finite = start.iter().all(|x| x.is_finite());
+    let (true, Ok(code)) = (finite, hull.contents_at_point(start).value) else { return };
+    let solid = code == SOLID;
+    let line = match solid {
+        true => "Rust, a start in Solid",
+        false => "Rust, a start elsewhere",
+    };
+    let difference = match flag == solid {
+        true => None,
+        false => Some(format!("started solid is {flag}, the contents are {code}")),
+    };
+    board.count(line, (0, Side::Rust), difference, input);
+}
+
+/// Why note 13 asks for a finite start. On the face x = -inf of a box the Rust's walk says Solid,
+/// since -inf is at least -inf, and its trace did not start solid, since their difference is no
+/// number.
+fn infinite_start(board: &mut Board) {
+    let (mins, maxs) = ([f32::NEG_INFINITY, -1.0, -1.0], [1.0; 3]);
+    let hull = Hull::for_bounds(mins, maxs).expect("a box");
+    let start = [f32::NEG_INFINITY, 0.0, 0.0];
+    let walked = hull.contents_at_point(start).value;
+    let flag = hull.trace(start, start).value.map(|trace| trace.start_solid);
+    let difference = match (walked, flag) {
+        (Ok(SOLID), Ok(false)) => None,
+        found => Some(format!("walk and started solid are {found:?}")),
+    };
+    board.count("Rust, an infinite start", (0, Side::Rust), difference, || {
+        (0, format!("bounds {} {}, start {}", bits_of(&mins), bits_of(&maxs), bits_of(&start)))
+    });
 }
 
 /// A leaf lookup from a root; `rust` is what the Rust answers, if it can.
@@ -560,4 +613,31 @@ fn refused_leaves(board: &mut Board, asked: &Asked, lent: &Lent, words: [usize; 
         (calls.find_leaf_nodes)(file, map, root, point, list, out)
     };
     board.list("bsp_find_leaf_nodes", (3, words[2]), refused, call, input);
+}
+
+#[cfg(test)]
+mod tests {
+    use super::*;
+
+    #[test]
+    fn a_flag_that_is_not_the_walks_is_noticed() {
+        let hull = Hull::for_bounds([-1.0; 3], [1.0; 3]).expect("a box");
+        let blamed = |start: [f32; 3], flag: bool| {
+            let mut board = Board::new();
+            started_solid(&mut board, &hull, start, flag, || (0, String::new()));
+            board.blamed()
+        };
+        assert_eq!(blamed([0.0; 3], false), ["Rust, a start in Solid"]);
+        assert_eq!(blamed([2.0; 3], true), ["Rust, a start elsewhere"]);
+        assert!(blamed([0.0; 3], true).is_empty());
+        assert!(blamed([2.0; 3], false).is_empty());
+        assert!(blamed([f32::INFINITY, 0.0, 0.0], true).is_empty());
+    }
+
+    #[test]
+    fn an_infinite_start_is_as_said() {
+        let mut board = Board::new();
+        infinite_start(&mut board);
+        assert!(board.blamed().is_empty());
+    }
 }

@@ -8,7 +8,7 @@ use Rattle.math.specs.Vector as Vec
 use Rattle.format.specs.Answer.{answer, refused}
 use Rattle.format.specs.Contents as Contents
 use Rattle.format.specs.declared.contents.BspLeafContents.the-variants.{Solid}
-use Rattle.phys.specs.Trace.{join, trace}
+use Rattle.phys.specs.Trace.{join, joinSame, trace}
 use Rattle.phys.specs.declared.TraceEndBoundary.{TraceEndBoundary}
 use Rattle.phys.specs.declared.TraceEndKind.the-variants.{Terminal, Boundary}
 use Rattle.phys.specs.declared.Trace.{Trace}
@@ -26,7 +26,7 @@ module _ (t u : Trace) where
     apart e = simp (k, e)
 
     module _ (e : Vec.same (t .end .point) (u .start .point) ≡ true) where
-      one-medium : Contents.equal (t .contents) (u .contents) ≡ true → answer (trace (t .start) (u .end) (t .contents) (t .«start_solid»)) ≡ join t u
+      one-medium : Contents.equal (t .contents) (u .contents) ≡ true → answer (joinSame t u) ≡ join t u
       unfolding join
       one-medium s = simp (k, e, s)
 

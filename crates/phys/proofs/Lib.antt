@@ -1,0 +1,2 @@
+-- Laws about the definitions of `phys`.
+pub mod StartedSolid
