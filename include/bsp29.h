@@ -8,12 +8,12 @@
  * causes each, and in which order they come). Whatever the bytes, the map record, the hull or the
  * numbers, it ends and answers one of these; it reads and writes nothing but the lists it is lent.
  * What it answers goes to the front of a list that the caller lends; entries past the answer are
- * kept. A refusal writes nothing, but for the marks of bsp_tree_check. The library holds no state:
- * any thread may call it at any time.
+ * kept. A refusal writes nothing, but for the marks of bsp_tree_check and bsp_hull_check. The library
+ * holds no state: any thread may call it at any time.
  *
  * Stack: bsp_trace and bsp_trace_nodes go up to 512 nodes deep and need up to 574,000 bytes,
- * bsp_tree_check up to 164,000 (measured on a chain of 512 nodes, not proved). The other calls have
- * no such depth.
+ * bsp_tree_check and bsp_hull_check up to 164,000 (measured on a chain of 512 nodes, not proved). The
+ * other calls have no such depth.
  *
  * A list is two parameters: a pointer to its first entry and the number of its entries.
  *   - The pointer is not null and is aligned for its entries, even where the number is 0.
@@ -164,7 +164,8 @@ enum bsp_length {
     BSP_MAP_WORDS = 31,    /* uint32_t: offset and size of each section, then the texture count */
     BSP_RECORD_WORDS = 20, /* enough for a record of every section */
     BSP_ENTITIES_WORDS = 2,
-    BSP_HULL_WORDS = 9,
+    BSP_HULL_WORDS = 11,
+    BSP_HULL_ASKED = 9, /* of a hull that a call takes: it does not look at the words after these */
     BSP_CONTENTS_WORDS = 2,
     BSP_LEAF_WORDS = 2,
     BSP_TRACE_WORDS = 17
@@ -261,7 +262,10 @@ enum bsp_hull_word {
     BSP_HULL_ROOT = 1,
     BSP_HULL_NODE_COUNT = 2, /* no walk looks at it */
     BSP_HULL_MINS = 3,       /* three floats */
-    BSP_HULL_MAXS = 6        /* three floats */
+    BSP_HULL_MAXS = 6,       /* three floats */
+    /* what bsp_hull_check fills: zeros before it, and in a box */
+    BSP_HULL_TREE_NODES = 9,  /* the nodes of the root's tree, the root counted */
+    BSP_HULL_TREE_HEIGHT = 10 /* the nodes on the longest way down it */
 };
 
 enum bsp_trace_word {
@@ -328,8 +332,9 @@ uint32_t bsp_entities(const uint8_t *file, size_t file_length,
 
 /*
  * The hull `index` of a model: 0 for points (the render nodes), 1 for a player, 2 for larger ones.
- * It is that of the model's own record; the models before it are not read.
- *   map: 31 words or more; hull: 9 words or more.
+ * It is that of the model's own record; the models before it are not read. The last two words, the
+ * size of the root's tree, are zeros: bsp_hull_check fills them.
+ *   map: 31 words or more; hull: 11 words or more.
  *   Refuses: 22; 20, a hull above 2 or a model outside its table; 23, the model's record.
  */
 uint32_t bsp_hull(const uint8_t *file, size_t file_length,
@@ -340,11 +345,27 @@ uint32_t bsp_hull(const uint8_t *file, size_t file_length,
 /*
  * The hull of a box: solid within, empty outside. Such a hull reads no file: any file and any map
  * record of 31 words may be lent with it.
- *   bounds: 6 floats or more, the minimum and the maximum; hull: 9 words or more.
+ *   bounds: 6 floats or more, the minimum and the maximum; hull: 11 words or more.
  *   Refuses: 22; 21, a minimum at or above its maximum on an axis (a NaN is neither).
  */
 uint32_t bsp_box(const float *bounds, size_t bounds_length,
                  uint64_t *hull, size_t hull_length);
+
+/*
+ * The tree check of a hull's root (bsp_tree_check), and the hull with the true size of its root's
+ * tree: the number of its nodes and its height. A box passes or refuses by its six nodes as any
+ * hull does, and keeps zeros. The other words are those of the hull lent, its floats as they are
+ * read: the low 32 bits, every NaN as one. No call looks at the two words, this one included.
+ *   map: 31 words or more; hull: 9 or more; out: 11 words or more; marks: a byte for each node of
+ *   the hull's table (bsp_count; six for a box), of any values.
+ *   Refuses: 22; 20, a hull whose table is none; then as bsp_tree_check, and the marks are as it
+ *   leaves them.
+ */
+uint32_t bsp_hull_check(const uint8_t *file, size_t file_length,
+                        const uint32_t *map, size_t map_length,
+                        const uint64_t *hull, size_t hull_length,
+                        uint8_t *marks, size_t marks_length,
+                        uint64_t *out, size_t out_length);
 
 /*
  * What is at a point of a hull: a contents code, and the visits, one for each node entered.

@@ -33,19 +33,23 @@ static size_t nodes_of(const struct map *map, const uint64_t *hull)
     return (size_t)count(map, hull[BSP_HULL_TABLE] == BSP_TABLE_RENDER ? BSP_RENDER_NODES : BSP_CLIP_NODES);
 }
 
-/* The tree check: from a root that passed, every walk and trace is answered. */
+/* The tree check: from a root that passed, every walk and trace is answered. And how many of the
+   table's nodes the root's tree has. */
 static void check(const struct map *map, const uint64_t *hull)
 {
     size_t nodes = nodes_of(map, hull);
     uint8_t *marks = (uint8_t *)room_for(nodes, 1);
-    uint64_t height;
+    uint64_t height, checked[BSP_HULL_WORDS];
     answered(bsp_tree_check(map->file, map->length, map->words, BSP_MAP_WORDS,
                             (uint32_t)hull[BSP_HULL_TABLE], hull[BSP_HULL_ROOT],
                             marks, nodes, &height, 1));
+    answered(bsp_hull_check(map->file, map->length, map->words, BSP_MAP_WORDS,
+                            hull, BSP_HULL_WORDS, marks, nodes, checked, BSP_HULL_WORDS));
     free(marks);
-    printf("hull: table %s root %llu height %llu\n",
+    printf("hull: table %s root %llu nodes %llu height %llu\n",
            hull[BSP_HULL_TABLE] == BSP_TABLE_RENDER ? "Render" : "Clip",
-           (unsigned long long)hull[BSP_HULL_ROOT], (unsigned long long)height);
+           (unsigned long long)hull[BSP_HULL_ROOT],
+           (unsigned long long)checked[BSP_HULL_TREE_NODES], (unsigned long long)height);
 }
 
 /* The leaves that can be seen from a leaf of the world. */

@@ -44,7 +44,7 @@ pub extern "C" fn bsp_entities(file: &[u8], map: &[u32], out: &mut [u64]) -> u32
     ffi_counts::entities(file, map, out)
 }
 
-// The hull of a model: 9 words.
+// The hull of a model: 11 words.
 #[no_mangle]
 pub extern "C" fn bsp_hull(
     file: &[u8],
@@ -58,12 +58,26 @@ pub extern "C" fn bsp_hull(
     ffi_hull::hull_of_model(file, map, model, index, hull)
 }
 
-// The hull of a box: 9 words.
+// The hull of a box: 11 words.
 #[no_mangle]
 pub extern "C" fn bsp_box(bounds: &[f32], hull: &mut [u64]) -> u32
     ensures { λ r. ⌜ written r (now (hull .exit)) ≡ Calls.bspBox (now (bounds .entry)) (now (hull .entry)) ⌝ }
 {
     ffi_hull::hull_of_box(bounds, hull)
+}
+
+// The hull with its tree's number of nodes and height: 11 words.
+#[no_mangle]
+pub extern "C" fn bsp_hull_check(
+    file: &[u8],
+    map: &[u32],
+    hull: &[u64],
+    marks: &mut [u8],
+    out: &mut [u64],
+) -> u32
+    ensures { λ r. ⌜ left r (now (marks .exit)) (now (out .exit)) ≡ Calls.bspHullCheck (now (file .entry)) (now (map .entry)) (now (hull .entry)) (now (marks .entry)) (now (out .entry)) ⌝ }
+{
+    ffi_checked::hull_check(file, map, hull, marks, out)
 }
 
 // Contents code and visits.

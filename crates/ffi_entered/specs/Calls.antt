@@ -10,11 +10,11 @@ use Rattle.walk.specs.Trace as Tracing
 use Rattle.nodes.specs.Tables.{leafTable}
 use Rattle.hull.specs.Hull.{hullTable}
 use Rattle.entered.specs.Lists.{nodesEntered}
-use Rattle.ffi_hull.specs.Layout.{pointAt, hullFrom}
+use Rattle.ffi_hull.specs.Layout.{hullAsked, pointAt, hullFrom}
 
 unfoldable pub bspContentsNodes : List ℕ → List ℕ → List ℕ → List Float → List ℕ → List ℕ → Left
 bspContentsNodes s map hull point list out =
-    enough 31 map list out (enough 9 hull list out (enough 3 point list out (enough 1 out list out
+    enough 31 map list out (enough hullAsked hull list out (enough 3 point list out (enough 1 out list out
     (listedIn (into (thenAnswer (hullFrom hull) (λ h.
     nodesEntered (pointWalk (hullTable s (mapOf map) h) (h .«node_id») (pointAt point 0)))) list) out))))
 
@@ -25,6 +25,6 @@ bspFindLeafNodes s map root point list out =
 
 unfoldable pub bspTraceNodes : List ℕ → List ℕ → List ℕ → List Float → List ℕ → List ℕ → Left
 bspTraceNodes s map hull segment list out =
-    enough 31 map list out (enough 9 hull list out (enough 6 segment list out (enough 1 out list out
+    enough 31 map list out (enough hullAsked hull list out (enough 6 segment list out (enough 1 out list out
     (listedIn (into (thenAnswer (hullFrom hull) (λ h.
     nodesEntered (Tracing.trace (hullTable s (mapOf map) h) (h .«node_id») (pointAt segment 0) (pointAt segment 3)))) list) out))))

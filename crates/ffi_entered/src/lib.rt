@@ -41,7 +41,7 @@ pub fn contents_nodes(
     if map.len() < 31 {
         return LIST_TOO_SHORT;
     }
-    if hull.len() < 9 {
+    if hull.len() < layout::HULL_ASKED {
         return LIST_TOO_SHORT;
     }
     if point.len() < 3 {
@@ -99,7 +99,7 @@ pub fn trace_nodes(
     if map.len() < 31 {
         return LIST_TOO_SHORT;
     }
-    if hull.len() < 9 {
+    if hull.len() < layout::HULL_ASKED {
         return LIST_TOO_SHORT;
     }
     if segment.len() < 6 {

@@ -6,10 +6,10 @@ use Rattle.format.specs.Answer.{mapped}
 use Rattle.words.specs.Words.{Written, given, atLeast, mapOf}
 use Rattle.hull.specs.Hull as Hull
 use Rattle.hull.specs.Hull.{forBounds}
-use Rattle.ffi_hull.specs.Layout.{pointAt, hullWords}
+use Rattle.ffi_hull.specs.Layout.{hullLength, pointAt, hullWords}
 
 unfoldable pub bspHull : List ℕ → List ℕ → ℕ → ℕ → List ℕ → Written
-bspHull s map model i out = atLeast 31 map out (atLeast 9 out out (given (mapped hullWords (Hull.hull s (mapOf map) model i)) out))
+bspHull s map model i out = atLeast 31 map out (atLeast hullLength out out (given (mapped hullWords (Hull.hull s (mapOf map) model i)) out))
 
 unfoldable pub bspBox : List Float → List ℕ → Written
-bspBox bounds out = atLeast 6 bounds out (atLeast 9 out out (given (mapped hullWords (forBounds (pointAt bounds 0) (pointAt bounds 3))) out))
+bspBox bounds out = atLeast 6 bounds out (atLeast hullLength out out (given (mapped hullWords (forBounds (pointAt bounds 0) (pointAt bounds 3))) out))

@@ -11,7 +11,7 @@ use hull::collision::HullAnswer;
 use words::give;
 
 pub fn give_hull(hull: HullAnswer, out: &mut [u64]) -> u32
-    requires { ⌜ 9 ≤ length (now out) ⌝ }
+    requires { ⌜ Layout.hullLength ≤ length (now out) ⌝ }
     ensures { λ r. ⌜ written r (now (out .exit)) ≡ given (mapped Layout.hullWords (hullAnswer hull)) (now (out .entry)) ⌝ }
 {
     match hull {

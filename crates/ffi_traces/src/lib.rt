@@ -97,7 +97,7 @@ pub fn trace(file: &[u8], map: &[u32], hull: &[u64], segment: &[f32], out: &mut 
     if map.len() < 31 {
         return LIST_TOO_SHORT;
     }
-    if hull.len() < 9 {
+    if hull.len() < layout::HULL_ASKED {
         return LIST_TOO_SHORT;
     }
     if segment.len() < 6 {

@@ -9,7 +9,7 @@ use Rattle.words.specs.Words.{Written, given, atLeast, mapOf}
 use Rattle.walk.specs.Walk.{withVisits, pointWalk}
 use Rattle.nodes.specs.Tables.{leafTable}
 use Rattle.hull.specs.Hull.{hullTable}
-use Rattle.ffi_hull.specs.Layout.{pointAt, hullFrom}
+use Rattle.ffi_hull.specs.Layout.{hullAsked, pointAt, hullFrom}
 
 -- the code of the contents, and the visits
 abbrev pub contentsWords : BspLeafContents × ℕ → List ℕ
@@ -21,7 +21,7 @@ leafWords a = a .0 ∷ a .1 ∷ []
 
 unfoldable pub bspContents : List ℕ → List ℕ → List ℕ → List Float → List ℕ → Written
 bspContents s map hull point out =
-    atLeast 31 map out (atLeast 9 hull out (atLeast 3 point out (atLeast 2 out out
+    atLeast 31 map out (atLeast hullAsked hull out (atLeast 3 point out (atLeast 2 out out
     (given (mapped contentsWords (thenAnswer (hullFrom hull) (λ h.
     withVisits (pointWalk (hullTable s (mapOf map) h) (h .«node_id») (pointAt point 0))))) out))))
 

@@ -54,7 +54,7 @@ pub fn contents(file: &[u8], map: &[u32], hull: &[u64], point: &[f32], out: &mut
     if map.len() < 31 {
         return LIST_TOO_SHORT;
     }
-    if hull.len() < 9 {
+    if hull.len() < layout::HULL_ASKED {
         return LIST_TOO_SHORT;
     }
     if point.len() < 3 {

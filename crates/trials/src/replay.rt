@@ -6,8 +6,8 @@
 //     2     bsp_record            section, index           the words of the record
 //     3     bsp_count             section                  the count
 //     4     bsp_entities                                   offset and length
-//     5     bsp_hull              model, index             the words of the hull
-//     6     bsp_box               mins, maxs               the words of the hull
+//     5     bsp_hull              model, index             the first nine words of the hull
+//     6     bsp_box               mins, maxs               the first nine words of the hull
 //     7     bsp_contents          point                    contents, visits
 //     8     bsp_find_leaf         root, point              leaf, visits
 //     9     bsp_trace             start, end               the words of the trace
@@ -17,7 +17,7 @@
 //     13    bsp_trace_nodes       start, end               length, the nodes entered
 //
 // A file of kind 1, the map record that loading answers for it, and the hull that a case of kind 5 or 6 answers are the current ones: the
-// cases after it go by them. A float is a word of its 32 bits.
+// cases after it go by them. A float is a word of its 32 bits. The Rust has no hull's last two words, the size of its tree.
 ghost use Prim.Native.Nat.{_+_, _<_, _≤_};
 ghost use lib.ListN.{length};
 ghost use Rattle.io.specs.Counts.{Counts};
@@ -113,7 +113,7 @@ fn call_list(
     args: &[u64],
     file: &[u8],
     map: &[u32; 31],
-    hull: &[u64; 9],
+    hull: &[u64; 11],
     list: &mut [u32; 4096],
     out: &mut [u64; 4097],
 ) -> u32 {
@@ -146,7 +146,7 @@ fn ask_list(
     args: &[u64],
     file: &[u8],
     map: &[u32; 31],
-    hull: &[u64; 9],
+    hull: &[u64; 11],
     out: &mut [u64; 4097],
 ) -> u32 {
     let mut list = [UNTOUCHED_SHORT; 4096];
@@ -161,7 +161,7 @@ fn ask(
     args: &[u64],
     file: &[u8],
     map: &[u32; 31],
-    hull: &[u64; 9],
+    hull: &[u64; 11],
     out: &mut [u64; 4097],
 ) -> u32 {
     match kind {
@@ -184,13 +184,28 @@ fn ask_load(file: &[u8], map: &mut [u32; 31], out: &mut [u64; 4097]) -> u32 {
     refusal
 }
 
+// The words of a hull that the Rust has.
+fn rust_words(hull: &[u64; 11]) -> [u64; 9] {
+    [
+        hull[0],
+        hull[1],
+        hull[2],
+        hull[3],
+        hull[4],
+        hull[5],
+        hull[6],
+        hull[7],
+        hull[8],
+    ]
+}
+
 // A hull, of a model or of a box, which becomes the current one.
 fn ask_hull(
     kind: u64,
     args: &[u64],
     file: &[u8],
     map: &[u32; 31],
-    hull: &mut [u64; 9],
+    hull: &mut [u64; 11],
     out: &mut [u64; 4097],
 ) -> u32 {
     let refusal = if kind == 5 {
@@ -199,7 +214,7 @@ fn ask_hull(
         ffi_hull::hull_of_box(&segment(args), hull)
     };
     if refusal == 0 {
-        words::give(hull, out);
+        words::give(&rust_words(hull), out);
     }
     refusal
 }
@@ -210,7 +225,7 @@ fn answer(
     args: &[u64],
     file: &[u8],
     map: &mut [u32; 31],
-    hull: &mut [u64; 9],
+    hull: &mut [u64; 11],
     out: &mut [u64; 4097],
 ) -> u32 {
     match kind {
@@ -339,7 +354,7 @@ fn run_case(
     next: usize,
     file: &mut [u8],
     map: &mut [u32; 31],
-    hull: &mut [u64; 9],
+    hull: &mut [u64; 11],
     before: Replayed,
 ) -> Replayed
     requires { ⌜ (at + 2 ≤ refusal) × (refusal + 2 ≤ next) × (next ≤ length (now words)) ⌝ }
@@ -361,7 +376,7 @@ fn run_case(
 // Runs every case. A case that is broken off counts as one of kind 0 that differs.
 pub fn replay(words: &[u64], file: &mut [u8]) -> Tally {
     let mut map = [0u32; 31];
-    let mut hull = [0u64; 9];
+    let mut hull = [0u64; 11];
     let mut state = Replayed {
         size: 0,
         tally: Tally {

@@ -8,11 +8,13 @@
 use crate::paper::walk::{self, Hull, Walked};
 use crate::paper::{load, tree, vis, Answer, Map, MAP_WORDS, SECTIONS};
 
-/// The words of `bsp_record`'s list, of a trace's, of a walk's and of a hull.
+/// The words of `bsp_record`'s list, of a trace's, of a walk's and of a hull, and of a hull that a call
+/// takes, which does not look at the last two.
 pub const RECORD_WORDS: usize = 20;
 pub const TRACE_WORDS: usize = 17;
 pub const WALK_WORDS: usize = 2;
-pub const HULL_WORDS: usize = 9;
+pub const HULL_WORDS: usize = 11;
+pub const HULL_ASKED: usize = 9;
 
 /// Writes an answer's words into the list's front and answers 0, or answers the refusal.
 fn put(answer: Answer<Vec<u64>>, out: &mut [u64]) -> u32 {
@@ -104,7 +106,7 @@ pub fn bsp_box(bounds: &[f32], hull: &mut [u64]) -> u32 {
 
 /// The map, the hull and 22 where a list is too short.
 fn lent<'a>(file: &'a [u8], map: &[u32], hull: &[u64], enough: bool) -> Answer<(Map<'a>, Hull)> {
-    let map = map_of(file, map, enough && hull.len() >= HULL_WORDS)?;
+    let map = map_of(file, map, enough && hull.len() >= HULL_ASKED)?;
     Ok((map, Hull::of_words(hull)?))
 }
 
@@ -198,4 +200,16 @@ pub fn bsp_tree_check(
     let height =
         map_of(file, map, !out.is_empty()).and_then(|map| tree::check(&map, table, root, marks));
     put(height.map(|height| vec![height]), out)
+}
+
+pub fn bsp_hull_check(
+    file: &[u8],
+    map: &[u32],
+    hull: &[u64],
+    marks: &mut [u8],
+    out: &mut [u64],
+) -> u32 {
+    let enough = hull.len() >= HULL_ASKED && out.len() >= HULL_WORDS;
+    let filled = map_of(file, map, enough).and_then(|map| tree::hull_check(&map, hull, marks));
+    put(filled, out)
 }

@@ -19,8 +19,8 @@ pub const NUMBERS: [u32; 22] =
 /// - 23 needs bytes and a map record that the caller made: none in loading, counts, a box.
 /// - 30 needs a walk: loading says 11 of a leaf outside its table.
 /// - 31 bounds walks, 32 bounds traces and the tree check; neither the other.
-/// - 33 is visibility's, 34 the tree check's.
-const CAN: [(&str, &[u32]); 14] = [
+/// - 33 is visibility's, 34 the tree check's and that of a hull.
+const CAN: [(&str, &[u32]); 15] = [
     ("bsp_load", &[1, 2, 3, 4, 5, 6, 7, 8, 9, 10, 11, 12, 22]),
     ("bsp_record", &[20, 22, 23]),
     ("bsp_count", &[20, 22]),
@@ -38,6 +38,8 @@ const CAN: [(&str, &[u32]); 14] = [
     ("bsp_pvs", &[20, 22, 23, 33]),
     // 20 where the number names no table
     ("bsp_tree_check", &[20, 22, 23, 30, 32, 34]),
+    // as the tree check; 20 where the hull's words name no table
+    ("bsp_hull_check", &[20, 22, 23, 30, 32, 34]),
 ];
 
 /// What is wrong with the cells of a table.

@@ -9,11 +9,11 @@ use maps::{make, Seed};
 use crate::asked::Asked;
 use crate::board::{shown, Board, Plan, Side, Sides};
 use crate::calls::Calls;
-use crate::calls_stub::RECORD_WORDS;
+use crate::calls_stub::{HULL_WORDS, RECORD_WORDS};
 use crate::paper::{self, record_size, tree, vis, MAP_WORDS, SECTIONS};
 use crate::tables::{self, Made};
-use crate::walks;
 use crate::words::{self, Words};
+use crate::{sizes, walks};
 
 pub fn run(plan: &Plan) -> bool {
     compare(&Calls::linked(), plan).print()
@@ -306,7 +306,7 @@ fn hulls(board: &mut Board, asked: &Asked, whole: Option<&richter::Map>) {
             let sides = Sides { rust, paper: Some(asked.paper().hull_words(model, index)) };
             let call = |out: &mut [u64]| (calls.hull)(file, map, model, index, out);
             let input = || asked.input(format!("model {model}, hull {index}, map {map:?}"));
-            board.words("bsp_hull", 9, sides, call, input);
+            board.words("bsp_hull", HULL_WORDS, sides, call, input);
         }
     }
 }
@@ -400,5 +400,7 @@ fn trees(board: &mut Board, asked: &Asked, seed: &mut Seed) {
             let text = format!("table {table}, root {root}, {} marks, map {map:?}", marks.len());
             asked.input(text)
         });
+        let hull = walks::hull_words(seed, table as u64, root);
+        sizes::ask(board, asked, walks::lent_hull(seed, &hull), None, &marks);
     }
 }

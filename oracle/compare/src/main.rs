@@ -23,6 +23,7 @@ mod records;
 mod replay;
 mod root_time;
 mod sample;
+mod sizes;
 mod stub;
 mod tables;
 mod tally;

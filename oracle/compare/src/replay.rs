@@ -2,6 +2,7 @@
 
 use crate::board::{Board, Side};
 use crate::calls::Calls;
+use crate::calls_stub::HULL_ASKED;
 use crate::sample::*;
 use crate::words::Words;
 
@@ -115,10 +116,12 @@ impl Replay<'_> {
             HULL => filled(|out| (self.calls.hull)(&self.file, &self.map, a[0], a[1], out)),
             _ => filled(|out| (self.calls.bounds)(&floats(a), out)),
         };
-        if let Ok(words) = &answer {
+        answer.map(|mut words| {
             self.hull = words.clone();
-        }
-        answer
+            // the Rust has no size of the tree
+            words.truncate(HULL_ASKED);
+            words
+        })
     }
 
     fn words(&self, kind: u64, a: &[u64]) -> Words {

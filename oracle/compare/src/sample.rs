@@ -282,7 +282,7 @@ impl Sample {
                 self.case(HULL, &[model, index], &Err(number));
             }
             Ok(hull) => {
-                let words = words::hull(index.min(1), &hull);
+                let words = words::old_hull(index.min(1), &hull);
                 self.case(HULL, &[model, index], &Ok(words));
                 for _ in 0..2 {
                     self.contents(&hull, tables::point(seed, planes));
@@ -300,7 +300,7 @@ impl Sample {
                 self.case(BOX, &floats(&bounds), &Err(number));
             }
             Ok(hull) => {
-                self.case(BOX, &floats(&bounds), &Ok(words::hull(2, &hull)));
+                self.case(BOX, &floats(&bounds), &Ok(words::old_hull(2, &hull)));
                 let planes = box_planes(&bounds);
                 for _ in 0..walks {
                     self.contents(&hull, tables::point(seed, &planes));
@@ -383,7 +383,7 @@ impl Sample {
             let made = Made::new(made, &Layout::plain());
             let rust = self.load(&made.file).expect("a chain loads");
             let hull = rust.hull(0, 1).expect("a hull");
-            self.case(HULL, &[0, 1], &Ok(words::hull(1, &hull)));
+            self.case(HULL, &[0, 1], &Ok(words::old_hull(1, &hull)));
             self.contents(&hull, p);
             self.trace(&hull, [p[0], p[1], p[2], 2.0, -2.0, 3.0]);
         }

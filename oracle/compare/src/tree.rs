@@ -15,7 +15,9 @@ use crate::board::{file_shown, shown, Board, Plan, Side};
 use crate::calls::Calls;
 use crate::paper::records::Child;
 use crate::paper::{self, tree, Answer};
+use crate::sizes;
 use crate::tables::{self, Made};
+use crate::walks::lent_hull;
 
 pub fn run(plan: &Plan) -> bool {
     compare(&Calls::linked(), plan).print()
@@ -105,6 +107,10 @@ fn one(board: &mut Board, calls: &Calls, asked: &Table, marks: &[u8], case: impl
     if table < 2 && expected != Err(22) {
         condition(board, &on_paper, asked, &expected, input);
     }
+    let seed = &mut Seed::named(root ^ marks.len() as u64, "hull of a table");
+    let hull = crate::walks::hull_words(seed, table as u64, root);
+    let asked = Asked { calls, name: &case, file, map };
+    sizes::ask(board, &asked, lent_hull(seed, &hull), None, marks);
 }
 
 /// The check on paper passes exactly if the gathered tree breaks no rule, with its height.
@@ -317,10 +323,12 @@ fn seeded(board: &mut Board, calls: &Calls, seed: &mut Seed, case: u64) {
         }
     }
     short_lists(board, calls, seed, &made);
+    let marks = marks(seed, 5);
+    sizes::short_lists(board, calls, seed, (&made.file, &made.map), &marks);
 }
 
 /// Marks of about the table's size, clean or not.
-fn marks(seed: &mut Seed, count: usize) -> Vec<u8> {
+pub fn marks(seed: &mut Seed, count: usize) -> Vec<u8> {
     let len = match seed.below(8) {
         0 => count.saturating_sub(1),
         1 => seed.below(count as u64 + 1) as usize,

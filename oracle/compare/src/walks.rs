@@ -13,10 +13,11 @@ use richter::Hull;
 use crate::asked::Asked;
 use crate::board::{shown, Board, Plan, Side, Sides};
 use crate::calls::Calls;
-use crate::calls_stub::{TRACE_WORDS, WALK_WORDS};
+use crate::calls_stub::{HULL_ASKED, HULL_WORDS, TRACE_WORDS, WALK_WORDS};
 use crate::paper::{self, walk};
 use crate::tables::{self, Made};
 use crate::words::{self, Words};
+use crate::{sizes, tree};
 
 /// A trace of more nodes than this is left out.
 pub const PATIENCE: usize = 300_000;
@@ -120,6 +121,7 @@ pub fn contents(
     rust: Option<&Hull>,
     p: [f32; 3],
 ) {
+    let hull = lent_hull(seed, hull);
     let on_page = walk::Hull::of_words(hull).map(|h| walk::contents(&asked.paper(), &h, p));
     let paper = match on_page {
         Ok(walked) => on_paper(walked, with_visits),
@@ -150,6 +152,7 @@ pub fn trace(
     rust: Option<&Hull>,
     segment: [f32; 6],
 ) {
+    let hull = lent_hull(seed, hull);
     let (start, end) = (three(&segment), three(&segment[3..]));
     let found = rust.map(|hull| words::walk(hull.trace(start, end), words::trace));
     let on_page =
@@ -253,14 +256,19 @@ pub fn bits_of(floats: &[f32]) -> String {
 }
 
 /// Hull words of a table with this root; the words that a walk does not use hold anything.
-pub fn hull_words(seed: &mut Seed, table: u64, root: u64) -> [u64; 9] {
-    let mut words = [0; 9];
+pub fn hull_words(seed: &mut Seed, table: u64, root: u64) -> [u64; HULL_WORDS] {
+    let mut words = [0; HULL_WORDS];
     for word in words.iter_mut() {
         *word = seed.next() >> seed.below(64);
     }
     words[0] = table;
     words[1] = root;
     words
+}
+
+/// So much of a hull's words as a call asks for, or more: it does not look at the others.
+pub fn lent_hull<'a>(seed: &mut Seed, hull: &'a [u64]) -> &'a [u64] {
+    &hull[..HULL_ASKED + seed.below((hull.len() - HULL_ASKED) as u64 + 1) as usize]
 }
 
 /// Every call about one file whose tables the Rust has: the model's hulls, and both tables from
@@ -358,12 +366,15 @@ pub fn one_hull(
     let input = || asked.input(format!("model {model}, hull {index}"));
     let sides = Sides::both(expected.clone(), asked.paper().hull_words(model, index));
     let call = |out: &mut [u64]| (calls.hull)(file, map, model, index, out);
-    board.words("bsp_hull", 9 + seed.below(3) as usize, sides, call, input);
+    board.words("bsp_hull", HULL_WORDS + seed.below(3) as usize, sides, call, input);
     if let (Ok(hull), Ok(words)) = (hull, expected) {
         let p = tables::point(seed, planes);
         contents(board, asked, seed, &words, Some(&hull), p);
         let s = tables::segment(seed, planes);
         trace(board, asked, seed, &words, Some(&hull), s);
+        let section = if index == 0 { paper::RENDER_NODES } else { paper::CLIP_NODES };
+        let marks = tree::marks(seed, asked.paper().count(section) as usize);
+        sizes::ask(board, asked, lent_hull(seed, &words), Some(&hull), &marks);
     }
 }
 
@@ -464,7 +475,7 @@ pub fn one_box(board: &mut Board, asked: &Asked, seed: &mut Seed, walks: u32) {
     };
     let input = || asked.input(format!("bounds {}", bits_of(&bounds)));
     let sides = Sides::both(expected.clone(), walk::box_words(&bounds));
-    let lent = 9 + seed.below(3) as usize;
+    let lent = HULL_WORDS + seed.below(3) as usize;
     board.words("bsp_box", lent, sides, |out| (calls.bounds)(&bounds, out), input);
     let root = if seed.once_in(3) { tables::root(seed, 6) } else { 0 };
     let hull = box_by_hand(&bounds, root);
@@ -474,6 +485,8 @@ pub fn one_box(board: &mut Board, asked: &Asked, seed: &mut Seed, walks: u32) {
         // the low 32 bits count
         words[3 + at] = bound.to_bits() as u64 | (seed.next() >> 32) << 32;
     }
+    let marks = tree::marks(seed, 6);
+    sizes::ask(board, asked, lent_hull(seed, &words), None, &marks);
     let planes = box_planes(&bounds);
     for _ in 0..walks {
         let p = tables::point(seed, &planes);
@@ -525,8 +538,8 @@ fn short_boxes(board: &mut Board, calls: &Calls, seed: &mut Seed) {
     let few = seed.below(6) as usize;
     let input = || (0, format!("{few} bounds"));
     let refused = || Sides::paper(Err(22));
-    board.words("bsp_box", 9, refused(), |out| (calls.bounds)(&bounds[..few], out), input);
-    let lent = seed.below(9) as usize;
+    board.words("bsp_box", HULL_WORDS, refused(), |out| (calls.bounds)(&bounds[..few], out), input);
+    let lent = seed.below(HULL_WORDS as u64) as usize;
     board.words("bsp_box", lent, refused(), |out| (calls.bounds)(&bounds, out), input);
 }
 
@@ -545,7 +558,7 @@ fn short_lists(board: &mut Board, asked: &Asked, seed: &mut Seed) {
         };
         let lent = Lent {
             map: &asked.map[..cut(0, asked.map.len())],
-            hull: &hull[..cut(1, 9)],
+            hull: &hull[..cut(1, HULL_ASKED)],
             root,
             point: &floats[..cut(2, 3)],
             segment: &floats[..cut(2, 6)],
@@ -563,7 +576,8 @@ fn short_lists(board: &mut Board, asked: &Asked, seed: &mut Seed) {
 fn short_hulls(board: &mut Board, asked: &Asked, seed: &mut Seed) {
     let Asked { calls, file, map, .. } = *asked;
     let (model, index) = (seed.below(2) * u64::MAX, seed.below(5));
-    for (words, lent) in [(seed.below(31) as usize, 9), (31, seed.below(9) as usize)] {
+    let few = seed.below(HULL_WORDS as u64) as usize;
+    for (words, lent) in [(seed.below(31) as usize, HULL_WORDS), (31, few)] {
         let call = |out: &mut [u64]| (calls.hull)(file, &map[..words], model, index, out);
         let input = || asked.input(format!("{words} words of a map, {lent} of a hull"));
         board.words("bsp_hull", lent, Sides::paper(Err(22)), call, input);

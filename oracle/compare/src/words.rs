@@ -3,6 +3,7 @@
 use richter::map::{Map, RenderChild};
 use richter::{Answer, Child, Hull, Plane, Refusal, Trace};
 
+use crate::paper::walk::UNKNOWN_SIZE;
 use crate::tally::bits;
 
 /// Words, or the number of a refusal.
@@ -128,8 +129,15 @@ pub fn tables(map: &Map) -> Vec<(u32, Vec<Vec<u64>>)> {
     ]
 }
 
-/// The nine words of a hull over a table.
+/// The words of a hull over a table: those that the Rust has, and zeros for the size of its tree.
 pub fn hull(table: u64, hull: &Hull) -> Vec<u64> {
+    let mut out = old_hull(table, hull);
+    out.extend(UNKNOWN_SIZE);
+    out
+}
+
+/// The nine words that the Rust has.
+pub fn old_hull(table: u64, hull: &Hull) -> Vec<u64> {
     let mut out = vec![table, hull.root() as u64, hull.node_count() as u64];
     floats(&mut out, &hull.mins());
     floats(&mut out, &hull.maxs());

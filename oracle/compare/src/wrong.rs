@@ -26,6 +26,7 @@ fn right() -> Calls {
         trace_nodes: stub::bsp_trace_nodes,
         pvs: stub::bsp_pvs,
         tree_check: stub::bsp_tree_check,
+        hull_check: stub::bsp_hull_check,
     }
 }
 
@@ -210,6 +211,12 @@ wrong! {
             refusal => refusal,
         }
     };
+    hand_made: hull_over_its_limit, hull_check, "bsp_hull_check", |f, m, h, marks, o| {
+        match stub::bsp_hull_check(f, m, h, marks, o) {
+            23 => 30,
+            refusal => refusal,
+        }
+    };
     hand_made: tree_over_its_limit, tree_check, "bsp_tree_check", |f, m, t, r, marks, o| {
         match stub::bsp_tree_check(f, m, t, r, marks, o) {
             23 => 30,
@@ -218,7 +225,7 @@ wrong! {
     };
 
     walks: contents_counts_one_more, contents, "bsp_contents", |f, m, h, p, o| {
-        changed(stub::bsp_contents(f, m, h, p, o), o, |o| o[1] += (o[1] == 511) as u64)
+        changed(stub::bsp_contents(f, m, h, p, o), o, |o| o[1] += (o[1] > 500) as u64)
     };
     walks: contents_stops_late, contents, "bsp_contents", |f, m, h, p, o| {
         match stub::bsp_contents(f, m, h, p, o) {
@@ -286,6 +293,27 @@ wrong! {
         let hold = |o: &mut [u64]| if o[2] > 1 << 32 { o[2] = 0 };
         changed(stub::bsp_hull(f, m, n, i, o), o, hold)
     };
+    walks: hull_fills_its_size, hull, "bsp_hull", |f, m, n, i, o| {
+        changed(stub::bsp_hull(f, m, n, i, o), o, |o| o[9] = o[2])
+    };
+    walks: box_fills_its_size, bounds, "bsp_box", |b, o| {
+        changed(stub::bsp_box(b, o), o, |o| o[9..11].copy_from_slice(&[6, 6]))
+    };
+    walks: contents_by_the_size, contents, "bsp_contents", |f, m, h, p, o| {
+        match stub::bsp_contents(f, m, h, p, o) {
+            0 if h.get(9).is_some_and(|nodes| *nodes > o[1] && *nodes < 1 << 20) => 31,
+            refusal => refusal,
+        }
+    };
+    walks: trace_asks_for_eleven, trace, "bsp_trace", |f, m, h, s, o| {
+        match stub::bsp_trace(f, m, h, s, o) {
+            0 if h.len() < 11 => 22,
+            refusal => refusal,
+        }
+    };
+    walks: check_of_what_the_rust_made, hull_check, "bsp_hull_check", |f, m, h, marks, o| {
+        changed(stub::bsp_hull_check(f, m, h, marks, o), o, |o| if h[0] == 1 { o[2] = o[9] })
+    };
     walks: hull_three, hull, "bsp_hull", |f, m, n, i, o| match i {
         3 => stub::bsp_hull(f, m, n, 2, o),
         i => stub::bsp_hull(f, m, n, i, o),
@@ -334,6 +362,38 @@ wrong! {
     tree: planes_first, tree_check, "bsp_tree_check", |f, m, t, r, marks, o| {
         match stub::bsp_tree_check(f, m, t, r, marks, o) {
             23 if t == 1 && m[19] == 16 => 30,
+            refusal => refusal,
+        }
+    };
+
+    tree: size_without_the_root, hull_check, "bsp_hull_check", |f, m, h, marks, o| {
+        changed(stub::bsp_hull_check(f, m, h, marks, o), o, |o| o[9] -= (o[9] == 511) as u64)
+    };
+    tree: size_is_the_height, hull_check, "bsp_hull_check", |f, m, h, marks, o| {
+        changed(stub::bsp_hull_check(f, m, h, marks, o), o, |o| o[9] = o[10])
+    };
+    tree: size_of_a_box, hull_check, "bsp_hull_check", |f, m, h, marks, o| {
+        let refusal = stub::bsp_hull_check(f, m, h, marks, o);
+        changed(refusal, o, |o| if h[0] == 2 { o[9..11].copy_from_slice(&[6, 6]) })
+    };
+    tree: size_kept_from_before, hull_check, "bsp_hull_check", |f, m, h, marks, o| {
+        let keep = |o: &mut [u64]| if h.len() > 9 && h[9] > 1 << 60 { o[9] = h[9] };
+        changed(stub::bsp_hull_check(f, m, h, marks, o), o, keep)
+    };
+    tree: old_words_as_they_were_lent, hull_check, "bsp_hull_check", |f, m, h, marks, o| {
+        let keep = |o: &mut [u64]| o[..9].copy_from_slice(&h[..9]);
+        changed(stub::bsp_hull_check(f, m, h, marks, o), o, keep)
+    };
+    tree: marks_of_a_hull_left_behind, hull_check, "bsp_hull_check", |f, m, h, marks, o| {
+        let refusal = stub::bsp_hull_check(f, m, h, marks, o);
+        if refusal == 34 {
+            marks[h[1] as usize] = 1;
+        }
+        refusal
+    };
+    tree: table_before_the_answer, hull_check, "bsp_hull_check", |f, m, h, marks, o| {
+        match stub::bsp_hull_check(f, m, h, marks, o) {
+            22 if m.len() == 31 && h.len() >= 9 && o.len() < 11 && h[0] > 2 => 20,
             refusal => refusal,
         }
     };
@@ -398,6 +458,9 @@ wrong! {
             34 if t == 0 => 30,
             refusal => refusal,
         }
+    };
+    loads: a_size_of_what_loads, hull_check, "bsp_hull_check", |f, m, h, marks, o| {
+        changed(stub::bsp_hull_check(f, m, h, marks, o), o, |o| o[10] += (o[9] > 2) as u64)
     };
     loads: short_rows_are_short, load, "bsp_load", |f, m| match stub::bsp_load(f, m) {
         7 => 1,

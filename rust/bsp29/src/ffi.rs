@@ -24,6 +24,7 @@ extern "C" {
     fn bsp_entities(file: Bytes, file_length: usize, map: Words, map_length: usize, out: LongsOut, out_length: usize) -> u32;
     fn bsp_hull(file: Bytes, file_length: usize, map: Words, map_length: usize, model: u64, index: u64, hull: LongsOut, hull_length: usize) -> u32;
     fn bsp_box(bounds: Floats, bounds_length: usize, hull: LongsOut, hull_length: usize) -> u32;
+    fn bsp_hull_check(file: Bytes, file_length: usize, map: Words, map_length: usize, hull: Longs, hull_length: usize, marks: BytesOut, marks_length: usize, out: LongsOut, out_length: usize) -> u32;
     fn bsp_contents(file: Bytes, file_length: usize, map: Words, map_length: usize, hull: Longs, hull_length: usize, point: Floats, point_length: usize, out: LongsOut, out_length: usize) -> u32;
     fn bsp_find_leaf(file: Bytes, file_length: usize, map: Words, map_length: usize, root: u64, point: Floats, point_length: usize, out: LongsOut, out_length: usize) -> u32;
     fn bsp_trace(file: Bytes, file_length: usize, map: Words, map_length: usize, hull: Longs, hull_length: usize, segment: Floats, segment_length: usize, out: LongsOut, out_length: usize) -> u32;
@@ -37,7 +38,9 @@ extern "C" {
 /// The words of a map record.
 pub(crate) type MapWords = [u32; 31];
 /// The words of a hull.
-pub(crate) type HullWords = [u64; 9];
+pub(crate) type HullWords = [u64; HULL_WORDS];
+/// How many they are.
+const HULL_WORDS: usize = 11;
 /// Two points, one after the other.
 pub(crate) type Segment = [f32; 6];
 
@@ -116,7 +119,7 @@ pub(crate) fn hull(
     model: u64,
     index: u64,
 ) -> Result<HullWords, Refusal> {
-    let mut hull = [0; 9];
+    let mut hull = [0; HULL_WORDS];
     // SAFETY: as in `load`.
     let status = unsafe {
         bsp_hull(
@@ -135,10 +138,36 @@ pub(crate) fn hull(
 
 /// `bsp_box`: the hull of a box.
 pub(crate) fn hull_of_box(bounds: &Segment) -> Result<HullWords, Refusal> {
-    let mut hull = [0; 9];
+    let mut hull = [0; HULL_WORDS];
     // SAFETY: as in `load`.
     let status = unsafe { bsp_box(bounds.as_ptr(), bounds.len(), hull.as_mut_ptr(), hull.len()) };
     answered(status, hull)
+}
+
+/// `bsp_hull_check`: the hull with the size of its tree.
+pub(crate) fn hull_check(
+    file: &[u8],
+    map: &MapWords,
+    hull: &HullWords,
+    marks: &mut [u8],
+) -> Result<HullWords, Refusal> {
+    let mut out = [0; HULL_WORDS];
+    // SAFETY: as in `load`.
+    let status = unsafe {
+        bsp_hull_check(
+            file.as_ptr(),
+            file.len(),
+            map.as_ptr(),
+            map.len(),
+            hull.as_ptr(),
+            hull.len(),
+            marks.as_mut_ptr(),
+            marks.len(),
+            out.as_mut_ptr(),
+            out.len(),
+        )
+    };
+    answered(status, out)
 }
 
 /// `bsp_contents`: contents code and visits.

@@ -39,12 +39,18 @@ pub struct Hull {
     pub table: NodeTable,
     /// The first node.
     pub root: usize,
-    /// How many nodes the Rust names here. No walk looks at it.
+    /// How many nodes the Rust names here: the clip nodes less the root, which is not the size of the
+    /// root's tree. No walk looks at it.
     pub node_count: usize,
     /// The least corner of what moves, or of the box.
     pub mins: [f32; 3],
     /// The greatest one.
     pub maxs: [f32; 3],
+    /// How many nodes the root's tree has, the root counted: filled by
+    /// [`Map::hull_check`](crate::Map::hull_check), zero before it and in a box. No call looks at it.
+    pub nodes: usize,
+    /// The height of that tree, likewise.
+    pub height: usize,
 }
 
 impl Hull {
@@ -56,6 +62,7 @@ impl Hull {
     ///
     /// let hull = Hull::for_bounds([-1.0; 3], [1.0; 3])?;
     /// assert_eq!(hull.table, NodeTable::Box);
+    /// assert_eq!((hull.nodes, hull.height), (0, 0));
     /// assert_eq!(Hull::for_bounds([0.0; 3], [1.0, 0.0, 1.0]), Err(Refusal::MinNotBelowMax));
     /// # Ok::<(), Refusal>(())
     /// ```
@@ -70,6 +77,8 @@ impl Hull {
             node_count: words[2] as usize,
             mins: floats(words, 3),
             maxs: floats(words, 6),
+            nodes: words[9] as usize,
+            height: words[10] as usize,
         }
     }
 
@@ -85,6 +94,8 @@ impl Hull {
             bits(self.maxs[0]),
             bits(self.maxs[1]),
             bits(self.maxs[2]),
+            self.nodes as u64,
+            self.height as u64,
         ]
     }
 }

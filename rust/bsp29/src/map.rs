@@ -330,6 +330,7 @@ impl Map<'_> {
     /// let hull = map.hull(0, 1)?;
     /// assert_eq!(hull.table, NodeTable::Clip);
     /// assert_eq!(hull.mins, [-16.0, -16.0, -24.0]);
+    /// assert_eq!((hull.nodes, hull.height), (0, 0));
     /// assert_eq!(map.hull(0, 3), Err(Refusal::NoSuchRecord));
     /// # Ok::<(), Refusal>(())
     /// ```
@@ -596,5 +597,34 @@ impl Map<'_> {
         let mut marks: Vec<u8> = self.list(table);
         ffi::tree_check(self.file, &self.words, table.number(), root as u64, &mut marks)
             .map(|height| height as usize)
+    }
+
+    /// The tree check of a hull's root, and the hull with the true size of that root's tree: how many
+    /// [`nodes`](Hull::nodes) it has and its [`height`](Hull::height). A box keeps zeros. The other
+    /// fields are those of the hull, and no other answer depends on the two.
+    ///
+    /// Refuses as [`tree_check`](Map::tree_check) does.
+    ///
+    /// ```
+    /// # let file = std::fs::read(concat!(env!("CARGO_MANIFEST_DIR"), "/../../maps/rooms.bsp")).unwrap();
+    /// use bsp29::{Hull, Map, Refusal};
+    ///
+    /// let map = Map::load(&file)?;
+    /// let hull = map.hull(0, 1)?;
+    /// assert_eq!((hull.node_count, hull.nodes, hull.height), (32, 0, 0));
+    /// let checked = map.hull_check(&hull)?;
+    /// assert_eq!(checked, Hull { nodes: 11, height: 10, ..hull });
+    ///
+    /// let outside = Hull { root: 999, ..hull };
+    /// assert_eq!(map.hull_check(&outside), Err(Refusal::IndexOutsideTable));
+    ///
+    /// let bounds = Hull::for_bounds([-1.0; 3], [1.0; 3])?;
+    /// assert_eq!(map.hull_check(&bounds)?, bounds);
+    /// # Ok::<(), Refusal>(())
+    /// ```
+    pub fn hull_check(&self, hull: &Hull) -> Result<Hull, Refusal> {
+        let mut marks: Vec<u8> = self.list(hull.table);
+        ffi::hull_check(self.file, &self.words, &hull.words(), &mut marks)
+            .map(|words| Hull::of(&words))
     }
 }

@@ -63,6 +63,8 @@ fn ask(map: &Map, seed: &mut Seed) -> usize {
         node_count: seed.number(),
         mins: seed.point(),
         maxs: seed.point(),
+        nodes: seed.number(),
+        height: seed.number(),
     };
     let hulls = [Ok(made), map.hull(0, seed.below(4) as usize), map.hull(seed.number(), 1)];
     for hull in hulls.into_iter().flatten() {
@@ -73,6 +75,7 @@ fn ask(map: &Map, seed: &mut Seed) -> usize {
         answered += usize::from(map.trace_nodes(&hull, a, b).is_ok());
         answered += usize::from(map.find_leaf_nodes(hull.root, a).is_ok());
         answered += usize::from(map.tree_check(hull.table, hull.root).is_ok());
+        answered += usize::from(map.hull_check(&hull).is_ok());
     }
     answered += usize::from(map.find_leaf(seed.point()).is_ok());
     answered += usize::from(map.find_leaf_from(seed.number(), seed.point()).is_ok());
@@ -89,13 +92,17 @@ fn passed(map: &Map, seed: &mut Seed) -> usize {
         let root = seed.below(25) as usize;
         let Ok(height) = map.tree_check(table, root) else { continue };
         passed += 1;
-        let hull = Hull { table, root, node_count: 0, mins: [0.0; 3], maxs: [0.0; 3] };
+        let (mins, maxs) = ([0.0; 3], [0.0; 3]);
+        let hull = Hull { table, root, node_count: 0, mins, maxs, nodes: 0, height: 0 };
+        let hull = map.hull_check(&hull).unwrap();
+        assert_eq!(hull.height, height);
         let (a, b) = (seed.point(), seed.point());
         assert!(map.contents(&hull, a).unwrap().1 <= height as u64);
         let mut nodes = map.trace_nodes(&hull, a, b).unwrap();
         assert_eq!(nodes.len() as u64, map.trace(&hull, a, b).unwrap().visits);
         nodes.sort_unstable();
         assert!(nodes.windows(2).all(|pair| pair[0] < pair[1]), "{nodes:?}");
+        assert!(nodes.len() <= hull.nodes);
     }
     passed
 }

@@ -1,7 +1,10 @@
-//! The tree check.
+//! The tree check, and the size of a hull's tree (document 02, note 8).
 
+use std::collections::BTreeSet;
+
+use super::fields::float_word;
 use super::records::Child;
-use super::walk::box_node;
+use super::walk::{box_node, UNKNOWN_SIZE};
 use super::*;
 
 /// The greatest depth allowed; the root has depth 1.
@@ -86,4 +89,40 @@ pub fn check(map: &Map, table: u32, root: u64, marks: &mut [u8]) -> Answer<u64> 
     let mut check = Check { map, table, reached: vec![false; count as usize], height: 0 };
     check.node(root, 1)?;
     Ok(check.height)
+}
+
+/// How many nodes the tree of a root has, and how many levels: from the root on, the children of a
+/// level's nodes are the next level, in no order; the tree is all of them. Of a root that passed.
+fn size(map: &Map, table: u32, root: u64) -> [u64; 2] {
+    let children = |at: &u64| {
+        let children = match table {
+            0 => map.render_node(*at).map(|node| node.children),
+            _ => map.clip_node(*at).map(|node| node.children),
+        };
+        children.into_iter().flatten().filter_map(|child| match child {
+            Child::Node(next) => Some(next),
+            _ => None,
+        })
+    };
+    let mut tree = BTreeSet::new();
+    let mut level = BTreeSet::from([root]);
+    let mut height = 0;
+    while !level.is_empty() {
+        height += 1;
+        tree.extend(level.iter().copied());
+        level = level.iter().flat_map(children).collect();
+    }
+    [tree.len() as u64, height]
+}
+
+/// The tree check of a hull's table and root, with its marks and refusals: the hull with the number
+/// of nodes in the root's tree and the tree's height; a box's keeps zeros. The other words are the
+/// hull's as it is read: a float's low 32 bits, any NaN as one.
+pub fn hull_check(map: &Map, hull: &[u64], marks: &mut [u8]) -> Answer<Vec<u64>> {
+    let table = u32::try_from(hull[0]).map_err(|_| 20u32)?;
+    check(map, table, hull[1], marks)?;
+    let floats = hull[3..9].iter().map(|word| float_word(f32::from_bits(*word as u32)));
+    let mut out: Vec<u64> = hull[..3].iter().copied().chain(floats).collect();
+    out.extend(if table == 2 { UNKNOWN_SIZE } else { size(map, table, hull[1]) });
+    Ok(out)
 }

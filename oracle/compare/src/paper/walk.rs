@@ -27,7 +27,7 @@ pub struct Hull {
 }
 
 impl Hull {
-    /// Of nine words; a table above 2 is 20.
+    /// Of a hull's first nine words; a table above 2 is 20.
     pub fn of_words(words: &[u64]) -> Answer<Hull> {
         let three = |at: usize| [at, at + 1, at + 2].map(|at| f32::from_bits(words[at] as u32));
         let table = match words[0] {
@@ -40,18 +40,22 @@ impl Hull {
     }
 }
 
-/// The nine words of a box's hull; 21 where a minimum is at or above its maximum.
+/// The size of a hull's tree before the tree check: no nodes, no height.
+pub const UNKNOWN_SIZE: [u64; 2] = [0, 0];
+
+/// The words of a box's hull; 21 where a minimum is at or above its maximum.
 pub fn box_words(bounds: &[f32]) -> Answer<Vec<u64>> {
     if (0..3).any(|at| bounds[at] >= bounds[at + 3]) {
         return Err(21);
     }
     let mut out = vec![2, 0, 6];
     out.extend(bounds[..6].iter().map(|x| float_word(*x)));
+    out.extend(UNKNOWN_SIZE);
     Ok(out)
 }
 
 impl Map<'_> {
-    /// The nine words of a model's hull: both numbers (20), then the model's own record (23). The
+    /// The words of a model's hull: both numbers (20), then the model's own record (23). The
     /// models before it are not asked for: they are leaf_id's.
     pub fn hull_words(&self, model: u64, index: u64) -> Answer<Vec<u64>> {
         if model >= self.count(MODELS) || index > 2 {
@@ -66,6 +70,7 @@ impl Map<'_> {
         };
         let mut out = vec![index.min(1), root, self.node_count_from(root)];
         out.extend(bounds.map(float_word));
+        out.extend(UNKNOWN_SIZE);
         Ok(out)
     }
 }

@@ -24,6 +24,9 @@ float-word-requires-5 c κs = search needs
 float-word-requires-6 : tie.Need-float-word-requires-6
 float-word-requires-6 c κs = search needs
 
+cast-t15 : tie.Need-cast-t15
+cast-t15 c = search needs
+
 returns : tie.Need-returns
 returns c = cc
 
@@ -38,4 +41,5 @@ hull-words-spec =
     float-word-requires-4
     float-word-requires-5
     float-word-requires-6
+    cast-t15
     returns)

@@ -24,12 +24,12 @@ returns : tie.Need-returns
 unfolding walkedFrom
 returns c = simp (← c .before .before .before .before .before .word-at-u64 .ensures, lt-ltb _ 2 (c .before .before .before .before .if1 .taken), c .before .before .before .node-table .ensures, c .before .before .word-at-u642 .ensures, c .before .new .ensures, c .new2 .ensures)
 
-box-in-requires : tie.Need-box-in-requires
-box-in-requires c κs = search needs
+hull-in-requires : tie.Need-hull-in-requires
+hull-in-requires c κs = search needs
 
 returns-2 : tie.Need-returns-2
 unfolding walkedFrom
-returns-2 c = simp (← c .before .before .before .word-at-u64 .ensures, le-ltb _ 2 (c .before .before .if1 .left), eq-eqb _ 2 (c .before .if2 .taken), c .box-in .ensures)
+returns-2 c = simp (← c .before .before .before .word-at-u64 .ensures, le-ltb _ 2 (c .before .before .if1 .left), eq-eqb _ 2 (c .before .if2 .taken), c .hull-in .ensures)
 
 returns-3 : tie.Need-returns-3
 unfolding walkedFrom
@@ -45,6 +45,6 @@ walked-hull-spec =
     new-requires
     new-requires-2
     returns
-    box-in-requires
+    hull-in-requires
     returns-2
     returns-3)

@@ -1,7 +1,7 @@
--- `ffi_hull::layout::box_in` meets its contract. Assumes nothing.
+-- `ffi_hull::layout::hull_in` meets its contract. Assumes nothing.
 use borrow.Author.Needs.{needs}
-use Rattle.ffi_hull.proofs.layout.box_in.Statement.{statement}
-use Rattle.ffi_hull.proofs.layout.box_in.Tie as tie
+use Rattle.ffi_hull.proofs.layout.hull_in.Statement.{statement}
+use Rattle.ffi_hull.proofs.layout.hull_in.Tie as tie
 
 word-at-u64-requires : tie.Need-word-at-u64-requires
 word-at-u64-requires c κs = search needs
@@ -40,8 +40,8 @@ returns c =
       c .float-of6 .ensures,
     )
 
-pub box-in-spec : {M : Type 1} → statement M
-box-in-spec =
+pub hull-in-spec : {M : Type 1} → statement M
+hull-in-spec =
     tie.close
     (tie.spec
     word-at-u64-requires
