@@ -8,8 +8,8 @@
  * causes each, and in which order they come). Whatever the bytes, the map record, the hull or the
  * numbers, it ends and answers one of these; it reads and writes nothing but the lists it is lent.
  * What it answers goes to the front of a list that the caller lends; entries past the answer are
- * kept. A refusal writes nothing, but for the marks of bsp_tree_check and bsp_hull_check. The library
- * holds no state: any thread may call it at any time.
+ * kept. A refusal writes nothing, but for the marks of bsp_tree_check, bsp_hull_check and
+ * bsp_contents_box. The library holds no state: any thread may call it at any time.
  *
  * Stack: bsp_trace and bsp_trace_nodes go up to 512 nodes deep and need up to 574,000 bytes,
  * bsp_tree_check and bsp_hull_check up to 164,000 (measured on a chain of 512 nodes, not proved). The
@@ -60,6 +60,7 @@ enum bsp_refusal {
     BSP_MIN_NOT_BELOW_MAX = 21,
     BSP_LIST_TOO_SHORT = 22,
     BSP_UNREADABLE = 23,
+    BSP_NOT_A_BOX = 28,
     /* the map's shape, met in a query */
     BSP_INDEX_OUTSIDE_TABLE = 30,
     BSP_WALK_TOO_LONG = 31,
@@ -90,6 +91,7 @@ static inline const char *bsp_sentence(uint32_t refusal)
     case BSP_MIN_NOT_BELOW_MAX: return "a minimum of the box is at or above its maximum";
     case BSP_LIST_TOO_SHORT: return "a list lent to the call is too short";
     case BSP_UNREADABLE: return "the map record leads outside the file or to a record that loading refuses";
+    case BSP_NOT_A_BOX: return "a bound of the box is not finite, or a minimum is above its maximum";
     case BSP_INDEX_OUTSIDE_TABLE: return "a node of the map names a node, plane or leaf that is not there, or the root is not there";
     case BSP_WALK_TOO_LONG: return "the walk entered as many nodes as the map has and did not end";
     case BSP_TOO_DEEP: return "the map's tree is deeper than 512 nodes";
@@ -453,6 +455,24 @@ uint32_t bsp_trace_nodes(const uint8_t *file, size_t file_length,
                          const float *segment, size_t segment_length,
                          uint32_t *list, size_t list_length,
                          uint64_t *out, size_t out_length);
+
+/*
+ * The contents that a point of a box may have, for one who is known only to be somewhere in it: the
+ * set in out[0], bit n for the code n (enum bsp_contents), so that Empty is 2 and Solid 4. Each plane
+ * sends the box to the side on which its eight corners lie, or to both. Every point in the box, its
+ * bounds counted, has contents of the set; a box of one point has that point's contents alone. The set
+ * may also hold contents that no point of the box has.
+ *   map: 31 words or more; hull: 9; bounds: 6 floats, mins, then maxs; out: 1 word or more; marks: as
+ *   bsp_tree_check.
+ *   Refuses: 22; 20, a hull whose table is none; 28, with the marks kept; then as bsp_tree_check on the
+ *   hull's table and root, which leaves the marks so; then 23, a plane or a leaf.
+ */
+uint32_t bsp_contents_box(const uint8_t *file, size_t file_length,
+                          const uint32_t *map, size_t map_length,
+                          const uint64_t *hull, size_t hull_length,
+                          const float *bounds, size_t bounds_length,
+                          uint8_t *marks, size_t marks_length,
+                          uint64_t *out, size_t out_length);
 
 /*
  * The leaves that can be seen from a leaf: their number in out[0], and the leaves, lowest first, at

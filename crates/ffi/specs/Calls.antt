@@ -9,3 +9,4 @@ pub use Rattle.ffi_entered.specs.Calls.{bspContentsNodes, bspFindLeafNodes, bsp
 pub use Rattle.ffi_vis.specs.Calls.{bspPvs}
 pub use Rattle.ffi_tree.specs.Calls.{bspTreeCheck}
 pub use Rattle.ffi_checked.specs.Calls.{bspHullCheck}
+pub use Rattle.ffi_boxes.specs.Calls.{bspContentsBox}

@@ -167,6 +167,21 @@ pub extern "C" fn bsp_trace_nodes(
     ffi_entered::trace_nodes(file, map, hull, segment, list, out)
 }
 
+// The set of contents that a box of points meets.
+#[no_mangle]
+pub extern "C" fn bsp_contents_box(
+    file: &[u8],
+    map: &[u32],
+    hull: &[u64],
+    bounds: &[f32],
+    marks: &mut [u8],
+    out: &mut [u64],
+) -> u32
+    ensures { λ r. ⌜ left r (now (marks .exit)) (now (out .exit)) ≡ Calls.bspContentsBox (now (file .entry)) (now (map .entry)) (now (hull .entry)) (now (bounds .entry)) (now (marks .entry)) (now (out .entry)) ⌝ }
+{
+    ffi_boxes::contents_box(file, map, hull, bounds, marks, out)
+}
+
 // The leaves that can be seen from a leaf, at the front of `list`, and their count.
 #[no_mangle]
 pub extern "C" fn bsp_pvs(

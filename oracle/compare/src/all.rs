@@ -3,16 +3,17 @@
 
 use crate::board::{Board, Plan};
 use crate::calls::{self, Calls};
-use crate::{coverage, hand_made, joins, leaves, loads, pvs, records, tree, walks};
+use crate::{boxes, coverage, hand_made, joins, leaves, loads, pvs, records, tree, walks};
 
 type Mode = fn(&Calls, &Plan) -> Board;
 
 /// The modes, and the cases of each in a round.
-const MODES: [(Mode, u64); 7] = [
+const MODES: [(Mode, u64); 8] = [
     (records::compare, 500),
     (hand_made::compare, 1_000),
     (walks::compare, 1_000),
     (tree::compare, 2_000),
+    (boxes::compare, 500),
     (pvs::compare, 2_000),
     (loads::compare, 2_000),
     (joins::compare, 10_000),

@@ -35,6 +35,7 @@ extern "C" {
     fn bsp_pvs(file: Bytes, file_len: usize, map: Words, map_len: usize, leaf: u64, leaf_count: u64, list: WordsOut, list_len: usize, out: LongsOut, out_len: usize) -> u32;
 
     fn bsp_tree_check(file: Bytes, file_len: usize, map: Words, map_len: usize, table: u32, root: u64, marks: BytesOut, marks_len: usize, out: LongsOut, out_len: usize) -> u32;
+    fn bsp_contents_box(file: Bytes, file_len: usize, map: Words, map_len: usize, hull: Longs, hull_len: usize, bounds: Floats, bounds_len: usize, marks: BytesOut, marks_len: usize, out: LongsOut, out_len: usize) -> u32;
     fn bsp_hull_check(file: Bytes, file_len: usize, map: Words, map_len: usize, hull: Longs, hull_len: usize, marks: BytesOut, marks_len: usize, out: LongsOut, out_len: usize) -> u32;
 }
 
@@ -67,6 +68,7 @@ pub struct Calls {
     pub trace_nodes: fn(&[u8], &[u32], &[u64], &[f32], &mut [u32], &mut [u64]) -> u32,
     pub pvs: fn(&[u8], &[u32], u64, u64, &mut [u32], &mut [u64]) -> u32,
     pub tree_check: fn(&[u8], &[u32], u32, u64, &mut [u8], &mut [u64]) -> u32,
+    pub contents_box: fn(&[u8], &[u32], &[u64], &[f32], &mut [u8], &mut [u64]) -> u32,
     pub hull_check: fn(&[u8], &[u32], &[u64], &mut [u8], &mut [u64]) -> u32,
 }
 
@@ -87,6 +89,7 @@ impl Calls {
             trace_nodes,
             pvs,
             tree_check,
+            contents_box,
             hull_check,
         }
     }
@@ -99,6 +102,7 @@ pub fn is_linked(call: &str) -> bool {
         "bsp_record" | "bsp_count" | "bsp_entities" => cfg!(feature = "ffi_records"),
         "bsp_pvs" => cfg!(feature = "ffi_pvs"),
         "bsp_tree_check" | "bsp_hull_check" => cfg!(feature = "ffi_tree"),
+        "bsp_contents_box" => cfg!(feature = "ffi_boxes"),
         "bsp_contents_nodes" | "bsp_find_leaf_nodes" | "bsp_trace_nodes" => {
             cfg!(feature = "ffi_nodes")
         }
@@ -381,6 +385,34 @@ pub fn hull_check(
             map.len(),
             hull.as_ptr(),
             hull.len(),
+            marks.as_mut_ptr(),
+            marks.len(),
+            out.as_mut_ptr(),
+            out.len()
+        )
+    )
+}
+
+pub fn contents_box(
+    file: &[u8],
+    map: &[u32],
+    hull: &[u64],
+    bounds: &[f32],
+    marks: &mut [u8],
+    out: &mut [u64],
+) -> u32 {
+    either!(
+        "ffi_boxes",
+        bsp_contents_box(file, map, hull, bounds, marks, out),
+        (
+            file.as_ptr(),
+            file.len(),
+            map.as_ptr(),
+            map.len(),
+            hull.as_ptr(),
+            hull.len(),
+            bounds.as_ptr(),
+            bounds.len(),
             marks.as_mut_ptr(),
             marks.len(),
             out.as_mut_ptr(),

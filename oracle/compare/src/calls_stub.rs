@@ -6,7 +6,7 @@
 #![allow(dead_code)]
 
 use crate::paper::walk::{self, Hull, Walked};
-use crate::paper::{load, tree, vis, Answer, Map, MAP_WORDS, SECTIONS};
+use crate::paper::{boxes, load, tree, vis, Answer, Map, MAP_WORDS, SECTIONS};
 
 /// The words of `bsp_record`'s list, of a trace's, of a walk's and of a hull, and of a hull that a call
 /// takes, which does not look at the last two.
@@ -212,4 +212,18 @@ pub fn bsp_hull_check(
     let enough = hull.len() >= HULL_ASKED && out.len() >= HULL_WORDS;
     let filled = map_of(file, map, enough).and_then(|map| tree::hull_check(&map, hull, marks));
     put(filled, out)
+}
+
+pub fn bsp_contents_box(
+    file: &[u8],
+    map: &[u32],
+    hull: &[u64],
+    bounds: &[f32],
+    marks: &mut [u8],
+    out: &mut [u64],
+) -> u32 {
+    let enough = hull.len() >= HULL_ASKED && bounds.len() >= 6 && !out.is_empty();
+    let set = map_of(file, map, enough)
+        .and_then(|map| boxes::contents_box(&map, &Hull::of_words(hull)?, bounds, marks));
+    put(set.map(|set| vec![set]), out)
 }

@@ -4,9 +4,9 @@
 use crate::board::{Agreed, Board, Line};
 use crate::calls;
 
-/// The numbers of document 01.
-pub const NUMBERS: [u32; 22] =
-    [1, 2, 3, 4, 5, 6, 7, 8, 9, 10, 11, 12, 19, 20, 21, 22, 23, 30, 31, 32, 33, 34];
+/// The numbers of document 01 and of the requests of document 02.
+pub const NUMBERS: [u32; 23] =
+    [1, 2, 3, 4, 5, 6, 7, 8, 9, 10, 11, 12, 19, 20, 21, 22, 23, 28, 30, 31, 32, 33, 34];
 
 /// A call and the numbers that it can give. Those that it cannot:
 /// - 1 to 12 are refusals of loading. A record read later that would be 1 or 10, or in a face's
@@ -19,8 +19,9 @@ pub const NUMBERS: [u32; 22] =
 /// - 23 needs bytes and a map record that the caller made: none in loading, counts, a box.
 /// - 30 needs a walk: loading says 11 of a leaf outside its table.
 /// - 31 bounds walks, 32 bounds traces and the tree check; neither the other.
-/// - 33 is visibility's, 34 the tree check's and that of a hull.
-const CAN: [(&str, &[u32]); 15] = [
+/// - 28 is that of a box whose contents are asked.
+/// - 33 is visibility's, 34 the tree check's and that of the calls which make it.
+const CAN: [(&str, &[u32]); 16] = [
     ("bsp_load", &[1, 2, 3, 4, 5, 6, 7, 8, 9, 10, 11, 12, 22]),
     ("bsp_record", &[20, 22, 23]),
     ("bsp_count", &[20, 22]),
@@ -40,6 +41,8 @@ const CAN: [(&str, &[u32]); 15] = [
     ("bsp_tree_check", &[20, 22, 23, 30, 32, 34]),
     // as the tree check; 20 where the hull's words name no table
     ("bsp_hull_check", &[20, 22, 23, 30, 32, 34]),
+    // the bounds, then as the tree check, then 23 as planes and leaves are read
+    ("bsp_contents_box", &[20, 22, 23, 28, 30, 32, 34]),
 ];
 
 /// What is wrong with the cells of a table.

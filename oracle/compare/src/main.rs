@@ -4,6 +4,7 @@ mod all;
 mod asked;
 mod bench;
 mod board;
+mod boxes;
 mod calls;
 mod calls_stub;
 mod cases;
@@ -98,6 +99,7 @@ fn run(mode: &str, given: &Arguments) -> bool {
         "hand-made" => hand_made::run(&given.plan(10_000)),
         "walks" => walks::run(&given.plan(10_000)),
         "tree-check" => tree::run(&given.plan(20_000)),
+        "boxes" => boxes::run(&given.plan(10_000)),
         "pvs" => pvs::run(&given.plan(20_000)),
         "loads" => loads::run(&given.plan(5_000)),
         "sample" => sample::run(given.path(), given.number("--seed", 1), !given.has("--no-nodes")),

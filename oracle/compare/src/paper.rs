@@ -1,5 +1,6 @@
 //! Document 01 read as a plain program: loading, records by index, hulls, walks, traces,
-//! visibility and the tree check, with the numbers of their refusals.
+//! visibility and the tree check, with the numbers of their refusals; and the requests of document
+//! 02 that have landed, each from its own text.
 //!
 //! It knows nothing of the proved code. Where the document names the published Rust as the reference
 //! and says no more (crossings, traces and their joining, the arithmetic of extents, a model's
@@ -15,7 +16,9 @@
 //! - `tree`: the tree check
 //! - `vis`: visibility lists
 //! - `load`: loading
+//! - `boxes`: the contents that a box may meet (document 02, note 12)
 
+pub mod boxes;
 pub mod faces;
 pub mod fields;
 pub mod load;

@@ -3,7 +3,7 @@
 use crate::board::{Board, Plan};
 use crate::calls::Calls;
 use crate::calls_stub as stub;
-use crate::{all, coverage, hand_made, joins, loads, pvs, records, replay, sample, tree, walks};
+use crate::{all, boxes, coverage, hand_made, joins, loads, pvs, records, replay, sample, tree, walks};
 
 const PLAN: Plan = Plan { cases: 250, from: 0, seed: 7, quick: true };
 
@@ -27,14 +27,16 @@ fn right() -> Calls {
         pvs: stub::bsp_pvs,
         tree_check: stub::bsp_tree_check,
         hull_check: stub::bsp_hull_check,
+        contents_box: stub::bsp_contents_box,
     }
 }
 
-const MODES: [Compare; 7] = [
+const MODES: [Compare; 8] = [
     records::compare,
     hand_made::compare,
     walks::compare,
     tree::compare,
+    boxes::compare,
     pvs::compare,
     loads::compare,
     joins::compare,
@@ -321,6 +323,28 @@ wrong! {
     walks: box_refuses_nan, bounds, "bsp_box", |b, o| {
         match stub::bsp_box(b, o) {
             0 if b.iter().any(|x| x.is_nan()) => 21,
+            refusal => refusal,
+        }
+    };
+
+    boxes: front_alone_where_it_divides, contents_box, "bsp_contents_box", |f, m, h, b, marks, o| {
+        let refusal = stub::bsp_contents_box(f, m, h, b, marks, o);
+        changed(refusal, o, |o| o[0] = 1 << o[0].trailing_zeros())
+    };
+    boxes: one_bit_too_many, contents_box, "bsp_contents_box", |f, m, h, b, marks, o| {
+        let refusal = stub::bsp_contents_box(f, m, h, b, marks, o);
+        changed(refusal, o, |o| o[0] |= (o[0].count_ones() == 1) as u64 * 6)
+    };
+    boxes: no_box_clears_marks, contents_box, "bsp_contents_box", |f, m, h, b, marks, o| {
+        let refusal = stub::bsp_contents_box(f, m, h, b, marks, o);
+        if refusal == 28 {
+            marks.fill(0);
+        }
+        refusal
+    };
+    boxes: check_before_the_bounds, contents_box, "bsp_contents_box", |f, m, h, b, marks, o| {
+        match stub::bsp_contents_box(f, m, h, b, marks, o) {
+            28 if h[1] > 40_000 => 30,
             refusal => refusal,
         }
     };

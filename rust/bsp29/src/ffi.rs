@@ -32,6 +32,7 @@ extern "C" {
     fn bsp_find_leaf_nodes(file: Bytes, file_length: usize, map: Words, map_length: usize, root: u64, point: Floats, point_length: usize, list: WordsOut, list_length: usize, out: LongsOut, out_length: usize) -> u32;
     fn bsp_trace_nodes(file: Bytes, file_length: usize, map: Words, map_length: usize, hull: Longs, hull_length: usize, segment: Floats, segment_length: usize, list: WordsOut, list_length: usize, out: LongsOut, out_length: usize) -> u32;
     fn bsp_pvs(file: Bytes, file_length: usize, map: Words, map_length: usize, leaf: u64, leaf_count: u64, list: WordsOut, list_length: usize, out: LongsOut, out_length: usize) -> u32;
+    fn bsp_contents_box(file: Bytes, file_length: usize, map: Words, map_length: usize, hull: Longs, hull_length: usize, bounds: Floats, bounds_length: usize, marks: BytesOut, marks_length: usize, out: LongsOut, out_length: usize) -> u32;
     fn bsp_tree_check(file: Bytes, file_length: usize, map: Words, map_length: usize, table: u32, root: u64, marks: BytesOut, marks_length: usize, out: LongsOut, out_length: usize) -> u32;
 }
 
@@ -378,6 +379,35 @@ pub(crate) fn tree_check(
             map.len(),
             table,
             root,
+            marks.as_mut_ptr(),
+            marks.len(),
+            out.as_mut_ptr(),
+            out.len(),
+        )
+    };
+    answered(status, out[0])
+}
+
+/// `bsp_contents_box`: the set of contents that a box meets, bit n for the code n.
+pub(crate) fn contents_box(
+    file: &[u8],
+    map: &MapWords,
+    hull: &HullWords,
+    bounds: &Segment,
+    marks: &mut [u8],
+) -> Result<u64, Refusal> {
+    let mut out = [0; 1];
+    // SAFETY: as in `load`.
+    let status = unsafe {
+        bsp_contents_box(
+            file.as_ptr(),
+            file.len(),
+            map.as_ptr(),
+            map.len(),
+            hull.as_ptr(),
+            hull.len(),
+            bounds.as_ptr(),
+            bounds.len(),
             marks.as_mut_ptr(),
             marks.len(),
             out.as_mut_ptr(),

@@ -66,8 +66,8 @@ mod words;
 pub use hull::{Hull, NodeTable, Trace, TraceEnd};
 pub use map::Map;
 pub use records::{
-    ClipChild, ClipNode, Contents, Direction, Edge, EdgeListEntry, Face, FaceListEntry, Leaf,
-    Model, Plane, PlaneKind, Record, Records, RenderChild, RenderNode, Side, Sounds, TextureInfo,
-    Vertex,
+    ClipChild, ClipNode, Contents, ContentsSet, Direction, Edge, EdgeListEntry, Face,
+    FaceListEntry, Leaf, Model, Plane, PlaneKind, Record, Records, RenderChild, RenderNode, Side,
+    Sounds, TextureInfo, Vertex,
 };
 pub use refusal::Refusal;

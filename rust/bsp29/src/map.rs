@@ -627,4 +627,36 @@ impl Map<'_> {
         ffi::hull_check(self.file, &self.words, &hull.words(), &mut marks)
             .map(|words| Hull::of(&words))
     }
+
+    /// The contents that a point of a box may have, for one who is known only to be somewhere in it.
+    /// Each plane sends the box to the side on which its eight corners lie, or to both. Every point in
+    /// the box, its bounds counted, has contents of the set; a box of one point has that point's
+    /// contents alone. The set may also hold contents that no point of the box has.
+    ///
+    /// Refuses with 28 for a bound that is not finite or a minimum above its maximum, then as
+    /// [`tree_check`](Map::tree_check) does of the hull's root.
+    ///
+    /// ```
+    /// # let file = std::fs::read(concat!(env!("CARGO_MANIFEST_DIR"), "/../../maps/rooms.bsp")).unwrap();
+    /// use bsp29::{Contents, Map, Refusal};
+    ///
+    /// let map = Map::load(&file)?;
+    /// let hull = map.hull(0, 0)?;
+    /// let set = map.contents_box(&hull, [-70.0, -4.0, -4.0], [-58.0, 4.0, 4.0])?;
+    /// assert!(set.is_only(Contents::Empty));
+    /// let set = map.contents_box(&hull, [-70.0, -4.0, -400.0], [-58.0, 4.0, 4.0])?;
+    /// assert!(set.holds(Contents::Empty) && set.holds(Contents::Solid));
+    /// assert_eq!(map.contents_box(&hull, [1.0; 3], [0.0; 3]), Err(Refusal::NotABox));
+    /// # Ok::<(), Refusal>(())
+    /// ```
+    pub fn contents_box(
+        &self,
+        hull: &Hull,
+        mins: [f32; 3],
+        maxs: [f32; 3],
+    ) -> Result<ContentsSet, Refusal> {
+        let mut marks: Vec<u8> = self.list(hull.table);
+        ffi::contents_box(self.file, &self.words, &hull.words(), &both(mins, maxs), &mut marks)
+            .map(ContentsSet::of)
+    }
 }

@@ -75,6 +75,31 @@ impl Contents {
     }
 }
 
+/// A set of contents, as [`Map::contents_box`](crate::Map::contents_box) answers it.
+#[derive(Copy, Clone, Debug, PartialEq, Eq, Hash)]
+pub struct ContentsSet(u32);
+
+impl ContentsSet {
+    pub(crate) fn of(bits: u64) -> ContentsSet {
+        ContentsSet(bits as u32)
+    }
+
+    /// Bit n stands for the code n of [`Contents::code`].
+    pub fn bits(self) -> u32 {
+        self.0
+    }
+
+    /// Whether these contents are in the set.
+    pub fn holds(self, contents: Contents) -> bool {
+        self.0 >> contents.code() & 1 == 1
+    }
+
+    /// Whether these contents are all that is in the set.
+    pub fn is_only(self, contents: Contents) -> bool {
+        self.0 == 1 << contents.code()
+    }
+}
+
 /// How a plane stands.
 #[derive(Copy, Clone, Debug, PartialEq, Eq, Hash)]
 pub enum PlaneKind {

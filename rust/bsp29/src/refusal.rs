@@ -103,6 +103,8 @@ refusals! {
     ListTooShort = 22, "a list lent to the call is too short";
     /// 23: a map record made by hand leads outside the bytes, or to a record that loading refuses.
     Unreadable = 23, "the map record leads outside the file or to a record that loading refuses";
+    /// 28: a bound of a box is not finite, or a minimum is above its maximum.
+    NotABox = 28, "a bound of the box is not finite, or a minimum is above its maximum";
     /// 30: a root, child, plane or leaf index outside its table.
     IndexOutsideTable = 30, "a node of the map names a node, plane or leaf that is not there, or the root is not there";
     /// 31: a walk has entered as many nodes as the table holds, and a further one is there.

@@ -19,6 +19,17 @@ pub enum Table {
     Box(Vector, Vector),
 }
 
+impl Table {
+    /// Its number in the words of a hull.
+    pub fn number(self) -> u32 {
+        match self {
+            Table::Render => 0,
+            Table::Clip => 1,
+            Table::Box(..) => 2,
+        }
+    }
+}
+
 /// A hull as a walk takes it; its node count is never used.
 #[derive(Copy, Clone, Debug)]
 pub struct Hull {
@@ -82,15 +93,15 @@ pub struct Node {
 
 /// What a walk needs of a table.
 #[derive(Copy, Clone)]
-struct Nodes<'a> {
-    map: &'a Map<'a>,
-    table: Table,
+pub(super) struct Nodes<'a> {
+    pub map: &'a Map<'a>,
+    pub table: Table,
     /// Leaf lookup ends at a leaf's number, everything else at its contents.
-    ends_at_leaf: bool,
+    pub ends_at_leaf: bool,
 }
 
 impl Nodes<'_> {
-    fn count(&self) -> u64 {
+    pub fn count(&self) -> u64 {
         match self.table {
             Table::Render => self.map.count(RENDER_NODES),
             Table::Clip => self.map.count(CLIP_NODES),
@@ -99,7 +110,7 @@ impl Nodes<'_> {
     }
 
     /// A node in range, read whole (23).
-    fn node(&self, index: u64) -> Answer<Node> {
+    pub fn node(&self, index: u64) -> Answer<Node> {
         match self.table {
             Table::Render => {
                 let node = self.map.render_node(index)?;
@@ -114,7 +125,7 @@ impl Nodes<'_> {
     }
 
     /// A plane: 30 outside its table, then 23.
-    fn plane(&self, index: u64) -> Answer<Plane> {
+    pub fn plane(&self, index: u64) -> Answer<Plane> {
         match self.table {
             Table::Box(mins, maxs) => {
                 let axis = index as usize / 2;
@@ -128,7 +139,7 @@ impl Nodes<'_> {
 
     /// What a child that is no node gives: a contents code, or a leaf's number (30), or its
     /// contents (23).
-    fn end(&self, child: Child) -> Answer<u64> {
+    pub fn end(&self, child: Child) -> Answer<u64> {
         match child {
             Child::Contents(code) => Ok(code),
             Child::Leaf(leaf) if leaf >= self.map.count(LEAVES) => Err(30),

@@ -1,0 +1,2 @@
+-- What the contracts of `ffi_boxes` cite.
+pub mod Calls
