@@ -479,7 +479,7 @@ uint32_t bsp_contents_box(const uint8_t *file, size_t file_length,
  * the front of list. A byte of the row stands for eight leaves, from leaf 1 on, its lowest bit first;
  * a zero byte and its follower n stand for 8 n leaves that are not seen. A byte is read while the
  * number of its first leaf is below leaf_count; for a whole row that is the leaf count of model 0,
- * plus 1. The last byte may list leaves past it: a list of leaf_count + 7 entries is always enough.
+ * plus 1. Only numbers below leaf_count are listed, so a list of leaf_count entries is always enough.
  * Leaf 0 and a leaf without a row see none.
  *   map: 31 words or more; out: 1 word or more.
  *   Refuses: 22; 20, a leaf outside its table; 23, the leaf, then the visibility section; 33; 22, a

@@ -184,8 +184,8 @@ trials =
     ∷ (row (rowAt (5 ∷ 1 ∷ []) 0 10) gives row (answer (1 ∷ 3 ∷ 9 ∷ [])))
     -- ★ Row 0, 1, 128 with 17: 16.
     ∷ (row (rowAt (0 ∷ 1 ∷ 128 ∷ []) 0 17) gives row (answer (16 ∷ [])))
-    -- ★ Row 128 with 2: 8.
-    ∷ (row (rowAt (128 ∷ []) 0 2) gives row (answer (8 ∷ [])))
+    -- ★ Row 128 with 2: none, by document 02, note 3 (in document 01: 8, past the leaf count).
+    ∷ (row (rowAt (128 ∷ []) 0 2) gives row (answer []))
     -- ★ Row 0 alone with 2: 33.
     ∷ (row (rowAt (0 ∷ []) 0 2) gives row (refused 33))
     -- Box -1 to 1 on each axis: ★ (-1,0,0) Solid

@@ -3,17 +3,17 @@ use borrow.Author.Tests.{leb-true, leb-false}
 use mathlib.Core.Path.{_≡_, refl, sym, ap, _∙_}
 use mathlib.Core.Bool.{Bool, true, false}
 use mathlib.Core.List.{List, _++_, append-nil}
-use Prim.Native.Nat.{ℕ, _+_, _-_, _*_, _<_, _≤_}
-use native.Mathlib.Nat.{add-zero, zero-add}
+use Prim.Native.Nat.{ℕ, _+_, _*_, _^_, _<_, _≤_}
+use native.Mathlib.Nat.{add-zero, zero-add, mod-le}
 use native.Mathlib.Omega.{arith}
 use lib.Count.{ones, ones-le}
 use lib.Dec.{leb}
 use lib.ListN.{length, take, drop, getD, length-append}
 use lib.Seq.{length-take-le, take-all}
 use Rattle.format.specs.Answer.{Answer, answer, refused, mapped}
-use Rattle.vis.specs.Row.{bits, before, visible, rowFrom}
+use Rattle.vis.specs.Row.{before, inByte, byteLeaves, rowFrom}
 use Rattle.vis.proofs.SetBits.{length-visible, ones-in}
-use Rattle.vis.proofs.Rows.{before-none, before-before, done, ended, cut, skipped, byte}
+use Rattle.vis.proofs.Rows.{keptBits, before-none, before-before, done, ended, cut, skipped, byte}
 
 -- so many more
 abbrev pub plus : ℕ → Answer ℕ → Answer ℕ
@@ -32,6 +32,9 @@ plus-length n xs (refused k) = refl
 within : (xs : List ℕ) (a : Answer (List ℕ)) (n : ℕ) → mapped length (before xs a) ≡ answer n → length xs ≤ n
 within xs (answer ys) n e = let k : length (xs ++ ys) ≡ n = cc in omega (arith, length-append xs ys)
 within xs (refused k) n e = let z : _≡_ {A = ℕ} 0 1 = cc in absurd (omega arith)
+
+pub kept-small : (leaves leaf b : ℕ) → b < 256 → keptBits leaves leaf b < 256
+kept-small leaves leaf b h = omega (arith, mod-le b (2 ^ inByte leaves leaf))
 
 module _ (s : List ℕ) (offset leaves : ℕ) where
   -- the row that is read
@@ -67,14 +70,18 @@ module _ (s : List ℕ) (offset leaves : ℕ) where
         total = rw (skipped leaves leaf s at h k z) at (p .total);
       }
 
-      pub count-byte : at < length s → (getD s at 0 ≡ 0 → ⊥) → getD s at 0 < 256 → Counting (at + 1) (leaf + 8) (count + ones (getD s at 0))
-      count-byte k z b =
-          let v = visible leaf (bits 8 (getD s at 0)) in
-          let e : ones (getD s at 0) ≡ length v = sym (length-visible 8 leaf (getD s at 0) ∙ ones-in 8 (getD s at 0) b) in
+      pub count-byte : at < length s → (getD s at 0 ≡ 0 → ⊥) → getD s at 0 < 256 → (kept n : ℕ) → kept ≡ keptBits leaves leaf (getD s at 0) → n ≡ ones kept
+          → Counting (at + 1) (leaf + 8) (count + n)
+      count-byte k z b kept n x y =
+          let k8 = keptBits leaves leaf (getD s at 0) in
+          let u : k8 < 256 = kept-small leaves leaf (getD s at 0) b in
+          let v = byteLeaves leaf k8 in
+          let o : n ≡ ones k8 = y ∙ ap ones x in
+          let e : n ≡ length v = o ∙ sym (length-visible 8 leaf k8 ∙ ones-in 8 k8 u) in
           record {
             inside = omega arith;
             small = omega (arith, p .small);
-            few = omega (arith, p .few, ones-le 8 (getD s at 0) b);
+            few = omega (arith, p .few, o, ones-le 8 k8 u);
             total = rw e (plus-length count v (rowFrom leaves (leaf + 8) (drop (at + 1) s)) ∙ (rw (byte leaves leaf s at h k z) at (p .total)));
           }
 
@@ -135,25 +142,30 @@ module _ (s : List ℕ) (offset leaves : ℕ) where
 
       module _ (z : getD s at 0 ≡ 0 → ⊥) where
         abbrev these : List ℕ
-        these = visible leaf (bits 8 (getD s at 0))
+        these = byteLeaves leaf (keptBits leaves leaf (getD s at 0))
 
         more-front : before (take count list ++ these) (rowFrom leaves (leaf + 8) (drop (at + 1) s)) ≡ row
         more-front = before-before (take count list) these (rowFrom leaves (leaf + 8) (drop (at + 1) s)) ∙ (rw (byte leaves leaf s at h some-byte z) at (p .front))
 
         -- the byte's leaves have room past those written
-        pub room-past : count + length these ≤ length list
-        room-past =
+        room-these : count + length these ≤ length list
+        room-these =
             let w : length (take count list ++ these) ≤ length list = within (take count list ++ these) (rowFrom leaves (leaf + 8) (drop (at + 1) s)) (length list) (ap (mapped length) more-front ∙ p .fits) in
             omega (arith, length-append (take count list) these, length-take-le count list (p .held))
 
-        pub write-byte : (next : List ℕ) (r : ℕ) → length next ≡ length list → r ≡ count + length these → take r next ≡ take count list ++ these
-            → Writing (at + 1) (leaf + 8) r next
-        write-byte next r l e t =
+        pub room-past : (kept : ℕ) → kept ≡ keptBits leaves leaf (getD s at 0) → count + length (byteLeaves leaf kept) ≤ length list
+        room-past kept x = rw x room-these
+
+        pub write-byte : (next : List ℕ) (r : ℕ) (kept : ℕ) → kept ≡ keptBits leaves leaf (getD s at 0) → length next ≡ length list → r ≡ count + length (byteLeaves leaf kept)
+            → take r next ≡ take count list ++ byteLeaves leaf kept → Writing (at + 1) (leaf + 8) r next
+        write-byte next r kept x l e′ t′ =
+            let e : r ≡ count + length these = rw x at e′ in
+            let t : take r next ≡ take count list ++ these = rw x at t′ in
             let k : at < length s = some-byte in
             record {
               inside = omega arith;
               small = omega (arith, p .small);
-              held = omega (arith, room-past);
+              held = omega (arith, room-these);
               front = rw t more-front;
               fits = p .fits ∙ ap answer (sym l);
             }

@@ -1,17 +1,18 @@
 -- The rows: what a row gives byte by byte, at a position of the visibility data. Assumes nothing.
-use borrow.Author.Tests.{lt-ltb, le-ltb}
+use borrow.Author.Tests.{lt-ltb, le-ltb, leb-true, leb-false}
 use mathlib.Core.Path.{_≡_, refl, ap, _∙_}
 use mathlib.Core.Bool.{Bool, true, false}
-use mathlib.Core.List.{List, [], _∷_, _++_, append-assoc}
-use Prim.Native.Nat.{ℕ, zero, suc, _+_, _*_, _<_, _≤_}
-use native.Mathlib.Nat.{add-zero}
+use mathlib.Core.List.{List, [], _∷_, _++_, append-assoc, append-nil}
+use Prim.Native.Nat.{ℕ, zero, suc, _+_, _-_, _*_, _%_, _^_, _<_, _≤_}
+use native.Mathlib.Nat.{add-zero, min-eq-left, min-le-left}
 use native.Mathlib.Numerals.{add-one}
 use native.Mathlib.Omega.{arith}
+use lib.Dec.{leb}
 use lib.ListN.{length, drop, getD, replicate, length-replicate, drop-of-length-le}
 use lib.Seq.{drop-cons}
 use Rattle.format.specs.Answer.{Answer, answer, refused, mapped}
-use Rattle.vis.specs.Row.{bits, before, rowBits, visible, rowFrom}
-use Rattle.vis.proofs.SetBits.{length-bits}
+use Rattle.vis.specs.Row.{bits, before, inByte, rowBits, visible, byteLeaves, rowFrom}
+use Rattle.vis.proofs.SetBits.{length-bits, low-bits}
 
 visible-append : (leaf n : ℕ) (xs ys : List Bool) → length xs ≡ n → visible leaf (xs ++ ys) ≡ visible leaf xs ++ visible (leaf + n) ys
 unfolding visible
@@ -54,12 +55,16 @@ after-zeros leaf n a =
 
 module _ (leaves leaf : ℕ) where
   -- the row ends where the count reaches the number of leaves
+  none-past : (bytes : List ℕ) → leaves ≤ leaf → rowBits leaves leaf bytes ≡ answer []
+  unfolding rowBits
+  none-past [] h = rw (le-ltb leaf leaves h)
+  none-past (zero ∷ []) h = rw (le-ltb leaf leaves h)
+  none-past (zero ∷ n ∷ bytes) h = rw (le-ltb leaf leaves h)
+  none-past (suc b ∷ bytes) h = rw (le-ltb leaf leaves h)
+
   pub done : (bytes : List ℕ) → leaves ≤ leaf → rowFrom leaves leaf bytes ≡ answer []
-  unfolding rowBits visible
-  done [] h = rw (le-ltb leaf leaves h)
-  done (zero ∷ []) h = rw (le-ltb leaf leaves h)
-  done (zero ∷ n ∷ bytes) h = rw (le-ltb leaf leaves h)
-  done (suc b ∷ bytes) h = rw (le-ltb leaf leaves h)
+  unfolding visible
+  done bytes h = ap (mapped (visible leaf)) (none-past bytes h)
 
   none-left : leaf < leaves → rowFrom leaves leaf [] ≡ refused 33
   unfolding rowBits
@@ -73,29 +78,56 @@ module _ (leaves leaf : ℕ) where
   unfolding rowBits
   zero-byte n bytes h = rw (lt-ltb leaf leaves h) (after-zeros leaf (8 * n) (rowBits leaves (leaf + 8 * n) bytes))
 
+-- the bits of a byte for the leaves below the count; there are fewer than eight in the last byte only
+last : (leaf : ℕ) (xs : List Bool) → answer (visible leaf (xs ++ [])) ≡ answer (visible leaf xs ++ visible (leaf + 8) [])
+unfolding visible
+last leaf xs = ap answer (rw (append-nil xs, append-nil (visible leaf xs)))
+
+pub after-kept : (leaves leaf b : ℕ) (bytes : List ℕ)
+    → mapped (visible leaf) (before (bits (inByte leaves leaf) b) (rowBits leaves (leaf + 8) bytes)) ≡ before (visible leaf (bits (inByte leaves leaf) b)) (rowFrom leaves (leaf + 8) bytes)
+after-kept leaves leaf b bytes = go (leb 8 (leaves - leaf)) refl
+  where
+    go : (t : Bool) → leb 8 (leaves - leaf) ≡ t
+        → mapped (visible leaf) (before (bits (inByte leaves leaf) b) (rowBits leaves (leaf + 8) bytes)) ≡ before (visible leaf (bits (inByte leaves leaf) b)) (rowFrom leaves (leaf + 8) bytes)
+    go true e =
+        let m : inByte leaves leaf ≡ 8 = min-eq-left (leb-true 8 (leaves - leaf) e) in
+        rw m (after-byte leaf b (rowBits leaves (leaf + 8) bytes))
+    go false e =
+        let h : leaves - leaf < 8 = leb-false 8 (leaves - leaf) e in
+        let k : leaves ≤ leaf + 8 = omega arith in
+        rw (none-past leaves (leaf + 8) bytes k) (last leaf (bits (inByte leaves leaf) b))
+
+-- the same bits as a byte of their own
+abbrev pub keptBits : ℕ → ℕ → ℕ → ℕ
+keptBits leaves leaf b = b % 2 ^ inByte leaves leaf
+
+pub kept-leaves : (leaves leaf b : ℕ) → byteLeaves leaf (keptBits leaves leaf b) ≡ visible leaf (bits (inByte leaves leaf) b)
+kept-leaves leaves leaf b = low-bits 8 (inByte leaves leaf) leaf b (min-le-left 8 (leaves - leaf))
+
+module _ (leaves leaf : ℕ) where
   bit-byte : (b : ℕ) (bytes : List ℕ) → leaf < leaves → (b ≡ 0 → ⊥)
-      → rowFrom leaves leaf (b ∷ bytes) ≡ before (visible leaf (bits 8 b)) (rowFrom leaves (leaf + 8) bytes)
+      → rowFrom leaves leaf (b ∷ bytes) ≡ before (byteLeaves leaf (keptBits leaves leaf b)) (rowFrom leaves (leaf + 8) bytes)
   unfolding rowBits
   bit-byte zero bytes h z = absurd (z refl)
-  bit-byte (suc b) bytes h z = rw (lt-ltb leaf leaves h) (after-byte leaf (suc b) (rowBits leaves (leaf + 8) bytes))
+  bit-byte (suc b) bytes h z = rw (lt-ltb leaf leaves h, kept-leaves leaves leaf (suc b)) (after-kept leaves leaf (suc b) bytes)
 
   -- the same at a position of the data
   module _ (s : List ℕ) (at : ℕ) (h : leaf < leaves) where
     pub ended : length s ≤ at → rowFrom leaves leaf (drop at s) ≡ refused 33
-    ended k = rw (drop-of-length-le s k) (none-left h)
+    ended k = rw (drop-of-length-le s k) (none-left leaves leaf h)
 
     pub cut : at < length s → getD s at 0 ≡ 0 → length s ≤ at + 1 → rowFrom leaves leaf (drop at s) ≡ refused 33
     cut k z e =
         let m : length s ≤ suc at = omega arith in
-        rw (drop-cons s at 0 k, z, drop-of-length-le s m) (zero-left h)
+        rw (drop-cons s at 0 k, z, drop-of-length-le s m) (zero-left leaves leaf h)
 
     pub skipped : at + 1 < length s → getD s at 0 ≡ 0
         → rowFrom leaves leaf (drop at s) ≡ rowFrom leaves (leaf + 8 * getD s (at + 1) 0) (drop (at + 1 + 1) s)
     skipped k z =
         let j : at < length s = omega arith in
         let m : suc at < length s = omega arith in
-        rw (drop-cons s at 0 j, z, drop-cons s (suc at) 0 m) (zero-byte (getD s (suc at) 0) (drop (suc (suc at)) s) h ∙ simp add-one)
+        rw (drop-cons s at 0 j, z, drop-cons s (suc at) 0 m) (zero-byte leaves leaf (getD s (suc at) 0) (drop (suc (suc at)) s) h ∙ simp add-one)
 
     pub byte : at < length s → (getD s at 0 ≡ 0 → ⊥)
-        → rowFrom leaves leaf (drop at s) ≡ before (visible leaf (bits 8 (getD s at 0))) (rowFrom leaves (leaf + 8) (drop (at + 1) s))
+        → rowFrom leaves leaf (drop at s) ≡ before (byteLeaves leaf (keptBits leaves leaf (getD s at 0))) (rowFrom leaves (leaf + 8) (drop (at + 1) s))
     byte k z = rw (drop-cons s at 0 k, add-one) (bit-byte (getD s at 0) (drop (suc at) s) h z)

@@ -1,6 +1,6 @@
 // The visibility row of a leaf. A first pass learns how many leaves the row lists, and a second one writes them.
 ghost use mathlib.Core.Path.{_≡_};
-ghost use Prim.Native.Nat.{_+_, _≤_, _<_};
+ghost use Prim.Native.Nat.{_+_, _%_, _^_, _≤_, _<_, min};
 ghost use mathlib.Core.List.{_++_};
 ghost use lib.ListN.{length, take, drop};
 ghost use Rattle.format.specs.Answer.{answer, mapped};
@@ -11,6 +11,16 @@ use crate::Pvs;
 use format::refusal::Refusal;
 use format::section::BspFileSection;
 use format::section::BspFileSectionId;
+
+// The lowest `left` bits of a byte, which has eight: those for the leaves below the count, where so many leaves are left.
+fn kept_bits(byte: u8, left: usize) -> u8
+    ensures { λ r. ⌜ r ≡ byte % 2 ^ min 8 left ⌝ }
+{
+    if 8 <= left {
+        return byte;
+    }
+    byte % (1u8 << (left as u32))
+}
 
 // Lists the set bits of a byte, of which the lowest is that of the leaf `first`, past the `count` leaves that the list has, and answers how
 // many it has then. Each number is written before it is known whether its bit is set, and the next one takes its place if it is not.
@@ -72,7 +82,7 @@ fn row_length(visibility: &[u8], offset: usize, leaf_count: usize) -> Pvs
         let byte = visibility[at];
         at += 1;
         if byte != 0 {
-            count += u8::count_ones(byte) as usize;
+            count += u8::count_ones(kept_bits(byte, leaf_count - leaf)) as usize;
             leaf += 8;
         } else {
             if visibility.len() <= at {
@@ -97,7 +107,12 @@ fn put_row(visibility: &[u8], offset: usize, leaf_count: usize, list: &mut [u32]
         let byte = visibility[at];
         at += 1;
         if byte != 0 {
-            count = put_bits(byte, first as u32, count, list);
+            count = put_bits(
+                kept_bits(byte, leaf_count - first),
+                first as u32,
+                count,
+                list,
+            );
             first += 8;
         } else {
             first += 8 * (visibility[at] as usize);

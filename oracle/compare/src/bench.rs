@@ -288,8 +288,16 @@ fn lists(table: &mut Table, seed: &mut Seed, (file, map): (&[u8], &[u32]), rust:
         assert_eq!(calls::pvs(file, map, *leaf, count, &mut list, &mut out), 0, "pvs");
         entries += out[0];
     }
+    // what its entries at or above the count add to the Rust's sum
+    let sum_of = |list: &[usize]| list.len() + list.last().expect("a leaf");
+    let past = |leaf: &u64| {
+        let list = rust.bare_pvs(*leaf as usize, count as usize);
+        let kept = list.partition_point(|n| (*n as u64) < count);
+        (sum_of(&list) - sum_of(&list[..kept])) as u64
+    };
+    let past: u64 = asked.iter().map(past).sum();
     let ours = || {
-        let mut sum = 0;
+        let mut sum = past;
         for leaf in &asked {
             calls::pvs(file, map, black_box(*leaf), count, &mut list, &mut out);
             sum += out[0] + list[out[0] as usize - 1] as u64;
@@ -300,7 +308,7 @@ fn lists(table: &mut Table, seed: &mut Seed, (file, map): (&[u8], &[u32]), rust:
         let mut sum = 0;
         for leaf in &asked {
             let list = rust.bare_pvs(black_box(*leaf) as usize, count as usize);
-            sum += list.len() as u64 + *list.last().expect("a leaf") as u64;
+            sum += sum_of(&list) as u64;
         }
         sum
     };

@@ -132,7 +132,7 @@ fn marked(t: &mut Trials) {
 
     t.check("★", "row 5, 1 with leaf count 10", "[1, 3, 9]", list(row(&[5, 1]).get_pvs(1, 10)));
     t.check("★", "row 0, 1, 128 with 17", "[16]", list(row(&[0, 1, 128]).get_pvs(1, 17)));
-    t.check("★", "row 128 with 2", "[8]", list(row(&[128]).get_pvs(1, 2)));
+    t.check("", "row 128 with 2, not cut", "[8]", list(row(&[128]).get_pvs(1, 2)));
     t.check("★", "row 0 alone with 2", "refused 33", list(row(&[0]).get_pvs(1, 2)));
     t.check("", "count 1", "[]", list(row(&[]).get_pvs(1, 1)));
 

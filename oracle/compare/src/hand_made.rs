@@ -357,11 +357,7 @@ fn lists(board: &mut Board, asked: &Asked, seed: &mut Seed, rust: Option<richter
             _ => seed.below(300),
         };
         let expected = vis::get_pvs(&asked.paper(), leaf, leaf_count);
-        let rust = rust.as_ref().map(|rust| {
-            let found = rust.get_pvs(leaf as usize, leaf_count as usize);
-            let list = found.map(|list| list.iter().map(|n| *n as u32).collect());
-            list.map_err(|refusal| words::number(refusal).expect("a number"))
-        });
+        let rust = rust.as_ref().map(|rust| words::pvs(rust, leaf, leaf_count));
         let needed = expected.as_ref().map_or(0, |list: &Vec<u32>| list.len());
         let lent = (walks::lent_list(seed, needed), 1);
         board.list(

@@ -1,5 +1,6 @@
-//! Visibility lists beside the published Rust and document 01 read as a program: any rows, rows cut
-//! short, offsets at and past the end, lists too short, leaf counts from 0 on.
+//! Visibility lists beside those of the published Rust, cut at the leaf count, and beside documents 01
+//! and 02 read as a program: any rows, rows cut short, offsets at and past the end, lists too short,
+//! leaf counts from 0 on.
 
 use maps::record::{Leaf, Tables};
 use maps::{Layout, Seed};
@@ -114,10 +115,7 @@ pub fn ask(
     rust: &richter::Map,
     (leaf, leaf_count): (u64, u64),
 ) {
-    let found = rust.get_pvs(leaf as usize, leaf_count as usize);
-    let found = found
-        .map(|list| list.iter().map(|n| *n as u32).collect::<Vec<u32>>())
-        .map_err(|refusal| words::number(refusal).expect("a number"));
+    let found = words::pvs(rust, leaf, leaf_count);
     let needed = found.as_ref().map_or(0, |list| list.len());
     let lent = (lent_list(seed, needed), 1 + seed.below(2) as usize);
     let Asked { calls, file, map, .. } = *asked;

@@ -214,7 +214,7 @@ impl Sample {
         }
     }
 
-    /// Visibility lists of a few leaves.
+    /// Visibility lists of a few leaves, cut at the leaf count.
     fn lists(&mut self, seed: &mut Seed, rust: &Map) {
         let count = rust.leaves().len() as u64;
         for _ in 0..6 {
@@ -225,13 +225,10 @@ impl Sample {
                 2 => seed.below(200),
                 _ => count,
             };
-            let answer = match rust.get_pvs(leaf as usize, leaf_count as usize) {
-                Ok(list) => {
-                    let entries = list.iter().map(|n| *n as u64);
-                    Ok([list.len() as u64].into_iter().chain(entries).collect())
-                }
-                Err(refusal) => Err(words::number(refusal).expect("a number")),
-            };
+            let answer = words::pvs(rust, leaf, leaf_count).map(|list| {
+                let entries = list.iter().map(|n| *n as u64);
+                [list.len() as u64].into_iter().chain(entries).collect()
+            });
             self.case(PVS, &[leaf, leaf_count], &answer);
         }
     }

@@ -144,6 +144,15 @@ pub fn old_hull(table: u64, hull: &Hull) -> Vec<u64> {
     out
 }
 
+/// A visibility list, less its entries at or above the leaf count (note 3).
+pub fn pvs(map: &Map, leaf: u64, leaf_count: u64) -> Result<Vec<u32>, u32> {
+    let below = |list: Vec<usize>| {
+        list.into_iter().filter(|n| (*n as u64) < leaf_count).map(|n| n as u32).collect()
+    };
+    let found = map.get_pvs(leaf as usize, leaf_count as usize);
+    found.map(below).map_err(|refusal| number(refusal).expect("a number"))
+}
+
 /// The number of a refusal; none where the comparison gave up.
 pub fn number(refusal: Refusal) -> Option<u32> {
     match refusal {

@@ -422,14 +422,10 @@ wrong! {
         }
     };
 
-    pvs: list_cut_at_the_count, pvs, "bsp_pvs", |f, m, l, c, list, o| {
-        let refusal = stub::bsp_pvs(f, m, l, c, list, o);
-        if refusal == 0 {
-            let kept = list[..o[0] as usize].iter().filter(|n| (**n as u64) < c).count();
-            list[kept..o[0] as usize].fill(0xa5a5_a5a5);
-            o[0] = kept as u64;
-        }
-        refusal
+    pvs: last_byte_listed_whole, pvs, "bsp_pvs", |f, m, l, c, list, o| {
+        // the bytes of a row start at the leaves 1, 9, 17 and so on
+        let whole = if c < 2 { c } else { ((c - 2) / 8 * 8).saturating_add(9) };
+        stub::bsp_pvs(f, m, l, whole, list, o)
     };
     pvs: leaf_0_is_looked_up, pvs, "bsp_pvs", |f, m, l, c, list, o| {
         match stub::bsp_pvs(f, m, l, c, list, o) {

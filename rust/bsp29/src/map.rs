@@ -527,8 +527,8 @@ impl Map<'_> {
     /// The leaves that can be seen from a leaf, lowest first. A byte of the row stands for eight
     /// leaves, from leaf 1 on, its lowest bit first; a zero byte and its follower n stand for 8 n leaves
     /// that are not seen. A byte is read while the number of its first leaf is below `leaf_count`; for a
-    /// whole row that is the leaf count of model 0, plus 1. The last byte may list leaves past it. Leaf
-    /// 0 and a leaf without a row see none.
+    /// whole row that is the leaf count of model 0, plus 1. Only numbers below `leaf_count` are listed.
+    /// Leaf 0 and a leaf without a row see none.
     ///
     /// Refuses with 20 for a leaf outside its table, 23 on a map record made by hand, and 33 where the
     /// row lies outside the visibility data.
@@ -545,7 +545,7 @@ impl Map<'_> {
     pub fn visible_leaves(&self, leaf: usize, leaf_count: usize) -> Result<Vec<u32>, Refusal> {
         // a byte of the row lists 8 leaves at most, and the row lies in the visibility data
         let bytes = self.count(VISIBILITY).min(MOST_VISIBILITY).min(self.file.len());
-        let mut list = vec![0; (8 * bytes).min(leaf_count.saturating_add(7))];
+        let mut list = vec![0; (8 * bytes).min(leaf_count)];
         let count = self.visible_leaves_into(leaf, leaf_count, &mut list)?;
         list.truncate(count);
         Ok(list)

@@ -65,7 +65,8 @@ fn visibility_rows() {
     };
     assert_eq!(seen(&[5, 1], 10).unwrap(), [1, 3, 9]);
     assert_eq!(seen(&[0, 1, 128], 17).unwrap(), [16]);
-    assert_eq!(seen(&[128], 2).unwrap(), [8]);
+    assert!(seen(&[128], 2).unwrap().is_empty());
+    assert_eq!(seen(&[255], 4).unwrap(), [1, 2, 3]);
     assert_eq!(seen(&[0], 2), Err(Refusal::RowOutsideData));
     assert!(seen(&[0], 1).unwrap().is_empty());
     assert_eq!(seen(&[255; 3], usize::MAX), Err(Refusal::RowOutsideData));

@@ -2,7 +2,8 @@
 
 use super::*;
 
-/// The leaves visible from a leaf, for so many leaves: 20, 23 (the leaf, then the section), 33.
+/// The leaves visible from a leaf, for so many leaves: 20, 23 (the leaf, then the section), 33. Only
+/// numbers below the leaf count are listed.
 pub fn get_pvs(map: &Map, leaf: u64, leaf_count: u64) -> Answer<Vec<u32>> {
     if leaf == 0 {
         return Ok(Vec::new());
@@ -30,7 +31,8 @@ fn row(map: &Map, offset: u64, leaf_count: u64) -> Answer<Vec<u32>> {
         match next()? {
             0 => number += 8 * next()? as u64,
             bits => {
-                list.extend((0..8).filter(|bit| bits >> bit & 1 == 1).map(|b| (number + b) as u32));
+                let set = (0..8).filter(|bit| bits >> bit & 1 == 1).map(|bit| number + bit);
+                list.extend(set.filter(|leaf| *leaf < leaf_count).map(|leaf| leaf as u32));
                 number += 8;
             }
         }

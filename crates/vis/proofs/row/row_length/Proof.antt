@@ -1,14 +1,18 @@
 -- `row_length` meets its contract. The loop's invariant: the leaves counted and those of the row from here on make the row's length.
 -- Assumes nothing.
-use Prim.Native.Nat.{_+_, _-_, _<_}
+use borrow.Author.Needs.{needs}
+use mathlib.Core.Path.{_≡_, refl, ap}
+use Prim.Native.Nat.{_+_, _-_, _<_, _≤_}
 use native.Mathlib.Omega.{arith}
-use lib.Count.{ones-le}
+use lib.Count.{ones, ones-le}
 use lib.ListN.{length, getD}
-use Rattle.vis.proofs.Passes.{Counting, count-starts, count-done, count-ended, count-cut, count-zeros, count-byte}
+use Rattle.vis.proofs.Rows.{keptBits}
+use Rattle.vis.proofs.Passes.{Counting, count-starts, count-done, count-ended, count-cut, count-zeros, count-byte, kept-small}
 use Rattle.vis.proofs.row.row_length.Statement.{statement}
 use Rattle.vis.proofs.row.row_length.Tie as tie
 use Rattle.vis.proofs.row.row_length.Reads as reads
 use Rattle.vis.proofs.row.row_length.Lts as lts
+use Rattle.vis.proofs.row.kept_bits.Reads as kept-bits-reads
 
 abbrev Inv-loop : tie.InvT-loop
 Inv-loop visibility offset leaf-count at₀ leaf₀ count₀ at leaf count = Counting visibility offset leaf-count at leaf count
@@ -17,14 +21,31 @@ abbrev μ-loop : tie.MeasureT-loop
 μ-loop visibility offset leaf-count at₀ leaf₀ count₀ at leaf count = length visibility - at
 
 -- a byte is below 256
-byte : (c : lts.Then2 reads.Pre reads.Post Inv-loop μ-loop) → getD (c .before .before .before .before .before .args .visibility .now) (c .before .before .before .before .loop .at) 0 < 256
-byte c = c .before .shared-slice-known .given (c .before .before .before .before .loop .at) .fits
+abbrev Byte : Type 0
+Byte = lts.After-shared-slice-known2 (kept-bits-reads.Asked, kept-bits-reads.Learnt) reads.Pre reads.Post Inv-loop μ-loop
 
-follower : (c : lts.After-shared-slice-known2 reads.Pre reads.Post Inv-loop μ-loop) → getD (c .before .before .before .before .before .before .before .args .visibility .now) (c .before .before .before .before .before .before .loop .at + 1) 0 < 256
-follower c = c .shared-slice-known2 .given (c .before .before .before .before .before .before .loop .at + 1) .fits
+abbrev Follower : Type 0
+Follower = lts.After-shared-slice-known3 (kept-bits-reads.Asked, kept-bits-reads.Learnt) reads.Pre reads.Post Inv-loop μ-loop
+
+abbrev Kept : Type 0
+Kept = lts.After-kept-bits (kept-bits-reads.Asked, kept-bits-reads.Learnt) reads.Pre reads.Post Inv-loop μ-loop
+
+byte : (c : Byte) → getD (c .before .before .before .before .before .args .visibility .now) (c .before .before .before .loop .at) 0 < 256
+byte c = c .shared-slice-known2 .given (c .before .before .before .loop .at) .fits
+
+follower : (c : Follower) → getD (c .before .before .before .before .before .before .before .before .args .visibility .now) (c .before .before .before .before .before .before .loop .at + 1) 0 < 256
+follower c = c .shared-slice-known3 .given (c .before .before .before .before .before .before .loop .at + 1) .fits
+
+-- a byte has at most eight set bits
+at-most-eight : (c : Kept) → ones (c .kept-bits .result) ≤ 8
+at-most-eight c =
+    let a = c .before .before .before .before .before .before .before .args in
+    let l = c .before .before .before .before .before .loop in
+    let e : ones (c .kept-bits .result) ≡ ones (keptBits (a .leaf-count) (l .leaf) (getD (a .visibility .now) (l .at) 0)) = ap ones (c .kept-bits .ensures) in
+    omega (arith, e, ones-le 8 _ (kept-small (a .leaf-count) (l .leaf) _ (byte (c .before .before))))
 
 loop-holds : tie.Need-loop-holds Inv-loop μ-loop
-loop-holds c = count-starts _ _ _ (c .pre .1)
+loop-holds c = count-starts _ _ _ (c .before .pre .1)
 
 returns : tie.Need-returns Inv-loop μ-loop
 returns c = count-ended _ _ _ _ _ _ (c .before .before .loop .inv) (c .before .loop-test .taken) (c .if1 .taken)
@@ -35,11 +56,14 @@ shared-slice-read-byte c = omega arith
 add-at : tie.Need-add-at Inv-loop μ-loop
 add-at c = omega arith
 
+sub-kept-bits : tie.Need-sub-kept-bits Inv-loop μ-loop
+sub-kept-bits c = omega arith
+
 cast-count : tie.Need-cast-count Inv-loop μ-loop
-cast-count c = omega (arith, ones-le 8 _ (byte c))
+cast-count c = omega (arith, at-most-eight c)
 
 add-count : tie.Need-add-count Inv-loop μ-loop
-add-count c = omega (arith, ones-le 8 _ (byte c), c .before .before .before .before .loop .inv .few)
+add-count c = omega (arith, at-most-eight c, c .before .before .before .before .before .loop .inv .few)
 
 add-leaf : tie.Need-add-leaf Inv-loop μ-loop
 add-leaf c = omega arith
@@ -48,7 +72,9 @@ loop-less : tie.Need-loop-less Inv-loop μ-loop
 loop-less c = omega arith
 
 loop-again : tie.Need-loop-again Inv-loop μ-loop
-loop-again c = count-byte _ _ _ _ _ _ (c .before .before .before .before .loop .inv) (c .before .before .before .loop-test .taken) (c .before .before .if1 .left) (c .if2 .taken) (byte c)
+loop-again c =
+    count-byte _ _ _ _ _ _ (c .before .before .before .before .before .loop .inv) (c .before .before .before .before .loop-test .taken) (c .before .before .before .if1 .left) (c .before .if2 .taken) (byte (c .before .before)) _ _
+    (c .kept-bits .ensures) refl
 
 returns-2 : tie.Need-returns-2 Inv-loop μ-loop
 returns-2 c = count-cut _ _ _ _ _ _ (c .before .before .before .before .before .loop .inv) (c .before .before .before .before .loop-test .taken) (c .before .before .before .if1 .left) (c .before .if2 .left) (c .if3 .taken)
@@ -87,6 +113,8 @@ row-length-spec =
     returns
     shared-slice-read-byte
     add-at
+    sub-kept-bits
+    (λ c κs. search needs)
     cast-count
     add-count
     add-leaf
