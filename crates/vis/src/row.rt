@@ -6,8 +6,11 @@ ghost use lib.ListN.{length, take, drop};
 ghost use Rattle.format.specs.Answer.{answer, mapped};
 ghost use Rattle.format.specs.Listed.{listed, into};
 ghost use Rattle.vis.specs.Row.{byteLeaves, rowFrom, rowAt};
+ghost use Rattle.vis.specs.Counts.{counts};
 ghost use Rattle.vis.specs.Pvs.{sectionRow, lengthOf};
 use crate::Pvs;
+use crate::ones::SET_BITS;
+use crate::ones::set_bits;
 use format::refusal::Refusal;
 use format::section::BspFileSection;
 use format::section::BspFileSectionId;
@@ -55,21 +58,22 @@ fn put_last(byte: u8, first: u32, count: usize, list: &mut [u32]) -> usize
     at
 }
 
-// The same: by eight where the list has room for all bits of the byte.
-fn put_bits(byte: u8, first: u32, count: usize, list: &mut [u32]) -> usize
-    requires { ⌜ (count + length (byteLeaves first byte) ≤ length (now list)) × (first < 4294967288) ⌝ }
-    ensures { λ r. ⌜ (r ≡ count + length (byteLeaves first byte)) × (take r (now (list .exit)) ≡ take count (now (list .entry)) ++ byteLeaves first byte) ⌝ }
+// The same for the lowest `left` bits of a byte: by eight where these are all of them and the list has room for eight.
+fn put_bits(byte: u8, left: usize, first: u32, count: usize, list: &mut [u32]) -> usize
+    requires { ⌜ (count + length (byteLeaves first (byte % 2 ^ min 8 left)) ≤ length (now list)) × (first < 4294967288) ⌝ }
+    ensures { λ r. ⌜ (r ≡ count + length (byteLeaves first (byte % 2 ^ min 8 left))) × (take r (now (list .exit)) ≡ take count (now (list .entry)) ++ byteLeaves first (byte % 2 ^ min 8 left)) ⌝ }
 {
-    if 8 <= list.len() - count {
-        put_eight(byte, first, count, list)
-    } else {
-        put_last(byte, first, count, list)
+    if 8 <= left {
+        if 8 <= list.len() - count {
+            return put_eight(byte, first, count, list);
+        }
     }
+    put_last(kept_bits(byte, left), first, count, list)
 }
 
-// How many leaves the row at the offset lists.
-fn row_length(visibility: &[u8], offset: usize, leaf_count: usize) -> Pvs
-    requires { ⌜ (length (now visibility) ≤ 1048576) × (offset ≤ length (now visibility)) ⌝ }
+// How many leaves the row at the offset lists, by the table of the numbers of set bits.
+fn row_length(table: &[u8; 256], visibility: &[u8], offset: usize, leaf_count: usize) -> Pvs
+    requires { ⌜ (now table ≡ counts 256 0) × (length (now visibility) ≤ 1048576) × (offset ≤ length (now visibility)) ⌝ }
     ensures { λ r. ⌜ lengthOf r ≡ mapped length (rowFrom «leaf_count» 1 (drop offset (now (visibility .entry)))) ⌝ }
 {
     let mut at = offset;
@@ -82,7 +86,11 @@ fn row_length(visibility: &[u8], offset: usize, leaf_count: usize) -> Pvs
         let byte = visibility[at];
         at += 1;
         if byte != 0 {
-            count += u8::count_ones(kept_bits(byte, leaf_count - leaf)) as usize;
+            if leaf_count - leaf < 8 {
+                let last = kept_bits(byte, leaf_count - leaf);
+                return Pvs::Length(count + (set_bits(table, last) as usize));
+            }
+            count += set_bits(table, byte) as usize;
             leaf += 8;
         } else {
             if visibility.len() <= at {
@@ -107,12 +115,7 @@ fn put_row(visibility: &[u8], offset: usize, leaf_count: usize, list: &mut [u32]
         let byte = visibility[at];
         at += 1;
         if byte != 0 {
-            count = put_bits(
-                kept_bits(byte, leaf_count - first),
-                first as u32,
-                count,
-                list,
-            );
+            count = put_bits(byte, leaf_count - first, first as u32, count, list);
             first += 8;
         } else {
             first += 8 * (visibility[at] as usize);
@@ -129,7 +132,7 @@ fn list_row(visibility: &[u8], offset: usize, leaf_count: usize, list: &mut [u32
     if visibility.len() < offset {
         return Pvs::Refused(Refusal::RowOutsideData);
     }
-    let length = row_length(visibility, offset, leaf_count);
+    let length = row_length(&SET_BITS, visibility, offset, leaf_count);
     let Pvs::Length(count) = length else {
         return length;
     };
