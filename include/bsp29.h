@@ -11,9 +11,9 @@
  * kept. A refusal writes nothing, but for the marks of bsp_tree_check, bsp_hull_check and
  * bsp_contents_box. The library holds no state: any thread may call it at any time.
  *
- * Stack: bsp_trace and bsp_trace_nodes go up to 512 nodes deep and need up to 574,000 bytes,
- * bsp_tree_check and bsp_hull_check up to 164,000 (measured on a chain of 512 nodes, not proved). The
- * other calls have no such depth.
+ * Stack, measured on a chain of 512 nodes, the deepest there can be, and not proved: bsp_trace and
+ * bsp_trace_nodes need up to 574,000 bytes, bsp_contents_box 262,000, bsp_tree_check and
+ * bsp_hull_check 164,000. The other calls have no such depth.
  *
  * A list is two parameters: a pointer to its first entry and the number of its entries.
  *   - The pointer is not null and is aligned for its entries, even where the number is 0.
