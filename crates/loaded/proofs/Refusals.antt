@@ -26,7 +26,7 @@ use Rattle.records.specs.Access.{reading, readAt, recordOf}
 use Rattle.records.specs.Plane.{planeAt}
 use Rattle.records.specs.Node.{renderNodeAt, renderNodeOf, collisionNodeAt, collisionNodeOf}
 use Rattle.records.specs.Leaf.{leafAt, leafOf}
-use Rattle.nodes.specs.Tables.{End, contents, leaf, renderNode, clipNode, leafContents, leafIn, nth, boxNodes, boxPlanes, contentsOfEnd, contentsInBox, leafOfEnd, tableOf, leafTable}
+use Rattle.nodes.specs.Tables.{End, contents, leaf, nothing, renderNode, clipNode, leafContents, leafIn, nth, boxNodes, boxPlanes, contentsOfEnd, contentsInBox, leafOfEnd, tableOf, leafTable}
 use Rattle.nodes.specs.declared.table.HullTable.{HullTable}
 use Rattle.nodes.specs.declared.table.HullTable.the-variants.{Render, Clip, Box}
 use Rattle.hull.specs.Hull.{hullTable}
@@ -92,10 +92,12 @@ module _ (P : ℕ → Type 0) where
     of-end : (e : End) → leafIn (recordCount Leaves (m .leaves)) e ≡ true → RefusedOnly P (contentsOfEnd s m e)
     of-end (contents c) h = answers c
     of-end (leaf n) h = of-mapped leafContents (leafOf s m n) (in-range p23 Leaves leafAt s m n (ltb-true _ _ h))
+    of-end nothing h = refuses 23 p23
 
     of-box-end : (e : End) → leafIn 0 e ≡ true → RefusedOnly P (contentsInBox e)
     of-box-end (contents c) h = answers c
     of-box-end (leaf n) h = let l : n < 0 = ltb-true n 0 h in absurd (omega arith)
+    of-box-end nothing h = refuses 23 p23
 
     own : (table : HullTable) (mins maxs : Vector3) → Own P (tableOf s m table mins maxs)
     unfolding tableOf
@@ -119,6 +121,7 @@ module _ (P : ℕ → Type 0) where
       of-leaf-end : (e : End) → RefusedOnly P (leafOfEnd e)
       of-leaf-end (contents c) = refuses 30 p30
       of-leaf-end (leaf n) = answers n
+      of-leaf-end nothing = refuses 30 p30
 
       own-leaves : Own P (leafTable s m)
       unfolding leafTable

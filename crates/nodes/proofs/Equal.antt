@@ -22,7 +22,7 @@ use Rattle.records.specs.Access.{reading, readAt, recordOf}
 use Rattle.records.specs.Plane.{planeAt}
 use Rattle.records.specs.Node.{collisionNodeAt, renderNodeAt}
 use Rattle.records.specs.Leaf.{leafAt}
-use Rattle.nodes.specs.Tables.{End, contents, leaf, renderNode, clipNode, leafIn, leafContents, nodesOf, tableOf, leafTable}
+use Rattle.nodes.specs.Tables.{End, contents, leaf, nothing, renderNode, clipNode, leafIn, leafContents, nodesOf, tableOf, leafTable}
 use Rattle.nodes.specs.Fast as Fast
 use Rattle.nodes.specs.Fast.{partOf, tablesOf, placeIn, hereAt, renderNodeHere, clipNodeHere, planeRead, leafContentsHere}
 use Rattle.nodes.specs.declared.table.HullTable.{HullTable}
@@ -106,10 +106,13 @@ module _ (s : List ℕ) (m : BspData) (mins maxs : Vector3) where
   unfolding tableOf placeIn
   ends-in Render (contents c) = refl
   ends-in Render (leaf n) = leaf-is s m n
+  ends-in Render nothing = refl
   ends-in Clip (contents c) = refl
   ends-in Clip (leaf n) = leaf-is s m n
+  ends-in Clip nothing = refl
   ends-in Box (contents c) = refl
   ends-in Box (leaf n) = simp (le-leb 0 n (omega arith))
+  ends-in Box nothing = refl
 
   -- the table of contents
   pub table-is : (t : HullTable) → Fast.table s (tablesOf m t mins maxs) ≡ tableOf s m t mins maxs

@@ -12,4 +12,5 @@ pub mod Entering
 mod Making
 mod Stepping
 pub mod Equal
+pub mod Ends
 mod Handed

@@ -1,6 +1,6 @@
 -- What is made of a node and its plane: by the readers of any table, and by the bytes of sections that are whole.
 -- Assumes nothing.
-use Prim.Native.Nat.{ℕ, zero, suc, _+_, _*_, _/_, _<_, _≤_}
+use Prim.Native.Nat.{ℕ, _+_, _*_, _/_, _<_, _≤_}
 use mathlib.Core.Path.{_≡_, refl, sym, ap, _∙_}
 use mathlib.Core.Bool.{Bool, true, false, not, cond}
 use mathlib.Core.List.{List}
@@ -8,7 +8,7 @@ use native.Mathlib.Omega.{arith}
 use borrow.Author.Tests.{lt-ltb, le-ltb, ltb-true, ltb-false}
 use lib.Dec.{ltb}
 use lib.Ieee.{Float}
-use lib.ListN.{length, getD}
+use lib.ListN.{length}
 use Rattle.format.proofs.Answers.{mapped-answer, mapped-refused}
 use Rattle.format.specs.Answer as Ans
 use Rattle.format.specs.Answer.{Answer, answer, mapped, thenAnswer}
@@ -22,9 +22,9 @@ use Rattle.math.specs.declared.HyperplaneSide.the-variants.{Positive, Negative}
 use Rattle.walk.specs.Table.{Node, childOn}
 use Rattle.walk.specs.Walk.{Entered, withNode, withPlane, enter}
 use Rattle.nodes.specs.Tables.{End}
-use Rattle.nodes.specs.Fast.{Within, isRender, isBox, fileTable, along, wordsAnswer, nodeOf, childOf, wordOn, nodeHere, nodeSize, ReadsNode, planeHere, planeFor, planeOfIndex, planeIn, sideFrom, sidedAnswer, twoDists, distsFrom, distsAnswer, table, hereAt, placeIn, planeRead, renderNodeHere, clipNodeHere, nodeIn}
+use Rattle.nodes.specs.Fast.{Within, isRender, isBox, fileTable, wordsAnswer, nodeOf, childOf, wordOn, nodeHere, nodeSize, ReadsNode, planeHere, planeFor, planeOfIndex, planeIn, sideFrom, sidedAnswer, twoDists, distsFrom, distsAnswer, table, hereAt, placeIn, planeRead, renderNodeHere, clipNodeHere, nodeIn}
 use Rattle.nodes.specs.Fast as Fast
-use Rattle.nodes.specs.Walks.{madeFrom, madeWith, madeAt, MadeIn, childToward, nodeAndDists, coordinates, wordAt, areWhole, allBytes, Read}
+use Rattle.nodes.specs.Walks.{madeFrom, madeWith, madeAt, MadeIn, childToward, nodeAndDists, wordAt, areWhole, allBytes, Read}
 use Rattle.nodes.specs.declared.table.HullTable.{HullTable}
 use Rattle.nodes.specs.declared.table.HullTable.the-variants.{Render, Clip, Box}
 use Rattle.nodes.specs.declared.table.Part.{Part}
@@ -53,12 +53,6 @@ on-the-side w false = refl
 child-at : (tab : HullTable) (w : WordsT) (sd : HyperplaneSide) → childOf tab (wordAt w sd) ≡ childOn (nodeOf tab w) sd
 child-at tab w Positive = refl
 child-at tab w Negative = refl
-
-pub by-axis : (p : Vector3) (l : List Float) (k : ℕ) (d : Float) → l ≡ coordinates p → k < 3 → getD l k d ≡ along p k
-by-axis p l zero d e h = ap (λ (x : List Float). getD x 0 d) e
-by-axis p l (suc zero) d e h = ap (λ (x : List Float). getD x 1 d) e
-by-axis p l (suc (suc zero)) d e h = ap (λ (x : List Float). getD x 2 d) e
-by-axis p l (suc (suc (suc k))) d e h = absurd (omega arith)
 
 -- ---- the words of a node in its section's bytes, by which table it is
 

@@ -1,6 +1,6 @@
 -- A node and an end, by which table it is of.
 -- Assumes nothing.
-use Prim.Native.Nat.{ℕ, zero, suc, _-_, _/_, _%_, _^_, _<_, _≤_}
+use Prim.Native.Nat.{ℕ, zero, suc, _-_, _<_, _≤_}
 use mathlib.Core.Path.{_≡_, refl, sym, ap, _∙_}
 use mathlib.Core.Bool.{Bool, true, false}
 use mathlib.Core.List.{List, [], _∷_}
@@ -19,12 +19,11 @@ use Rattle.format.specs.declared.section.Place.{Place}
 use Rattle.format.specs.declared.section.Place.the-variants.{At, Refused}
 use Rattle.walk.specs.Walk.{meet}
 use Rattle.nodes.specs.Tables.{nth}
-use Rattle.nodes.specs.Fast.{isRender, isBox, fileTable, placeIn, hereAt, coded, wordOn, wordsAnswer, renderNodeHere, clipNodeHere, boxNode, nodeIn, nodeAt, leafContentsHere, endOf, table, contentsMet}
+use Rattle.nodes.specs.Fast.{isRender, isBox, fileTable, placeIn, hereAt, coded, wordsAnswer, renderNodeHere, clipNodeHere, boxNode, nodeIn, nodeAt, leafContentsHere, endOf, table, contentsMet}
 use Rattle.nodes.specs.declared.table.HullTable.{HullTable}
 use Rattle.nodes.specs.declared.table.HullTable.the-variants.{Render, Clip, Box}
 use Rattle.nodes.specs.declared.table.Part.{Part}
 use Rattle.nodes.specs.declared.table.Tables.{Tables}
-use Rattle.nodes.specs.declared.read.Words.{Words}
 use Rattle.nodes.specs.declared.read.ReadWords.{ReadWords}
 use Rattle.nodes.proofs.Places.{none}
 
@@ -41,14 +40,6 @@ nth-past (x ∷ xs) zero h = absurd (omega arith)
 nth-past (x ∷ xs) (suc i) h = nth-past xs i (omega arith)
 
 -- ---- the words of a node
-
--- a child's word, shifted down
-module _ (w : Words) (b : Bool) (by : ℕ) where
-  pub shifted-front : b ≡ true → by ≡ 0 → w .both / 2 ^ by % 65536 ≡ wordOn w b
-  shifted-front e q = rw (e, q) (omega arith)
-
-  pub shifted-back : b ≡ false → by ≡ 16 → w .both < 4294967296 → w .both / 2 ^ by % 65536 ≡ wordOn w b
-  shifted-back e q h = rw (e, q) (omega arith)
 
 -- of the file: by which table it is of
 module _ (s : List ℕ) (p : Part) (i : ℕ) (b : Bool) where
@@ -115,12 +106,11 @@ module _ (s : List ℕ) (t : Tables) (w : ℕ) (b : Bool) (is-b : b ≡ isRender
       pub leaf-not : (x : Refusal) → r ≡ Refused x → Ans.refused (numberOf x) ≡ contentsMet s t w
       leaf-not x q = sym (ap (λ y. hereAt (placeAnswer y) (leafContentsHere s)) q) ∙ at-place
 
-  by-code : (tab : HullTable) → isRender tab ≡ false → answer (coded (contentsOf (65536 - w))) ≡ meet (table s t) (endOf tab w)
-  unfolding meet
+  by-code : (tab : HullTable) → isRender tab ≡ false → coded (contentsOf (65536 - w)) ≡ endOf tab w
   by-code Render e = let z : _≡_ {A = ℕ} 0 1 = cc in absurd (omega arith)
   by-code Clip e = refl
   by-code Box e = refl
 
-  pub code-met : b ≡ false → (k l : CodedContents) → k ≡ contentsOf (65536 - w) → k ≡ l → answer (coded l) ≡ contentsMet s t w
+  pub code-met : b ≡ false → (k l : CodedContents) → k ≡ contentsOf (65536 - w) → k ≡ l → meet (table s t) (coded l) ≡ contentsMet s t w
   unfolding contentsMet
-  code-met e k l is-k q = ap (λ x. answer (coded x)) (sym q ∙ is-k) ∙ by-code (t .table) (sym is-b ∙ e)
+  code-met e k l is-k q = ap (λ x. meet (table s t) (coded x)) (sym q ∙ is-k) ∙ ap (meet (table s t)) (by-code (t .table) (sym is-b ∙ e))

@@ -12,7 +12,6 @@ use Rattle.format.specs.Refusal.{numberOf}
 use Rattle.format.specs.Step.{when}
 use Rattle.format.specs.Code.{contentsOf}
 use Rattle.format.specs.declared.contents.BspLeafContents.{BspLeafContents}
-use Rattle.format.specs.declared.contents.BspLeafContents.the-variants.{Empty}
 use Rattle.format.specs.declared.code.CodedContents.{CodedContents}
 use Rattle.format.specs.declared.code.CodedContents.the-variants.{Contents, Invalid}
 use Rattle.format.specs.declared.section.BspData.{BspData}
@@ -28,7 +27,7 @@ use Rattle.records.specs.Access.{reading}
 use Rattle.records.specs.Plane.{planeAt}
 use Rattle.records.specs.Node.{collisionNodeAt, renderNodeAt}
 use Rattle.records.specs.Leaf.{leafAt}
-use Rattle.nodes.specs.Tables.{End, contents, leaf, nodeWith, clipNode, renderNode, nth, boxNodes, boxPlanes, leafIn, leafContents, leafOfEnd}
+use Rattle.nodes.specs.Tables.{End, contents, leaf, nothing, nodeWith, clipNode, renderNode, nth, boxNodes, boxPlanes, leafIn, leafContents, leafOfEnd}
 use Rattle.nodes.specs.declared.table.HullTable.{HullTable}
 use Rattle.nodes.specs.declared.table.HullTable.the-variants.{Render, Clip, Box}
 use Rattle.nodes.specs.declared.table.Part.{Part}
@@ -132,16 +131,16 @@ hereAt (refused n) one = refused n
 
 -- ---- nodes as words
 
--- contents of a code that stands for some
-abbrev pub coded : CodedContents → BspLeafContents
-coded (Contents c) = c
-coded Invalid = Empty
+-- the end that a code stands for
+abbrev pub coded : CodedContents → End
+coded (Contents c) = contents c
+coded Invalid = nothing
 
 -- the end that a word from 2^15 on stands for: a leaf's number or a contents code, in two's complement
 abbrev pub endOf : HullTable → ℕ → End
 endOf Render w = leaf (65535 - w)
-endOf Clip w = contents (coded (contentsOf (65536 - w)))
-endOf Box w = contents (coded (contentsOf (65536 - w)))
+endOf Clip w = coded (contentsOf (65536 - w))
+endOf Box w = coded (contentsOf (65536 - w))
 
 abbrev pub childOf : HullTable → ℕ → Child End
 childOf t w = cond (ltb w 32768) (node w) (end (endOf t w))
@@ -263,6 +262,7 @@ leafContentsHere s at = mapped leafContents (reading (leafAt s at))
 abbrev pub endContents : List ℕ → Tables → End → Answer BspLeafContents
 endContents s t (contents c) = answer c
 endContents s t (leaf n) = hereAt (placeIn (t .leaves) 28 (length s) n) (leafContentsHere s)
+endContents s t nothing = refused 23
 
 abbrev pub endAnswer : EndContents → Answer BspLeafContents
 endAnswer (E.Contents c) = answer c

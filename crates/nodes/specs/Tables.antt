@@ -27,10 +27,13 @@ use Rattle.records.specs.declared.leaf.BspLeaf.{BspLeaf}
 use Rattle.nodes.specs.declared.table.HullTable.{HullTable}
 use Rattle.nodes.specs.declared.table.HullTable.the-variants.{Render, Clip, Box}
 
--- what stands in a child's place where it is no node: contents (`BspCollisionNodeChild`), or a leaf's number (`BspRenderNodeChild`)
+-- what stands in a child's place where it is no node: contents (`BspCollisionNodeChild`), or a leaf's number (`BspRenderNodeChild`). A word
+-- that is no contents code stands for `nothing`: a node that holds one cannot be read (23), so no node of a table has this end
+-- (proofs/Ends.antt), and a caller who asks what such a word says is refused (23).
 pub data End : Type 0 where
   contents : BspLeafContents → End
   leaf : ℕ → End
+  nothing : End
 
 abbrev pub nodeWith : ℕ → Child End → Child End → Node End
 nodeWith p f b = record { plane = p; front = f; back = b }
@@ -77,10 +80,11 @@ boxPlanes mins maxs =
     ∷ axisZ (mins .z)
     ∷ []
 
--- a leaf's number may be outside its table; contents are always in range
+-- a leaf's number may be outside its table; nothing else has a table to be outside of
 abbrev pub leafIn : ℕ → End → Bool
 leafIn leaves (contents c) = true
 leafIn leaves (leaf n) = ltb n leaves
+leafIn leaves nothing = true
 
 -- a box's nodes, the same for every box; it has no leaves
 abbrev pub nodesOfBox : Nodes End
@@ -111,10 +115,12 @@ leafContents l = l .contents
 abbrev pub contentsOfEnd : List ℕ → BspData → End → Answer BspLeafContents
 contentsOfEnd s m (contents c) = answer c
 contentsOfEnd s m (leaf n) = mapped leafContents (leafOf s m n)
+contentsOfEnd s m nothing = refused 23
 
 abbrev pub contentsInBox : End → Answer BspLeafContents
 contentsInBox (contents c) = answer c
 contentsInBox (leaf n) = refused 20
+contentsInBox nothing = refused 23
 
 -- the table of a box with these bounds, which reads no bytes
 abbrev pub boxTable : Vector3 → Vector3 → Table End BspLeafContents
@@ -126,10 +132,12 @@ tableOf s m Render mins maxs = record { nodes = nodesOf s m Render; planeAt = pl
 tableOf s m Clip mins maxs = record { nodes = nodesOf s m Clip; planeAt = planeOf s m; leafAt = contentsOfEnd s m }
 tableOf s m Box mins maxs = boxTable mins maxs
 
--- what an end says to `find_leaf`: the leaf's number, and its record is not read. (A render node has no contents in a child's place.)
+-- what an end says to `find_leaf`: the leaf's number, and its record is not read. (A render node has nothing but nodes and
+-- leaves in a child's place.)
 abbrev pub leafOfEnd : End → Answer ℕ
 leafOfEnd (contents c) = refused 30
 leafOfEnd (leaf n) = answer n
+leafOfEnd nothing = refused 30
 
 -- `find_leaf`
 unfoldable pub leafTable : List ℕ → BspData → Table End ℕ

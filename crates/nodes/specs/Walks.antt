@@ -3,7 +3,7 @@
 use Prim.Native.Nat.{ℕ, _+_, _*_, _/_}
 use mathlib.Core.Path.{_≡_}
 use mathlib.Core.Bool.{Bool, true, false, cond}
-use mathlib.Core.List.{List, [], _∷_, _++_}
+use mathlib.Core.List.{List, [], _++_}
 use lib.Dec.{ltb, leb}
 use lib.Ieee.{Float}
 use lib.ListN.{length, take, drop}
@@ -78,11 +78,7 @@ abbrev pub segmentAnswer : HullTable → SegmentAt → Answer (Node End × (Floa
 segmentAnswer t (G.Dists w a b) = answer (nodeOf t w, (a, b))
 segmentAnswer t (G.Refused e) = refused (numberOf e)
 
--- for private contracts: a point's coordinates by axis
-abbrev pub coordinates : Vector3 → List Float
-coordinates p = p .x ∷ p .y ∷ p .z ∷ []
-
--- and the child's word on a side
+-- for private contracts: the child's word on a side
 abbrev pub wordAt : Words → HyperplaneSide → ℕ
 wordAt w Positive = wordOn w true
 wordAt w Negative = wordOn w false

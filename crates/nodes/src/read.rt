@@ -60,14 +60,6 @@ impl Words {
         }
         (self.both / 65536) as u16
     }
-
-    // The same without a branch.
-    pub fn on_shifted(self, front: bool) -> u16
-        ensures { λ r. ⌜ r ≡ Fast.wordOn self front ⌝ }
-    {
-        let by: u32 = if front { 0 } else { 16 };
-        ((self.both >> by) % 65536) as u16
-    }
 }
 
 // The nodes of a box, in the order of `for_bounds`; 65535 is Empty and 65534 Solid.
@@ -196,7 +188,7 @@ pub fn side_at(s: &[u8], t: Tables, index: usize, p: Vector3) -> Sided
     }
 }
 
-// The contents at an end, when it is met: 30, then 23.
+// The contents at an end, when it is met: 30, then 23; a word that is no contents is 23.
 pub fn end_contents(s: &[u8], t: Tables, word: u16) -> EndContents
     ensures { λ r. ⌜ Fast.endAnswer r ≡ Fast.contentsMet (now (s .entry)) t word ⌝ }
 {
@@ -212,9 +204,8 @@ pub fn end_contents(s: &[u8], t: Tables, word: u16) -> EndContents
             Place::Refused(e) => EndContents::Refused(e),
         };
     }
-    // a word that is no contents was refused with its node
     match contents_of(65536 - (word as u32)) {
         CodedContents::Contents(c) => EndContents::Contents(c),
-        CodedContents::Invalid => EndContents::Contents(BspLeafContents::Empty),
+        CodedContents::Invalid => EndContents::Refused(Refusal::Unreadable),
     }
 }

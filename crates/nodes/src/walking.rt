@@ -11,6 +11,7 @@ ghost use Rattle.nodes.specs.Fast as Fast;
 ghost use Rattle.nodes.specs.Walks as Walks;
 use crate::bytes::f32_at;
 use crate::bytes::u32_at;
+use crate::here::along;
 use crate::here::clip_words;
 use crate::here::dists_here;
 use crate::here::normal_at;
@@ -47,16 +48,16 @@ pub enum SegmentAt {
     Refused(Refusal),
 }
 
-// The child's word on the point's side of the plane at a place. An axis plane's side is no branch: no processor foresees it. `along` has
-// the point's coordinates by axis.
-fn word_on(planes: &[u8], at: usize, words: Words, point: Vector3, along: &[f32; 3]) -> u16
-    requires { ⌜ (at + 20 ≤ length (now planes)) × (now along ≡ Walks.coordinates point) ⌝ }
+// The child's word on the point's side of the plane at a place. The side is a branch: where the points move little from call to call, as
+// a game's do, a processor foresees it.
+fn word_on(planes: &[u8], at: usize, words: Words, point: Vector3) -> u16
+    requires { ⌜ at + 20 ≤ length (now planes) ⌝ }
     ensures { λ r. ⌜ r ≡ Walks.wordAt words (Pl.pointSide (Fast.planeHere (now (planes .entry)) at) point) ⌝ }
 {
     let dist = f32_at(planes, at + 12);
     let kind = u32_at(planes, at + 16);
     if kind < 3 {
-        return words.on_shifted(along[kind as usize] >= dist);
+        return words.on(along(point, kind) >= dist);
     }
     words.on(is_front(Hyperplane::new(normal_at(planes, at), dist).point_side(point)))
 }
@@ -73,15 +74,8 @@ fn words_in(nodes: &[u8], render: bool, index: usize) -> ReadWords
 }
 
 // The child's word that the point goes on to, from the bytes of the two sections.
-fn onward_in(
-    nodes: &[u8],
-    planes: &[u8],
-    render: bool,
-    index: usize,
-    point: Vector3,
-    along: &[f32; 3],
-) -> Onward
-    requires { ⌜ (index * Fast.nodeSize render + Fast.nodeSize render ≤ length (now nodes)) × (now along ≡ Walks.coordinates point) ⌝ }
+fn onward_in(nodes: &[u8], planes: &[u8], render: bool, index: usize, point: Vector3) -> Onward
+    requires { ⌜ index * Fast.nodeSize render + Fast.nodeSize render ≤ length (now nodes) ⌝ }
     ensures { λ r. ⌜ Walks.MadeIn (Walks.childToward point) render (now (nodes .entry)) (now (planes .entry)) (index * Fast.nodeSize render) (Walks.onwardAnswer (Fast.fileTable render) r) ⌝ }
 {
     match words_in(nodes, render, index) {
@@ -91,7 +85,7 @@ fn onward_in(
             if planes.len() / 20 <= plane {
                 return Onward::Refused(Refusal::IndexOutsideTable);
             }
-            Onward::Word(word_on(planes, plane * 20, words, point, along))
+            Onward::Word(word_on(planes, plane * 20, words, point))
         }
     }
 }
@@ -178,14 +172,13 @@ fn onward_from(
     whole: bool,
     index: usize,
     point: Vector3,
-    along: &[f32; 3],
 ) -> Onward
-    requires { ⌜ Walks.Read (now s) t (now nodes) (now planes) whole × (index < t .nodes .count) × (now along ≡ Walks.coordinates point) ⌝ }
+    requires { ⌜ Walks.Read (now s) t (now nodes) (now planes) whole × (index < t .nodes .count) ⌝ }
     ensures { λ r. ⌜ Walks.onwardAnswer (t .table) r ≡ Walks.madeFrom (Walks.childToward point) (now (s .entry)) t index ⌝ }
 {
     if whole {
         let table = t.table;
-        return onward_in(nodes, planes, table.is_render(), index, point, along);
+        return onward_in(nodes, planes, table.is_render(), index, point);
     }
     onward_any(s, t, index, point)
 }
@@ -270,7 +263,6 @@ pub fn walk_to_end(s: &[u8], t: Tables, root: usize, x: f32, y: f32, z: f32) -> 
     ensures { λ r. ⌜ Walks.endAnswer (t .table) r ≡ withVisits (pointWalk (Walks.ends (Fast.table (now (s .entry)) t)) root (Vec.vector x y z)) ⌝ }
 {
     let point = Vector3 { x, y, z };
-    let along = [x, y, z];
     let part = t.nodes;
     let limit = part.count as u64;
     let whole = are_whole(t, s.len());
@@ -285,7 +277,7 @@ pub fn walk_to_end(s: &[u8], t: Tables, root: usize, x: f32, y: f32, z: f32) -> 
         if limit <= visits {
             return WalkEnd::Refused(Refusal::WalkTooLong);
         }
-        match onward_from(s, t, nodes, planes, whole, node, point, &along) {
+        match onward_from(s, t, nodes, planes, whole, node, point) {
             Onward::Refused(e) => return WalkEnd::Refused(e),
             Onward::Word(word) => {
                 visits += 1;

@@ -20,13 +20,14 @@ use Rattle.records.specs.Node.{renderNodeOf}
 use Rattle.records.specs.declared.node.BspRenderNodeChild.{BspRenderNodeChild}
 use Rattle.records.specs.declared.node.BspRenderNodeChild.the-variants as R
 use Rattle.records.specs.declared.node.BspRenderNode.{BspRenderNode}
-use Rattle.nodes.specs.Tables.{End, contents, leaf, renderChild, renderNode, nodesOf, leafTable}
+use Rattle.nodes.specs.Tables.{End, contents, leaf, nothing, renderChild, renderNode, nodesOf, leafTable}
 use Rattle.nodes.specs.declared.table.HullTable.the-variants.{Render}
 
 -- every end has a number
 abbrev pub numbered : End → Answer ℕ
 numbered (contents c) = answer 0
 numbered (leaf n) = answer n
+numbered nothing = answer 0
 
 module _ (s : List ℕ) (m : BspData) where
   abbrev pub total : Table End ℕ

@@ -23,6 +23,7 @@ use Rattle.faces.specs.Extents.{extent}
 use Rattle.models.specs.Model.{paddedBounds, boundsAt, rootsAt, fileModelEndAt, fileModelAt, leafIdOf, modelOf}
 use Rattle.models.specs.Text.{textEnd}
 use Rattle.nodes.specs.Tables.{tableOf}
+use Rattle.nodes.specs.Fast.{contentsMet}
 use Rattle.hull.specs.Hull.{forBounds, hull}
 use Rattle.sections.specs.Row.{records, section, blob}
 use Rattle.sections.specs.Table.{isMultiple, sectionAt, threeSectionsAt, tableEndAt, tableAt, isVersion, headerAt, exceeds, limits, limitsFromLeaves}
@@ -35,5 +36,5 @@ use Rattle.load.specs.Tested.{texinfos, faces, outside, referencesAt, leafRefer
 use Rattle.trial_table.specs.Trials.{trials, each}
 
 pub all-hold : each (λ t. t .definition) trials ≡ each (λ t. t .document) trials
-unfolding trials each contentsAt leafEndAt leafAt renderChild renderChildAt renderNodeEndAt renderNodeAt index16At offsetOf offsetAt pointAt outside referencesAt loadAt headerAt i32At u32At f32At isVersion tableAt threeSectionsAt sectionAt isMultiple indexAt tableEndAt limits limitsFromLeaves exceeds recordCount entities textEnd isUtf8 run next lead whole fromPlanes section records numberAt fromVertices blob fromTexinfo texinfos faces fromCollisionNodes fromEdges fromExtents faceExtents leafReferences fileModelAt fileModelEndAt boundsAt rootsAt vectorAt paddedBounds leafIdOf modelOf rowAt rowBits bits visible forBounds hull tableOf walk enter meet recursiveTrace ofWhole ofBits add sub mul div neg lt le eq toSigned lineSegment newPlane normalize sqrt rootOfUnits nearestRoot digits equal Tr.join extent floorOf ceilOf times16 isBad treeCheck checkNode recordOf place collisionNodeAt collisionChildAt planeAt filePlane i16At u16At negatedContents contentsOf
+unfolding trials each contentsAt leafEndAt leafAt renderChild renderChildAt renderNodeEndAt renderNodeAt index16At offsetOf offsetAt pointAt outside referencesAt loadAt headerAt i32At u32At f32At isVersion tableAt threeSectionsAt sectionAt isMultiple indexAt tableEndAt limits limitsFromLeaves exceeds recordCount entities textEnd isUtf8 run next lead whole fromPlanes section records numberAt fromVertices blob fromTexinfo texinfos faces fromCollisionNodes fromEdges fromExtents faceExtents leafReferences fileModelAt fileModelEndAt boundsAt rootsAt vectorAt paddedBounds leafIdOf modelOf rowAt rowBits bits visible forBounds hull tableOf walk enter meet recursiveTrace ofWhole ofBits add sub mul div neg lt le eq toSigned lineSegment newPlane normalize sqrt rootOfUnits nearestRoot digits equal Tr.join extent floorOf ceilOf times16 isBad treeCheck checkNode recordOf place collisionNodeAt collisionChildAt planeAt filePlane i16At u16At negatedContents contentsOf contentsMet
 all-hold = refl

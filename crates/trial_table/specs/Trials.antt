@@ -10,7 +10,7 @@ use Rattle.float.specs.Whole.{ofWhole}
 use Rattle.math.specs.Vector.{vector}
 use Rattle.math.specs.Plane.{withNormal}
 use Rattle.math.specs.declared.Vector3.{Vector3}
-use Rattle.format.specs.Answer.{Answer, answer, refused, thenAnswer}
+use Rattle.format.specs.Answer.{Answer, answer, refused, mapped, thenAnswer}
 use Rattle.format.specs.Listed.{Listed, listed, into}
 use Rattle.format.specs.declared.contents.BspLeafContents.{BspLeafContents}
 use Rattle.format.specs.declared.contents.BspLeafContents.the-variants.{Empty, Solid}
@@ -24,6 +24,7 @@ use Rattle.walk.specs.Trace as Tracing
 use Rattle.walk.specs.TreeCheck.{Checked, checked, treeCheck}
 use Rattle.faces.specs.Extents.{extent}
 use Rattle.nodes.specs.Tables.{nodesOf, tableOf}
+use Rattle.nodes.specs.Fast.{tablesOf, contentsMet}
 use Rattle.nodes.specs.declared.table.HullTable.the-variants.{Clip, Box}
 use Rattle.hull.specs.Hull.{forBounds, hull, hullTable}
 use Rattle.hull.specs.declared.collision.BspCollisionHull.{BspCollisionHull}
@@ -172,6 +173,10 @@ inClip first second p = contents (withVisits (pointWalk (tableOf (clipFile first
 abbrev pub throughClip : List ℕ → List ℕ → Vector3 → Vector3 → Said
 throughClip first second start end = traced (withVisits (Tracing.trace (tableOf (clipFile first second) clipMap Clip start end) 0 start end))
 
+-- what a word says where it is met as an end of a clip table; no node is entered
+abbrev pub metInClip : ℕ → Said
+metInClip word = contents (mapped (λ c. (c, 0)) (contentsMet [] (tablesOf clipMap Clip (onX zero32) (onX zero32)) word))
+
 -- ---- the table
 
 unfoldable pub trials : List Trial
@@ -217,9 +222,12 @@ trials =
     -- an offset past the data is refused with any count; one at the data's end is not past it
     ∷ (row (rowAt (5 ∷ []) 2 0) gives row (refused 33))
     ∷ (row (rowAt (5 ∷ []) 1 1) gives row (answer []))
-    -- a lent list keeps its entries past the length; one that is too short is left as it is
+    -- a lent list keeps its entries past the length; one that is just long enough is filled; one that is too short is left as it is
     ∷ (lent (into (rowAt (5 ∷ 1 ∷ []) 0 10) (7 ∷ 7 ∷ 7 ∷ 7 ∷ [])) gives lent (listed (answer 3) (1 ∷ 3 ∷ 9 ∷ 7 ∷ [])))
+    ∷ (lent (into (rowAt (5 ∷ 1 ∷ []) 0 10) (7 ∷ 7 ∷ 7 ∷ [])) gives lent (listed (answer 3) (1 ∷ 3 ∷ 9 ∷ [])))
     ∷ (lent (into (rowAt (5 ∷ 1 ∷ []) 0 10) (7 ∷ 7 ∷ [])) gives lent (listed (refused 22) (7 ∷ 7 ∷ [])))
+    -- a box that is flat on the y axis: 21
+    ∷ (contents (mapped (λ h. (Empty, 0)) (forBounds (vector minusOne one minusOne) (vector one one one))) gives contents (refused 21))
     -- a NaN coordinate Empty
     ∷ (inBox (vector nan zero32 zero32) gives contents (answer (Empty, 2)))
     ∷ (inBox (vector zero32 nan zero32) gives contents (answer (Empty, 4)))
@@ -234,4 +242,7 @@ trials =
     ∷ (checkClip (0 ∷ 0 ∷ 255 ∷ 255 ∷ []) (255 ∷ 255 ∷ 254 ∷ 255 ∷ []) (0 ∷ 0 ∷ []) gives check (checked (refused 34) (0 ∷ 0 ∷ [])))
     ∷ (inClip (0 ∷ 0 ∷ 255 ∷ 255 ∷ []) (255 ∷ 255 ∷ 254 ∷ 255 ∷ []) (onX one) gives contents (refused 31))
     ∷ (throughClip (0 ∷ 0 ∷ 255 ∷ 255 ∷ []) (255 ∷ 255 ∷ 254 ∷ 255 ∷ []) (onX one) (onX one) gives traced (refused 32))
+    -- a word that is a contents code, and one that is none
+    ∷ (metInClip 65534 gives contents (answer (Solid, 0)))
+    ∷ (metInClip 65529 gives contents (refused 23))
     ∷ []

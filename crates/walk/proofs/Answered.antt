@@ -19,7 +19,7 @@ use Rattle.walk.specs.TreeCheck.{treeCheck}
 use Rattle.walk.specs.Tree.{Reads, PlanesFit}
 use Rattle.walk.specs.Demand3.{Answered, AnsweredWithin}
 use Rattle.walk.proofs.Lists.{room}
-use Rattle.walk.proofs.Shape.{Shape, top, nodesOf, Drawn, height-count, nodes-below}
+use Rattle.walk.proofs.Shape.{Shape, top, nodesOf, Drawn, root-hangs, height-count, nodes-below}
 use Rattle.walk.proofs.Reached.{tree-nodes}
 use Rattle.walk.proofs.Sound.{Found}
 use Rattle.walk.proofs.Check.{found}
@@ -49,7 +49,7 @@ module _ {E A : Type 0} (T : Table E A) (R : Reads T) (ms : List ℕ) (root h : 
       let f : (m′ : List ℕ) × Found (T .nodes) (replicate (T .nodes .count) 0) (node root) h m′ 512 = found (T .nodes) ms root h passed in
       let F : Found (T .nodes) (replicate (T .nodes .count) 0) (node root) h (f .0) 512 = f .1 in
       let g : W.Short T R p (F .shape) (W.walkOn T R p (T .nodes .count) (top (F .shape)))
-      = W.along T R p (F .shape) (F .drawn) (F .once) (T .nodes .count) (height-count (T .nodes) (F .shape) (F .drawn) (F .once)) in
+      = W.along T R p (F .shape) (F .drawn) (root-hangs (T .nodes) (F .shape) root (F .top-is)) (F .once) (T .nodes .count) (height-count (T .nodes) (F .shape) (F .drawn) (F .once)) in
       let g′ : W.Short T R p (F .shape) (pointWalk T root p) = rw (F .top-is) at g in
       let low : length (g′ .0 .nodes) ≤ h = omega (arith, g′ .1, F .high) in
       record { all = answered (T .nodes) root (F .shape) (F .top-is) (F .drawn) (pointWalk T root p) (g′ .0) (omega (arith, F .low)); within = low }
@@ -62,7 +62,7 @@ module _ {E : Type 0} (T : Table E BspLeafContents) (R : Reads T) (D : PlanesFit
       let F : Found (T .nodes) (replicate (T .nodes .count) 0) (node root) h (f .0) 512 = f .1 in
       let here : BspLeafContents → TraceT = λ c. Tr.newTrace (Tr.start s Vec.zero32) (Tr.terminal e) c in
       let g : AnsweredIn (nodesOf (F .shape)) (A.traceOn T R D 512 s e here (top (F .shape)))
-      = A.along T R D (F .shape) (F .drawn) (F .once) 512 (omega (arith, F .high, F .low)) s e S F′ here in
+      = A.along T R D (F .shape) (F .drawn) (root-hangs (T .nodes) (F .shape) root (F .top-is)) (F .once) 512 (omega (arith, F .high, F .low)) s e S F′ here in
       let g′ : AnsweredIn (nodesOf (F .shape)) (trace T root s e) = rw (F .top-is) at g in
       let k : length (g′ .nodes) ≤ T .nodes .count = room (T .nodes .count) (g′ .nodes) (g′ .once) (λ n m. nodes-below (T .nodes) (F .shape) (F .drawn) n (g′ .within n m)) in
       answered (T .nodes) root (F .shape) (F .top-is) (F .drawn) (trace T root s e) g′ (omega arith)

@@ -8,7 +8,7 @@ use Rattle.format.specs.Answer.{answer}
 use Rattle.math.specs.declared.Hyperplane.{Hyperplane}
 use Rattle.walk.specs.Table.{end, Table}
 use Rattle.walk.specs.Walk.{Outcome, done, entered, enter, meet, onto}
-use Rattle.walk.specs.Tree.{NoTwice, Reads}
+use Rattle.walk.specs.Tree.{NoTwice, Reads, IsEnd}
 use Rattle.walk.proofs.Shape.{Shape, tip, fork, recordOf, Drawn}
 
 pub record AnsweredIn {W : Type 0} (l : List ℕ) (o : Outcome W) : Type 0 where
@@ -45,8 +45,8 @@ module _ {E A : Type 0} (T : Table E A) (R : Reads T) where
       (w .0, w .1, rw (d .1, lt-ltb p (T .nodes .planes) (d .2), w .1))
 
   -- an end of the shape answers
-  unfoldable pub end-in : {W : Type 0} (go : ℕ → Outcome W) (here : A → W) (e : E) → Drawn (T .nodes) (tip e) → AnsweredIn [] (onto T go here (end e))
+  unfoldable pub end-in : {W : Type 0} (go : ℕ → Outcome W) (here : A → W) (e : E) → Drawn (T .nodes) (tip e) → IsEnd (T .nodes) e → AnsweredIn [] (onto T go here (end e))
   unfolding meet
-  end-in go here e d =
-      let a : (a : A) × (T .leafAt e ≡ answer a) = R .leaves-read e d in
+  end-in go here e d i =
+      let a : (a : A) × (T .leafAt e ≡ answer a) = R .leaves-read e i d in
       record { value = here (a .0); nodes = []; answered = rw (d, a .1); once = tt; within = λ n m. m }

@@ -10,7 +10,7 @@ use Rattle.format.specs.Answer.{answer}
 use Rattle.math.specs.declared.HyperplaneSide.{HyperplaneSide}
 use Rattle.math.specs.declared.HyperplaneSide.the-variants.{Positive, Negative}
 use Rattle.walk.specs.Table.{Child, node, end, Node, Nodes, childOn}
-use Rattle.walk.specs.Tree.{NoTwice}
+use Rattle.walk.specs.Tree.{NoTwice, IsEnd}
 use Rattle.walk.proofs.Lists.{room, once-apart}
 
 pub data Shape (E : Type 0) : Type 0 where
@@ -43,6 +43,23 @@ module _ {E : Type 0} (N : Nodes E) where
   abbrev pub Drawn : Shape E → Type 0
   Drawn (tip e) = N .leafIn e ≡ true
   Drawn (fork i p f b) = (i < N .count) × (N .nodeAt i ≡ answer (recordOf p f b)) × (p < N .planes) × Drawn f × Drawn b
+
+  -- if the shape is an end, some node has it
+  abbrev pub Hangs : Shape E → Type 0
+  Hangs (tip e) = IsEnd N e
+  Hangs (fork i p f b) = Unit {0}
+
+  pub front-hangs : (i p : ℕ) (f b : Shape E) → N .nodeAt i ≡ answer (recordOf p f b) → Hangs f
+  front-hangs i p (tip e) b q = record { of-node = i; record-of = recordOf p (tip e) b; read-as = q; side = Positive; is-end = refl }
+  front-hangs i p (fork j r g h) b q = tt
+
+  pub back-hangs : (i p : ℕ) (f b : Shape E) → N .nodeAt i ≡ answer (recordOf p f b) → Hangs b
+  back-hangs i p f (tip e) q = record { of-node = i; record-of = recordOf p f (tip e); read-as = q; side = Negative; is-end = refl }
+  back-hangs i p f (fork j r g h) q = tt
+
+  pub root-hangs : (s : Shape E) (n : ℕ) → top s ≡ node n → Hangs s
+  root-hangs (tip e) n q = let z : _≡_ {A = ℕ} 0 1 = cc in absurd (omega arith)
+  root-hangs (fork i p f b) n q = tt
 
 pub height-nodes : {E : Type 0} (s : Shape E) → height s ≤ length (nodesOf s)
 height-nodes (tip e) = omega arith

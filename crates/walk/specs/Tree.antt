@@ -56,6 +56,14 @@ module _ {E : Type 0} (N : Nodes E) where
     plane-outside : (n : ℕ) (nd : Node E) → r ≡ 30 → InTree root n → N .nodeAt n ≡ answer nd → N .planes ≤ nd .plane → Fails root r
     end-outside : (n : ℕ) (nd : Node E) (side : HyperplaneSide) (e : E) → r ≡ 30 → InTree root n → N .nodeAt n ≡ answer nd → childOn nd side ≡ end e → N .leafIn e ≡ false → Fails root r
 
+  -- the end e stands in a child's place of some node that can be read
+  pub record IsEnd (e : E) : Type 0 where
+    pub of-node : ℕ
+    pub record-of : Node E
+    pub read-as : N .nodeAt of-node ≡ answer record-of
+    pub side : HyperplaneSide
+    pub is-end : childOn record-of side ≡ end e
+
   -- the tree's height: the greatest depth of a node in it
   pub record Height (root h : ℕ) : Type 0 where
     pub most : (n : ℕ) (p : List HyperplaneSide) → Reach root p n → suc (length p) ≤ h
@@ -64,10 +72,10 @@ module _ {E : Type 0} (N : Nodes E) where
     pub leads : Reach root way deepest
     pub as-deep : suc (length way) ≡ h
 
--- planes and ends in range can be read, as for every file that loads
+-- planes in range, and ends of nodes that are in range, can be read, as for every file that loads
 pub record Reads {E A : Type 0} (T : Table E A) : Type 0 where
   pub planes-read : (p : ℕ) → p < T .nodes .planes → (h : Hyperplane) × (T .planeAt p ≡ answer h)
-  pub leaves-read : (e : E) → T .nodes .leafIn e ≡ true → (a : A) × (T .leafAt e ≡ answer a)
+  pub leaves-read : (e : E) → IsEnd (T .nodes) e → T .nodes .leafIn e ≡ true → (a : A) × (T .leafAt e ≡ answer a)
 
 -- each plane's distance is an f32, as for every plane made of an f32
 abbrev pub PlanesFit : {E A : Type 0} → Table E A → Type 0

@@ -23,6 +23,13 @@ use crate::words;
 /// the Rust's times move by a quarter with what runs between.
 const INPUTS: usize = 50_000;
 
+/// Points that move little: so many players, asked in turn, each of whom moves up to four units along
+/// each axis from one time that it is asked to the next.
+const PLAYERS: usize = 64;
+
+/// A map whose trees are not balanced, beside the generated ones, which are.
+const ROOMS: &[u8] = include_bytes!("../../../maps/rooms.bsp");
+
 /// Leaves asked for their lists a slice.
 const LISTS: usize = 1_000;
 
@@ -65,6 +72,9 @@ pub fn run(plan: &Plan) -> bool {
         of_map(&mut table, &mut seed, &file);
         equal &= table.equal;
     }
+    let mut table = Table { name: "rooms", slices: plan.cases, equal: true };
+    of_rooms(&mut table, &mut Seed::named(plan.seed, "rooms"), ROOMS);
+    equal &= table.equal;
     for call in ["bsp_load", "bsp_contents", "bsp_pvs", "bsp_tree_check"] {
         if !calls::is_linked(call) {
             println!("{call} and its group are the stub's");
@@ -130,28 +140,74 @@ fn timed(side: &mut (impl FnMut() -> u64 + ?Sized)) -> f64 {
     start.elapsed().as_nanos() as f64
 }
 
-fn of_map(table: &mut Table, seed: &mut Seed, file: &[u8]) {
+/// The words of a map's record, and the Rust's map.
+fn both(table: &mut Table, file: &[u8]) -> Option<([u32; 31], richter::Map)> {
     let mut map = [0u32; 31];
     let refusal = calls::load(file, &mut map);
     let Ok(rust) = richter::load(file) else { panic!("the Rust refuses {}", table.name) };
     if refusal != 0 {
         println!("{:<9} bsp_load refuses: {refusal}", table.name);
         table.equal = false;
-        return;
+        return None;
     }
+    Some((map, rust))
+}
+
+/// Point contents and leaf lookup on a real map: points anywhere in its box, and points that move little.
+fn of_rooms(table: &mut Table, seed: &mut Seed, file: &[u8]) {
+    let Some((map, rust)) = both(table, file) else { return };
+    let models = map[2 * 14] as usize;
+    let float = |n: usize| {
+        let at = models + 4 * n;
+        f32::from_le_bytes(file[at..at + 4].try_into().expect("four bytes"))
+    };
+    let mins = [0, 1, 2].map(float);
+    let maxs = [3, 4, 5].map(float);
+    let place = |seed: &mut Seed| {
+        [0, 1, 2].map(|n| mins[n] + (floats::half(seed) + 0.5) * (maxs[n] - mins[n]))
+    };
+    let anywhere: Vec<[f32; 3]> = (0..INPUTS).map(|_| place(seed)).collect();
+    let near = players(seed, place);
+    for (points, kind) in [(&anywhere, ""), (&near, ", near")] {
+        for (number, nodes) in [(1, "clip"), (0, "render")] {
+            let hull = rust.table(number).with_root(0);
+            let words = words::hull(number as u64, &hull);
+            contents(table, (file, &map, &words), &hull, &format!("{nodes}{kind}"), points);
+        }
+        find_leaf(table, (file, &map), &rust, kind, points);
+    }
+}
+
+/// Points of players that start anywhere.
+fn players(seed: &mut Seed, place: impl Fn(&mut Seed) -> [f32; 3]) -> Vec<[f32; 3]> {
+    let mut now: Vec<[f32; 3]> = (0..PLAYERS).map(|_| place(seed)).collect();
+    (0..INPUTS)
+        .map(|n| {
+            let player = &mut now[n % PLAYERS];
+            *player = player.map(|x| x + 8.0 * floats::half(seed));
+            *player
+        })
+        .collect()
+}
+
+fn of_map(table: &mut Table, seed: &mut Seed, file: &[u8]) {
+    let Some((map, rust)) = both(table, file) else { return };
     load(table, file);
     let points: Vec<[f32; 3]> = (0..INPUTS).map(|_| point(seed)).collect();
+    let near = players(&mut Seed::named(0, table.name), point);
     for (number, nodes) in [(1, "clip"), (0, "render")] {
         let hull = rust.table(number).with_root(0);
         let words = words::hull(number as u64, &hull);
         contents(table, (file, &map, &words), &hull, nodes, &points);
+        contents(table, (file, &map, &words), &hull, &format!("{nodes}, near"), &near);
         for (length, name) in [(100.0, "short"), (4000.0, "long")] {
             let segments: Vec<[f32; 6]> =
                 points.iter().map(|p| segment(seed, *p, length)).collect();
             traces(table, (file, &map, &words), &hull, &format!("{nodes}, {name}"), &segments);
         }
     }
-    find_leaf(table, (file, &map), &rust, &points);
+    find_leaf(table, (file, &map), &rust, "", &points);
+    find_leaf(table, (file, &map), &rust, ", near", &near);
     lists(table, seed, (file, &map), &rust);
     for (number, nodes) in [(1, "clip"), (0, "render")] {
         tree_check(table, (file, &map), number, nodes);
@@ -256,6 +312,7 @@ fn find_leaf(
     table: &mut Table,
     (file, map): (&[u8], &[u32]),
     rust: &richter::Map,
+    kind: &str,
     points: &[[f32; 3]],
 ) {
     let mut out = [0; 2];
@@ -274,7 +331,7 @@ fn find_leaf(
         sum
     };
     let mut other = || points.iter().map(|p| rust.bare_find_leaf(black_box(*p)) as u64).sum();
-    table.line("find_leaf", (points.len(), visits), ours, Some(&mut other));
+    table.line(&format!("find_leaf{kind}"), (points.len(), visits), ours, Some(&mut other));
 }
 
 fn lists(table: &mut Table, seed: &mut Seed, (file, map): (&[u8], &[u32]), rust: &richter::Map) {

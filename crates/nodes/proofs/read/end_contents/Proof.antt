@@ -1,5 +1,6 @@
--- `end_contents` meets its contract: a leaf's index (30), its place and its record (23); or contents by their code.
+-- `end_contents` meets its contract: a leaf's index (30), its place and its record (23); or contents by their code (23).
 -- Assumes nothing.
+use Rattle.walk.specs.Walk.{meet}
 use Rattle.nodes.proofs.Places.{within}
 use Rattle.nodes.proofs.Readers.{no-leaf, leaf-at, leaf-not, code-met}
 use borrow.Author.Needs.{needs}
@@ -52,9 +53,11 @@ enum-told : tie.Need-enum-told
 enum-told c = search needs
 
 returns-4 : tie.Need-returns-4
+unfolding meet
 returns-4 c = code-met _ _ _ _ (c .before .before .before .before .before .is-render .ensures) (c .before .before .before .before .if1 .left) _ _ (c .before .before .before .contents-of .ensures) (c .before .c .given .1)
 
 returns-5 : tie.Need-returns-5
+unfolding meet
 returns-5 c = code-met _ _ _ _ (c .before .before .before .before .is-render .ensures) (c .before .before .before .if1 .left) _ _ (c .before .before .contents-of .ensures) (c .enum-told .given .1)
 
 pub end-contents-spec : {M : Type 1} → statement M

@@ -12,7 +12,7 @@ is-render-requires : tie.Need-is-render-requires
 is-render-requires c κs = search needs
 
 onward-in-requires : tie.Need-onward-in-requires
-onward-in-requires c κs = let a = c .before .before .before .before .before .args in let p = c .before .before .before .before .before .pre in (node-inside (now (a .s)) (a .t) (now (a .nodes)) (now (a .planes)) (a .whole) (p .0) (c .before .if1 .taken) (c .is-render .result) (c .is-render .ensures) (a .index) (p .1), p .2)
+onward-in-requires c κs = let a = c .before .before .before .before .before .args in let p = c .before .before .before .before .before .pre in node-inside (now (a .s)) (a .t) (now (a .nodes)) (now (a .planes)) (a .whole) (p .0) (c .before .if1 .taken) (c .is-render .result) (c .is-render .ensures) (a .index) (p .1)
 
 returns : tie.Need-returns
 returns c = let a = c .before .before .before .before .before .before .args in let p = c .before .before .before .before .before .before .pre in let k = c .before .is-render .result in let is-k = c .before .is-render .ensures in ap (λ x. onwardAnswer x (c .onward-in .result)) (sym (own-table (now (a .s)) (a .t) (now (a .nodes)) (now (a .planes)) (a .whole) (p .0) (c .before .before .if1 .taken) k is-k)) ∙ whole-made (now (a .s)) (a .t) (now (a .nodes)) (now (a .planes)) (a .whole) (p .0) (c .before .before .if1 .taken) k is-k (a .index) (childToward (a .point)) (p .1) _ (c .onward-in .ensures)

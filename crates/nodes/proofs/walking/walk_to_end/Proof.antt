@@ -4,7 +4,7 @@
 use Prim.Native.Nat.{ℕ, suc, _+_, _-_, _≤_, _<_}
 use native.Mathlib.Omega.{arith}
 use denote.Ref.{now}
-use mathlib.Core.Path.{_≡_, refl, sym, ap, _∙_}
+use mathlib.Core.Path.{_≡_, sym, ap, _∙_}
 use Rattle.walk.specs.Walk.{after, withVisits, walk, pointWalk}
 use Rattle.walk.proofs.Steps.{walk-outside, walk-spent}
 use Rattle.nodes.specs.Fast as Fast
@@ -15,12 +15,12 @@ use Rattle.nodes.proofs.walking.walk_to_end.Statement.{statement}
 use Rattle.nodes.proofs.walking.walk_to_end.Tie as tie
 
 abbrev Inv-loop : tie.InvT-loop
-Inv-loop s t root x y z point along part limit whole nodes planes node₀ visits₀ node visits =
+Inv-loop s t root x y z point part limit whole nodes planes node₀ visits₀ node visits =
     (visits ≤ t .nodes .count)
     × (withVisits (pointWalk (ends (Fast.table s t)) root point) ≡ after visits (walk (ends (Fast.table s t)) (t .nodes .count - visits) node point))
 
 abbrev μ-loop : tie.MeasureT-loop
-μ-loop s t root x y z point along part limit whole nodes planes node₀ visits₀ node visits = t .nodes .count - visits
+μ-loop s t root x y z point part limit whole nodes planes node₀ visits₀ node visits = t .nodes .count - visits
 
 -- the nodes of the table, and those that may be entered after this one
 abbrev n : tie.At-loop Inv-loop μ-loop → ℕ
@@ -57,13 +57,13 @@ returns-2 : tie.Need-returns-2 Inv-loop μ-loop
 returns-2 c = sym (c .before .before .before .loop .inv .1 ∙ ap (after _) (walk-spent _ _ _ _ (omega arith) (c .before .if1 .left)))
 
 onward-from-requires : tie.Need-onward-from-requires Inv-loop μ-loop
-onward-from-requires c κs = (record { told = c .before .before .before .before .before .before .before .are-whole .ensures; its-nodes = c .before .before .before .before .before .before .node-bytes .ensures; its-planes = c .before .before .before .before .before .plane-bytes .ensures }, c .before .before .if1 .left, refl)
+onward-from-requires c κs = (record { told = c .before .before .before .before .before .before .are-whole .ensures; its-nodes = c .before .before .before .before .before .node-bytes .ensures; its-planes = c .before .before .before .before .plane-bytes .ensures }, c .before .if1 .left)
 
 enum-known-e : tie.Need-enum-known-e Inv-loop μ-loop
 enum-known-e c = search needs
 
 returns-3 : tie.Need-returns-3 Inv-loop μ-loop
-returns-3 c = let a = c .before .before .before .before .before .before .before .before .before .before .before .before .before .before .before .args in sym (c .before .before .before .before .before .before .before .before .loop .inv .1 ∙ step-refused (now (a .s)) (a .t) _ _ _ (j (c .before .before .before .before .before .before .before .before)) _ (falls (c .before .before .before .before .before .before .before .before) (c .before .before .before .before .before .if2 .left)) (c .before .before .before .before .before .before .if1 .left) (c .before .before .before .onward-from .result) (c .before .before .before .onward-from .ensures) _ (c .before .e .given .1))
+returns-3 c = let a = c .before .before .before .before .before .before .before .before .before .before .before .before .before .before .args in sym (c .before .before .before .before .before .before .before .loop .inv .1 ∙ step-refused (now (a .s)) (a .t) _ _ _ (j (c .before .before .before .before .before .before .before)) _ (falls (c .before .before .before .before .before .before .before) (c .before .before .before .before .if2 .left)) (c .before .before .before .before .before .if1 .left) (c .before .before .before .onward-from .result) (c .before .before .before .onward-from .ensures) _ (c .before .e .given .1))
 
 enum-known-word : tie.Need-enum-known-word Inv-loop μ-loop
 enum-known-word c = search needs
@@ -72,7 +72,7 @@ add-visits : tie.Need-add-visits Inv-loop μ-loop
 add-visits c = omega arith
 
 returns-4 : tie.Need-returns-4 Inv-loop μ-loop
-returns-4 c = let a = c .before .before .before .before .before .before .before .before .before .before .before .before .before .before .before .before .args in sym (c .before .before .before .before .before .before .before .before .before .loop .inv .1 ∙ step-end (now (a .s)) (a .t) _ _ _ (j (c .before .before .before .before .before .before .before .before .before)) _ (falls (c .before .before .before .before .before .before .before .before .before) (c .before .before .before .before .before .before .if2 .left)) (c .before .before .before .before .before .before .before .if1 .left) (c .before .before .before .before .onward-from .result) (c .before .before .before .before .onward-from .ensures) _ (c .before .before .word .given .1) (n (c .before .before .before .before .before .before .before .before .before)) (c .if3 .taken) (c .before .before .before .before .before .before .if2 .left) (omega arith))
+returns-4 c = let a = c .before .before .before .before .before .before .before .before .before .before .before .before .before .before .before .args in sym (c .before .before .before .before .before .before .before .before .loop .inv .1 ∙ step-end (now (a .s)) (a .t) _ _ _ (j (c .before .before .before .before .before .before .before .before)) _ (falls (c .before .before .before .before .before .before .before .before) (c .before .before .before .before .before .if2 .left)) (c .before .before .before .before .before .before .if1 .left) (c .before .before .before .before .onward-from .result) (c .before .before .before .before .onward-from .ensures) _ (c .before .before .word .given .1) (n (c .before .before .before .before .before .before .before .before)) (c .if3 .taken) (c .before .before .before .before .before .if2 .left) (omega arith))
 
 cast-node : tie.Need-cast-node Inv-loop μ-loop
 cast-node c = search needs
@@ -81,7 +81,7 @@ loop-less : tie.Need-loop-less Inv-loop μ-loop
 loop-less c = omega arith
 
 loop-again : tie.Need-loop-again Inv-loop μ-loop
-loop-again c = let a = c .before .before .before .before .before .before .before .before .before .before .before .before .before .before .before .before .args in (omega arith, c .before .before .before .before .before .before .before .before .before .loop .inv .1 ∙ step-node (now (a .s)) (a .t) _ _ _ (j (c .before .before .before .before .before .before .before .before .before)) _ (falls (c .before .before .before .before .before .before .before .before .before) (c .before .before .before .before .before .before .if2 .left)) (c .before .before .before .before .before .before .before .if1 .left) (c .before .before .before .before .onward-from .result) (c .before .before .before .before .onward-from .ensures) _ (c .before .before .word .given .1) (c .if3 .left))
+loop-again c = let a = c .before .before .before .before .before .before .before .before .before .before .before .before .before .before .before .args in (omega arith, c .before .before .before .before .before .before .before .before .loop .inv .1 ∙ step-node (now (a .s)) (a .t) _ _ _ (j (c .before .before .before .before .before .before .before .before)) _ (falls (c .before .before .before .before .before .before .before .before) (c .before .before .before .before .before .if2 .left)) (c .before .before .before .before .before .before .if1 .left) (c .before .before .before .before .onward-from .result) (c .before .before .before .before .onward-from .ensures) _ (c .before .before .word .given .1) (c .if3 .left))
 
 pub walk-to-end-spec : {M : Type 1} → statement M
 walk-to-end-spec =

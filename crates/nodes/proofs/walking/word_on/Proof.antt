@@ -1,13 +1,11 @@
 -- `word_on` meets its contract: by the plane's type.
 -- Assumes nothing.
-use denote.Ref.{now}
-use lib.Ieee.{nan, le}
-use lib.ListN.{getD}
+use lib.Ieee.{le}
 use mathlib.Core.Path.{ap, _∙_}
 use Rattle.math.specs.Plane.{pointSide}
 use Rattle.nodes.specs.Walks.{wordAt}
 use Rattle.nodes.proofs.Planes.{here-axis-side, here-slanted}
-use Rattle.nodes.proofs.Making.{on-the-side, by-axis}
+use Rattle.nodes.proofs.Making.{on-the-side}
 use borrow.Author.Needs.{needs}
 use Rattle.nodes.proofs.walking.word_on.Statement.{statement}
 use Rattle.nodes.proofs.walking.word_on.Tie as tie
@@ -24,20 +22,14 @@ add-u32-at c = search needs
 u32-at-requires : tie.Need-u32-at-requires
 u32-at-requires c κs = search needs
 
-cast-on-shifted : tie.Need-cast-on-shifted
-cast-on-shifted c = search needs
+along-requires : tie.Need-along-requires
+along-requires c κs = search needs
 
-mul-on-shifted : tie.Need-mul-on-shifted
-mul-on-shifted c = search needs
-
-element-copy-out-on-shifted : tie.Need-element-copy-out-on-shifted
-element-copy-out-on-shifted c = search needs
-
-on-shifted-requires : tie.Need-on-shifted-requires
-on-shifted-requires c κs = search needs
+on-requires : tie.Need-on-requires
+on-requires c κs = search needs
 
 returns : tie.Need-returns
-returns c = let a = c .before .before .before .before .before .before .args in c .on-shifted .ensures ∙ on-the-side (a .words) (le (c .before .before .before .before .f32-at .result) (getD (now (a .along)) (c .before .before .before .u32-at .result) nan)) ∙ ap (wordAt (a .words)) (here-axis-side _ _ _ _ (c .before .before .before .before .f32-at .ensures) (c .before .before .before .u32-at .ensures) _ _ (by-axis (a .point) (now (a .along)) (c .before .before .before .u32-at .result) nan (c .before .before .before .before .before .before .pre .1) (c .before .before .if1 .taken)) (c .before .before .if1 .taken))
+returns c = let a = c .before .before .before .before .before .before .args in c .on .ensures ∙ on-the-side (a .words) (le (c .before .before .before .before .f32-at .result) (c .before .along .result)) ∙ ap (wordAt (a .words)) (here-axis-side _ _ _ _ (c .before .before .before .before .f32-at .ensures) (c .before .before .before .u32-at .ensures) _ _ (c .before .along .ensures) (c .before .before .if1 .taken))
 
 normal-at-requires : tie.Need-normal-at-requires
 normal-at-requires c κs = search needs
@@ -51,11 +43,11 @@ point-side-requires c κs = search needs
 is-front-requires : tie.Need-is-front-requires
 is-front-requires c κs = search needs
 
-on-requires : tie.Need-on-requires
-on-requires c κs = search needs
+on-requires-2 : tie.Need-on-requires-2
+on-requires-2 c κs = search needs
 
 returns-2 : tie.Need-returns-2
-returns-2 c = let a = c .before .before .before .before .before .before .before .before .before .args in c .on .ensures ∙ on-the-side (a .words) (c .before .is-front .result) ∙ ap (wordAt (a .words)) (c .before .is-front .ensures ∙ c .before .before .point-side .ensures ∙ ap (λ h. pointSide h (a .point)) (here-slanted _ _ _ _ (c .before .before .before .before .before .before .before .f32-at .ensures) (c .before .before .before .before .before .before .u32-at .ensures) _ _ (c .before .before .before .before .normal-at .ensures) (c .before .before .before .new .ensures) (c .before .before .before .before .before .if1 .left)))
+returns-2 c = let a = c .before .before .before .before .before .before .before .before .before .args in c .on2 .ensures ∙ on-the-side (a .words) (c .before .is-front .result) ∙ ap (wordAt (a .words)) (c .before .is-front .ensures ∙ c .before .before .point-side .ensures ∙ ap (λ h. pointSide h (a .point)) (here-slanted _ _ _ _ (c .before .before .before .before .before .before .before .f32-at .ensures) (c .before .before .before .before .before .before .u32-at .ensures) _ _ (c .before .before .before .before .normal-at .ensures) (c .before .before .before .new .ensures) (c .before .before .before .before .before .if1 .left)))
 
 pub word-on-spec : {M : Type 1} → statement M
 word-on-spec =
@@ -65,14 +57,12 @@ word-on-spec =
     f32-at-requires
     add-u32-at
     u32-at-requires
-    cast-on-shifted
-    mul-on-shifted
-    element-copy-out-on-shifted
-    on-shifted-requires
+    along-requires
+    on-requires
     returns
     normal-at-requires
     new-requires
     point-side-requires
     is-front-requires
-    on-requires
+    on-requires-2
     returns-2)
