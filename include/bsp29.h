@@ -146,13 +146,18 @@ enum bsp_section {
 /* Node tables. A box has six nodes of its own and reads no file. */
 enum bsp_table { BSP_TABLE_RENDER = 0, BSP_TABLE_CLIP = 1, BSP_TABLE_BOX = 2 };
 
-/* Contents codes. There are no others. */
+/*
+ * Contents codes. There are no others: 7 and 8 are refused. Sky is a kind of its own and not solid: a
+ * trace goes through it as through water. In the Quake Specifications it is the contents of the open
+ * air above a map; the engine richter refuses it.
+ */
 enum bsp_contents_code {
     BSP_EMPTY = 1,
     BSP_SOLID = 2,
     BSP_WATER = 3,
     BSP_SLIME = 4,
     BSP_LAVA = 5,
+    BSP_SKY = 6,
     BSP_CURRENT_0 = 9,
     BSP_CURRENT_90 = 10,
     BSP_CURRENT_180 = 11,
@@ -458,7 +463,7 @@ uint32_t bsp_trace_nodes(const uint8_t *file, size_t file_length,
 
 /*
  * The contents that a point of a box may have, for one who is known only to be somewhere in it: the
- * set in out[0], bit n for the code n (enum bsp_contents), so that Empty is 2 and Solid 4. Each plane
+ * set in out[0], bit n for the code n (enum bsp_contents_code), so that Empty is 2, Solid 4 and Sky 64. Each plane
  * sends the box to the side on which its eight corners lie, or to both. Every point in the box, its
  * bounds counted, has contents of the set; a box of one point has that point's contents alone. The set
  * may also hold contents that no point of the box has.

@@ -8,6 +8,8 @@ rooms.bsp     two rooms with a doorway between them, water in the western room a
               x = -128 and 128, y = -128 and 128, z = -64 and 64; the wall between the rooms is 16
               thick, the doorway 64 wide. The water is 32 deep. The ramp begins at x = 48 and rises
               3 for every 4.
+yard.bsp      a yard under the open sky. The walls are at x = -128 and 128, y = -128 and 128, the floor
+              at z = -64. The sky begins at z = 64 and ends at z = 256; beyond it is solid.
 """
 import os
 import struct
@@ -18,7 +20,10 @@ SECTIONS = ["entities", "planes", "textures", "vertices", "visibility", "render 
 HEADER = 4 + 8 * len(SECTIONS)
 
 # contents codes; a file stores them negated
-EMPTY, SOLID, WATER = 1, 2, 3
+EMPTY, SOLID, WATER, SKY = 1, 2, 3, 6
+
+# mins and maxs of what moves in the hulls 1 and 2
+SIZES = [([-16, -16, -24], [16, 16, 32]), ([-32, -32, -24], [32, 32, 64])]
 
 
 def bsp(parts):
@@ -121,11 +126,10 @@ def trees():
     # leaf n is the end -1 - n; leaf 0 is what is solid
     leaves = {"solid": -1, "west": -2, "water": -3, "door": -4, "east": -5, "empty": -6}
     codes = {name: -SOLID if name == "solid" else -EMPTY for name in leaves}
-    sizes = [([-16, -16, -24], [16, 16, 32]), ([-32, -32, -24], [32, 32, 64])]
     roots = []
     for shape in [world, door]:
         point = render.add(shape(planes, [0, 0, 0], [0, 0, 0], leaves))
-        roots.append([point] + [clip.add(shape(planes, *size, codes)) for size in sizes])
+        roots.append([point] + [clip.add(shape(planes, *size, codes)) for size in SIZES])
     return planes, render, clip, roots
 
 
@@ -184,9 +188,42 @@ def rooms():
     })
 
 
+def open_air(planes, mins, maxs, end):
+    """The yard for something of a size: walls and floor are moved by it, the sky is not."""
+    low = [-128 - mins[0], -128 - mins[1], -64 - mins[2]]
+    high = [128 - maxs[0], 128 - maxs[1], 256 - maxs[2]]
+    return inside(planes, low, high, (planes.axis("z", 64), end["sky"], end["yard"]), end["solid"])
+
+
+def yard():
+    planes = Planes()
+    render = Nodes(lambda plane, front, back: struct.pack("<ihh6hHH", plane, front, back, -128, -128, -64, 128, 128, 256, 0, 0))
+    clip = Nodes(lambda plane, front, back: struct.pack("<ihh", plane, front, back))
+    # leaf n is the end -1 - n; leaf 0 is what is solid
+    roots = [render.add(open_air(planes, [0, 0, 0], [0, 0, 0], {"solid": -1, "yard": -2, "sky": -3}))]
+    for size in SIZES:
+        roots.append(clip.add(open_air(planes, *size, {"solid": -SOLID, "yard": -EMPTY, "sky": -SKY})))
+    leaves = [
+        leaf(SOLID, -1, (0, 0, 0), (0, 0, 0), (0, 0)),
+        leaf(EMPTY, 0, (-128, -128, -64), (128, 128, 64), (0, 0)),
+        leaf(SKY, 0, (-128, -128, 64), (128, 128, 256), (0, 0), (0, 200, 0, 0)),
+    ]
+    return bsp({
+        "entities": b'{\n"classname" "worldspawn"\n"message" "a yard"\n}\n\0',
+        "planes": b"".join(planes.rows),
+        "textures": struct.pack("<i", 0),
+        # one row for both leaves: each sees both
+        "visibility": bytes([0b11]),
+        "render nodes": b"".join(render.rows),
+        "clip nodes": b"".join(clip.rows),
+        "leaves": b"".join(leaves),
+        "models": model((-128, -128, -64), (128, 128, 256), roots, 2, 0, 0),
+    })
+
+
 def main():
     here = os.path.dirname(os.path.abspath(__file__))
-    for name, data in [("smallest.bsp", smallest()), ("rooms.bsp", rooms())]:
+    for name, data in [("smallest.bsp", smallest()), ("rooms.bsp", rooms()), ("yard.bsp", yard())]:
         with open(os.path.join(here, name), "wb") as f:
             f.write(data)
         print(f"{name}: {len(data)} bytes")

@@ -87,6 +87,7 @@ static inline const char *contents_name(uint64_t code)
     case BSP_WATER: return "Water";
     case BSP_SLIME: return "Slime";
     case BSP_LAVA: return "Lava";
+    case BSP_SKY: return "Sky";
     case BSP_CURRENT_0: return "Current0";
     case BSP_CURRENT_90: return "Current90";
     case BSP_CURRENT_180: return "Current180";

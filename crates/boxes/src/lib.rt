@@ -42,6 +42,7 @@ fn only(contents: BspLeafContents) -> u32
         BspLeafContents::Water => 8,
         BspLeafContents::Slime => 16,
         BspLeafContents::Lava => 32,
+        BspLeafContents::Sky => 64,
         BspLeafContents::Current0 => 512,
         BspLeafContents::Current90 => 1024,
         BspLeafContents::Current180 => 2048,

@@ -18,7 +18,7 @@ use Rattle.format.specs.Layout as Layout
 use Rattle.format.specs.Contents.{codeOf}
 use Rattle.format.specs.Code.{contentsOf, contentsOfSigned, negatedContents}
 use Rattle.format.specs.declared.contents.BspLeafContents.{BspLeafContents}
-use Rattle.format.specs.declared.contents.BspLeafContents.the-variants.{Empty, Solid, Water, Slime, Lava, Current0, Current90, Current180, Current270, CurrentUp, CurrentDown}
+use Rattle.format.specs.declared.contents.BspLeafContents.the-variants.{Empty, Solid, Water, Slime, Lava, Sky, Current0, Current90, Current180, Current270, CurrentUp, CurrentDown}
 use Rattle.format.specs.declared.code.CodedContents.the-variants.{Contents, Invalid}
 
 -- the code of some contents stands for them
@@ -29,6 +29,7 @@ code-stands Solid = refl
 code-stands Water = refl
 code-stands Slime = refl
 code-stands Lava = refl
+code-stands Sky = refl
 code-stands Current0 = refl
 code-stands Current90 = refl
 code-stands Current180 = refl
@@ -66,7 +67,7 @@ pub high : (n : ℕ) → 14 < n → contentsOf n ≡ Invalid
 unfolding contentsOf
 high n h =
     simp
-    (ne-eqb n 1 (λ e. omega arith), ne-eqb n 2 (λ e. omega arith), ne-eqb n 3 (λ e. omega arith), ne-eqb n 4 (λ e. omega arith), ne-eqb n 5 (λ e. omega arith), ne-eqb n 9 (λ e. omega arith), ne-eqb n 10 (λ e. omega arith), ne-eqb n 11 (λ e. omega arith), ne-eqb n 12 (λ e. omega arith), ne-eqb n 13 (λ e. omega arith), ne-eqb n 14 (λ e. omega arith))
+    (ne-eqb n 1 (λ e. omega arith), ne-eqb n 2 (λ e. omega arith), ne-eqb n 3 (λ e. omega arith), ne-eqb n 4 (λ e. omega arith), ne-eqb n 5 (λ e. omega arith), ne-eqb n 6 (λ e. omega arith), ne-eqb n 9 (λ e. omega arith), ne-eqb n 10 (λ e. omega arith), ne-eqb n 11 (λ e. omega arith), ne-eqb n 12 (λ e. omega arith), ne-eqb n 13 (λ e. omega arith), ne-eqb n 14 (λ e. omega arith))
 
 module _ (w : Width) (big : 14 < 2 ^ hbits w) where
   top : (k : ℕ) → k < 2 ^ hbits w → (b : Bool) → ltb (suc k) (2 ^ hbits w) ≡ b → contentsOfSigned (toZ w (suc k)) ≡ contentsOf (suc k)
@@ -108,8 +109,8 @@ named (suc (suc (suc (suc (suc (suc (suc (suc (suc (suc (suc (suc zero))))))))))
 named (suc (suc (suc (suc (suc (suc (suc (suc (suc (suc (suc (suc (suc zero))))))))))))) = refl
 named (suc (suc (suc (suc (suc (suc (suc (suc (suc (suc (suc (suc (suc (suc k)))))))))))))) = high (suc (suc (suc (suc (suc (suc (suc (suc (suc (suc (suc (suc (suc (suc k))))))))))))) + 1) (omega arith)
 
--- Every number that a field of a file can hold stands for the contents that the specifications name by it; for sky, origin and clip, and for
--- any other number, the Rust has none.
+-- Every number that a field of a file can hold stands for the contents that the specifications name by it, sky among them; origin and clip, and
+-- any other number, for none.
 pub codes : (w : Width) → 14 < 2 ^ hbits w → (z : ℤ) → SFits w z → negatedContents w z ≡ Layout.contentsNamed z
 codes w big (pos n) fit = above w big (pos n) fit (le-ltb n 0 zero-le)
 codes w big (negsuc k) fit = below w big (negsuc k) fit refl ∙ named k

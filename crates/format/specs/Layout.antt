@@ -10,7 +10,7 @@ use mir.Syntax.{Width, w8, w16, w32}
 use mir.Val.{toZ}
 use Rattle.format.specs.declared.section.BspFileSectionId.{BspFileSectionId}
 use Rattle.format.specs.declared.section.BspFileSectionId.the-variants.{Entities, Planes, Textures, Vertices, Visibility, RenderNodes, TextureInfo, Faces, Lightmaps, CollisionNodes, Leaves, FaceList, Edges, EdgeList, Models}
-use Rattle.format.specs.declared.contents.BspLeafContents.the-variants.{Empty, Solid, Water, Slime, Lava, Current0, Current90, Current180, Current270, CurrentUp, CurrentDown}
+use Rattle.format.specs.declared.contents.BspLeafContents.the-variants.{Empty, Solid, Water, Slime, Lava, Sky, Current0, Current90, Current180, Current270, CurrentUp, CurrentDown}
 use Rattle.format.specs.declared.code.CodedContents.{CodedContents}
 use Rattle.format.specs.declared.code.CodedContents.the-variants.{Contents, Invalid}
 
@@ -163,7 +163,7 @@ recordSize EdgeList = edgeList .size
 recordSize Models = model .size
 
 -- The contents of the codes −1 to −14: empty, solid, water, slime, lava, sky, origin, clip, the currents by their angle, up and down. The Rust
--- has no name for sky, origin and clip.
+-- has no name for sky, origin and clip; sky is taken (document 02, note 1), origin and clip are not.
 abbrev pub contents : List CodedContents
 contents =
     Contents Empty
@@ -171,7 +171,7 @@ contents =
     ∷ Contents Water
     ∷ Contents Slime
     ∷ Contents Lava
-    ∷ Invalid
+    ∷ Contents Sky
     ∷ Invalid
     ∷ Invalid
     ∷ Contents Current0

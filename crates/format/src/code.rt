@@ -10,7 +10,7 @@ pub enum CodedContents {
     Invalid,
 }
 
-// The contents of a code: 1 to 5 and 9 to 14.
+// The contents of a code: 1 to 6 and 9 to 14.
 pub fn contents_of(code: u32) -> CodedContents
     ensures { λ r. ⌜ r ≡ Code.contentsOf code ⌝ }
 {
@@ -20,6 +20,7 @@ pub fn contents_of(code: u32) -> CodedContents
         3 => CodedContents::Contents(BspLeafContents::Water),
         4 => CodedContents::Contents(BspLeafContents::Slime),
         5 => CodedContents::Contents(BspLeafContents::Lava),
+        6 => CodedContents::Contents(BspLeafContents::Sky),
         9 => CodedContents::Contents(BspLeafContents::Current0),
         10 => CodedContents::Contents(BspLeafContents::Current90),
         11 => CodedContents::Contents(BspLeafContents::Current180),

@@ -25,9 +25,9 @@ use Rattle.nodes.specs.declared.table.HullTable.the-variants.{Clip}
 use Rattle.nodes.proofs.Numbers.{low, high-code, i16-is, index-is, index-not}
 use Rattle.nodes.proofs.Sections.{within-u16, within-u32}
 
--- ---- which codes stand for contents: 1 to 5 and 9 to 14
+-- ---- which codes stand for contents: 1 to 6 and 9 to 14
 
-pub few : (n : ℕ) → 1 ≤ n → n ≤ 5 → isInvalid (contentsOf n) ≡ false
+pub few : (n : ℕ) → 1 ≤ n → n ≤ 6 → isInvalid (contentsOf n) ≡ false
 unfolding contentsOf
 few zero a b = absurd (omega arith)
 few (suc zero) a b = refl
@@ -35,13 +35,14 @@ few (suc (suc zero)) a b = refl
 few (suc (suc (suc zero))) a b = refl
 few (suc (suc (suc (suc zero)))) a b = refl
 few (suc (suc (suc (suc (suc zero))))) a b = refl
-few (suc (suc (suc (suc (suc (suc n)))))) a b = absurd (omega arith)
+few (suc (suc (suc (suc (suc (suc zero)))))) a b = refl
+few (suc (suc (suc (suc (suc (suc (suc n))))))) a b = absurd (omega arith)
 
-pub between : (n : ℕ) → 5 < n → n < 9 → isInvalid (contentsOf n) ≡ true
+pub between : (n : ℕ) → 6 < n → n < 9 → isInvalid (contentsOf n) ≡ true
 unfolding contentsOf
 between n a b =
     simp
-    (ne-eqb n 1 (λ e. omega arith), ne-eqb n 2 (λ e. omega arith), ne-eqb n 3 (λ e. omega arith), ne-eqb n 4 (λ e. omega arith), ne-eqb n 5 (λ e. omega arith), ne-eqb n 9 (λ e. omega arith), ne-eqb n 10 (λ e. omega arith), ne-eqb n 11 (λ e. omega arith), ne-eqb n 12 (λ e. omega arith), ne-eqb n 13 (λ e. omega arith), ne-eqb n 14 (λ e. omega arith))
+    (ne-eqb n 1 (λ e. omega arith), ne-eqb n 2 (λ e. omega arith), ne-eqb n 3 (λ e. omega arith), ne-eqb n 4 (λ e. omega arith), ne-eqb n 5 (λ e. omega arith), ne-eqb n 6 (λ e. omega arith), ne-eqb n 9 (λ e. omega arith), ne-eqb n 10 (λ e. omega arith), ne-eqb n 11 (λ e. omega arith), ne-eqb n 12 (λ e. omega arith), ne-eqb n 13 (λ e. omega arith), ne-eqb n 14 (λ e. omega arith))
 
 many : (m : ℕ) → m ≤ 5 → isInvalid (contentsOf (9 + m)) ≡ false
 unfolding contentsOf
@@ -71,10 +72,10 @@ module _ (w : ℕ) where
   pub a-current : 65522 ≤ w → w < 65528 → false ≡ invalid w
   a-current a b = by-code (omega arith) false (currents (65536 - w) (omega arith) (omega arith))
 
-  pub no-contents : 65528 ≤ w → w < 65531 → true ≡ invalid w
+  pub no-contents : 65528 ≤ w → w < 65530 → true ≡ invalid w
   no-contents a b = by-code (omega arith) true (between (65536 - w) (omega arith) (omega arith))
 
-  pub first-contents : 65531 ≤ w → w < 65536 → false ≡ invalid w
+  pub first-contents : 65530 ≤ w → w < 65536 → false ≡ invalid w
   first-contents a b = by-code (omega arith) false (few (65536 - w) (omega arith) (omega arith))
 
   -- the words in the order of 14 more than each
@@ -83,14 +84,14 @@ module _ (w : ℕ) where
     turned-high h = too-high (omega arith) (omega arith)
 
     module _ (h : x ≤ 32781) (y : ℕ) (is-y : (y + 6) % 65536 ≡ x) (fits-y : y < 65536) where
-      by-half : 3 ≤ y → (b : Bool) → ltb w 32768 ≡ b → (c : Bool) → ltb w 65528 ≡ c → false ≡ invalid w
+      by-half : 2 ≤ y → (b : Bool) → ltb w 32768 ≡ b → (c : Bool) → ltb w 65528 ≡ c → false ≡ invalid w
       by-half g true q c r = is-node (ltb-true w 32768 q)
       by-half g false q true r = let l = ltb-false w 32768 q in let m = ltb-true w 65528 r in a-current (omega arith) m
       by-half g false q false r = let l = ltb-false w 65528 r in first-contents (omega arith) fits
 
-      pub turned-low : (b : Bool) → ltb y 3 ≡ b → b ≡ invalid w
-      turned-low true q = let g = ltb-true y 3 q in no-contents (omega arith) (omega arith)
-      turned-low false q = by-half (ltb-false y 3 q) (ltb w 32768) refl (ltb w 65528) refl
+      pub turned-low : (b : Bool) → ltb y 2 ≡ b → b ≡ invalid w
+      turned-low true q = let g = ltb-true y 2 q in no-contents (omega arith) (omega arith)
+      turned-low false q = by-half (ltb-false y 2 q) (ltb w 32768) refl (ltb w 65528) refl
 
 -- a child's word w
 module _ (s : List ℕ) (at w : ℕ) (e : w ≡ u16 s at) (fits : w < 65536) (h : at + 2 ≤ length s) where

@@ -19,8 +19,8 @@ use format::refusal::Refusal;
 use math::Hyperplane;
 use math::Vector3;
 
-// Whether the word of a clip node's child is neither a node nor contents: the codes are 65536 less it, 1 to 5 and 9 to 14. With 14 added
-// to them, the words of these contents are 0 to 5 and 9 to 13, and the nodes 14 to 32781.
+// Whether the word of a clip node's child is neither a node nor contents: the codes are 65536 less it, 1 to 6 and 9 to 14. With 14 added
+// to them, the words of these contents are 0 to 5 and 8 to 13, and the nodes 14 to 32781.
 pub fn is_invalid(word: u16) -> bool
     ensures { λ r. ⌜ r ≡ Fast.invalid word ⌝ }
 {
@@ -29,7 +29,7 @@ pub fn is_invalid(word: u16) -> bool
         return true;
     }
     let y = std::num::wrapping_sub_u16(x, 6);
-    y < 3
+    y < 2
 }
 
 // The words of a clip node, of a file that has the bytes at some place.

@@ -8,12 +8,12 @@ use lib.Ieee.{Float, fin, nan}
 use lib.ListN.{replicate}
 use Rattle.float.specs.Whole.{ofWhole}
 use Rattle.math.specs.Vector.{vector}
-use Rattle.math.specs.Plane.{withNormal}
+use Rattle.math.specs.Plane.{axisX, withNormal}
 use Rattle.math.specs.declared.Vector3.{Vector3}
 use Rattle.format.specs.Answer.{Answer, answer, refused, mapped, thenAnswer}
 use Rattle.format.specs.Listed.{Listed, listed, into}
 use Rattle.format.specs.declared.contents.BspLeafContents.{BspLeafContents}
-use Rattle.format.specs.declared.contents.BspLeafContents.the-variants.{Empty, Solid}
+use Rattle.format.specs.declared.contents.BspLeafContents.the-variants.{Empty, Solid, Sky}
 use Rattle.format.specs.declared.section.BspData.{BspData}
 use Rattle.format.specs.declared.section.BspFileSection.{BspFileSection}
 use Rattle.phys.specs.Trace as Tr
@@ -88,9 +88,9 @@ smallest version models =
 abbrev pub sectionAt : ℕ → ℕ → BspFileSection
 sectionAt offset size = record { offset = offset; size = size }
 
--- a map record with these sections of entities, planes, textures, clip nodes and models, and no others
-abbrev pub mapWith : BspFileSection → BspFileSection → BspFileSection → BspFileSection → BspFileSection → BspData
-mapWith entities planes textures clip models = record {
+-- a map record with these sections of entities, planes, textures, clip nodes, leaves and models, and no others
+abbrev pub mapWith : BspFileSection → BspFileSection → BspFileSection → BspFileSection → BspFileSection → BspFileSection → BspData
+mapWith entities planes textures clip leaves models = record {
   entities = entities;
   planes = planes;
   textures = textures;
@@ -101,7 +101,7 @@ mapWith entities planes textures clip models = record {
   faces = sectionAt 0 0;
   lightmaps = sectionAt 0 0;
   «collision_nodes» = clip;
-  leaves = sectionAt 0 0;
+  leaves = leaves;
   facelist = sectionAt 0 0;
   edges = sectionAt 0 0;
   edgelist = sectionAt 0 0;
@@ -111,7 +111,7 @@ mapWith entities planes textures clip models = record {
 
 -- what loading answers for the 193-byte map
 abbrev pub smallestMap : BspData
-smallestMap = mapWith (sectionAt 124 1) (sectionAt 0 0) (sectionAt 125 4) (sectionAt 0 0) (sectionAt 129 64)
+smallestMap = mapWith (sectionAt 124 1) (sectionAt 0 0) (sectionAt 125 4) (sectionAt 0 0) (sectionAt 0 0) (sectionAt 129 64)
 
 -- The 193-byte map with further sections: 88 bytes for those from the vertices to the edge list, and the bytes that follow the model at 193.
 abbrev pub furnished : List ℕ → List ℕ → List ℕ
@@ -125,6 +125,13 @@ cutVisibility = furnished (replicate 8 0 ++ (word 190 ++ (word 10 ++ replicate 7
 -- a leaf at 193 that is Empty, of whose 28 bytes the file has 25: one of its four sound bytes
 abbrev pub cutSounds : List ℕ
 cutSounds = furnished (replicate 56 0 ++ (word 193 ++ (word 28 ++ replicate 24 0))) (replicate 4 255 ++ replicate 21 0)
+
+-- a leaf at 193 whose contents have the low byte given and 255 in the others
+abbrev pub leafHolds : ℕ → List ℕ
+leafHolds low = furnished (replicate 56 0 ++ (word 193 ++ (word 28 ++ replicate 24 0))) (low ∷ replicate 3 255 ++ replicate 24 0)
+
+abbrev pub leafMap : BspData
+leafMap = mapWith (sectionAt 124 1) (sectionAt 0 0) (sectionAt 125 4) (sectionAt 0 0) (sectionAt 193 28) (sectionAt 129 64)
 
 -- a render node at 193 and a leaf at 217; both children of the node have the low byte given and the high byte 255
 abbrev pub oneLeaf : ℕ → List ℕ
@@ -162,7 +169,7 @@ abbrev pub clipFile : List ℕ → List ℕ → List ℕ
 clipFile first second = word 0 ++ (first ++ (word 0 ++ (second ++ (replicate 20 0))))
 
 abbrev pub clipMap : BspData
-clipMap = mapWith (sectionAt 0 0) (sectionAt 16 20) (sectionAt 0 0) (sectionAt 0 16) (sectionAt 0 0)
+clipMap = mapWith (sectionAt 0 0) (sectionAt 16 20) (sectionAt 0 0) (sectionAt 0 16) (sectionAt 0 0) (sectionAt 0 0)
 
 abbrev pub checkClip : List ℕ → List ℕ → List ℕ → Said
 checkClip first second marks = check (treeCheck (nodesOf (clipFile first second) clipMap Clip) marks 0)
@@ -245,4 +252,14 @@ trials =
     -- a word that is a contents code, and one that is none
     ∷ (metInClip 65534 gives contents (answer (Solid, 0)))
     ∷ (metInClip 65529 gives contents (refused 23))
+    -- Document 02, note 1. A leaf with contents -6 loads; one with -7 is refused with 10, and so is a clip node's child -7 (23 in a walk)
+    ∷ (loading (loadOf (leafHolds 250)) gives loading (answer leafMap))
+    ∷ (loading (loadOf (leafHolds 249)) gives loading (refused 10))
+    ∷ (inClip (249 ∷ 255 ∷ 255 ∷ 255 ∷ []) (255 ∷ 255 ∷ 254 ∷ 255 ∷ []) (onX one) gives contents (refused 23))
+    -- sky in front of the plane x = 0 and solid behind it: a point there is in Sky, which is not Solid; a trace goes through it to the plane
+    ∷ (inClip (250 ∷ 255 ∷ 254 ∷ 255 ∷ []) (255 ∷ 255 ∷ 254 ∷ 255 ∷ []) (onX one) gives contents (answer (Sky, 1)))
+    ∷ (throughClip (250 ∷ 255 ∷ 254 ∷ 255 ∷ []) (255 ∷ 255 ∷ 254 ∷ 255 ∷ []) (onX one) (onX minusOne)
+    gives tracedFrom (onX one) (Tr.boundary (onX zero32) half (axisX zero32)) Sky false 1)
+    -- sky on both sides of the plane: the trace goes on behind it, to its end
+    ∷ (throughClip (250 ∷ 255 ∷ 250 ∷ 255 ∷ []) (255 ∷ 255 ∷ 254 ∷ 255 ∷ []) (onX one) (onX minusOne) gives tracedFrom (onX one) (Tr.terminal (onX minusOne)) Sky false 1)
     ∷ []

@@ -64,7 +64,7 @@ fn a_table(seed: &mut Seed) -> Made {
 
 /// Both tables of a file, from some root, with boxes of every size; now and then a map record made by
 /// hand.
-fn on_file(board: &mut Board, calls: &Calls, seed: &mut Seed, made: &Made, case: u64) {
+pub fn on_file(board: &mut Board, calls: &Calls, seed: &mut Seed, made: &Made, case: u64) {
     let rust = richter::load(&made.file).ok();
     let mut map = made.map;
     let by_hand = seed.once_in(5);

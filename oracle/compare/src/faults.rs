@@ -101,9 +101,9 @@ impl Faults {
         self.long(TEXINFOS, 36, 2);
         self.faces();
         self.long(CLIP_NODES, 0, -1);
-        self.short(CLIP_NODES, 4, -6);
+        self.short(CLIP_NODES, 4, -7);
         self.short(CLIP_NODES, 6, -32768);
-        for contents in [0, -6, i32::MIN] {
+        for contents in [0, -7, i32::MIN] {
             self.long(LEAVES, 0, contents);
         }
         self.long(LEAVES, 4, -2);

@@ -224,7 +224,8 @@ fn repacked(map: &paper::Map, keep: &[usize]) -> Option<richter::Map> {
 /// Every section but the entities and the textures.
 const ALL: [usize; 13] = [1, 3, 4, 5, 6, 7, 8, 9, 10, 11, 12, 13, 14];
 
-fn one(board: &mut Board, asked: &Asked, seed: &mut Seed) {
+/// Every call on a file with a map record.
+pub fn one(board: &mut Board, asked: &Asked, seed: &mut Seed) {
     let map = asked.paper();
     let whole = repacked(&map, &ALL);
     records(board, asked, seed, whole.as_ref());

@@ -39,7 +39,7 @@ fn trace(seed: &mut Seed) -> richter::Trace {
         start_ratio: cases::float(seed),
         end: cases::vector(seed),
         boundary,
-        contents: [1, 2, 2, 3][seed.below(4) as usize],
+        contents: [1, 2, 2, 3, 6][seed.below(5) as usize],
         start_solid: seed.once_in(2),
     }
 }

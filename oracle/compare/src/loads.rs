@@ -80,6 +80,19 @@ fn texture_count(file: &[u8]) -> Option<u32> {
     Some(u32::from_le_bytes(count.try_into().unwrap()))
 }
 
+/// One file beside the Rust, and every query of it if it loads.
+pub fn one(
+    board: &mut Board,
+    calls: &Calls,
+    seed: &Seed,
+    name: impl Fn() -> String,
+    file: &[u8],
+) {
+    let mut loads = Loads { board: std::mem::take(board), calls, seed: seed.clone() };
+    loads.one(name, file);
+    *board = loads.board;
+}
+
 impl Loads<'_> {
     /// One file, and every query of it if it loads.
     fn one(&mut self, name: impl Fn() -> String, file: &[u8]) {

@@ -25,6 +25,7 @@ mod replay;
 mod root_time;
 mod sample;
 mod sizes;
+mod sky;
 mod stub;
 mod tables;
 mod tally;
@@ -102,6 +103,7 @@ fn run(mode: &str, given: &Arguments) -> bool {
         "boxes" => boxes::run(&given.plan(10_000)),
         "pvs" => pvs::run(&given.plan(20_000)),
         "loads" => loads::run(&given.plan(5_000)),
+        "sky" => sky::run(&given.plan(5_000)),
         "sample" => sample::run(given.path(), given.number("--seed", 1), !given.has("--no-nodes")),
         "bench" => bench::run(&given.plan(30)),
         "rust-facts" => facts::run(),

@@ -247,7 +247,7 @@ fn trace(at: *const u32, length: usize) -> TraceParts {
     let given = unsafe { std::slice::from_raw_parts(at, length) };
     let word = |at: usize| given.get(at).copied().unwrap_or(0);
     let mut t = [0; 16];
-    t[0] = if matches!(word(0), 1..=5 | 9..=14) { word(0) } else { 1 };
+    t[0] = if matches!(word(0), 1..=6 | 9..=14) { word(0) } else { 1 };
     t[1] = (word(1) != 0) as u32;
     for (at, t) in t.iter_mut().enumerate().take(9).skip(2) {
         *t = same(word(at));

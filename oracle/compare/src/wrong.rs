@@ -3,7 +3,9 @@
 use crate::board::{Board, Plan};
 use crate::calls::Calls;
 use crate::calls_stub as stub;
-use crate::{all, boxes, coverage, hand_made, joins, loads, pvs, records, replay, sample, tree, walks};
+use crate::{
+    all, boxes, coverage, hand_made, joins, loads, pvs, records, replay, sample, sky, tree, walks,
+};
 
 const PLAN: Plan = Plan { cases: 250, from: 0, seed: 7, quick: true };
 
@@ -31,7 +33,7 @@ fn right() -> Calls {
     }
 }
 
-const MODES: [Compare; 8] = [
+const MODES: [Compare; 9] = [
     records::compare,
     hand_made::compare,
     walks::compare,
@@ -39,6 +41,7 @@ const MODES: [Compare; 8] = [
     boxes::compare,
     pvs::compare,
     loads::compare,
+    sky::compare,
     joins::compare,
 ];
 
@@ -515,5 +518,17 @@ wrong! {
     loads: surrogates_taken, load, "bsp_load", |f, m| match stub::bsp_load(f, m) {
         9 if f.ends_with(&[0xed, 0xa0, 0x80, 0]) => 7,
         refusal => refusal,
+    };
+
+    sky: sky_is_refused, load, "bsp_load", |f, m| match stub::bsp_load(f, m) {
+        // the first leaf's contents
+        0 if m[21] > 0 && f[m[20] as usize] == 250 => 10,
+        refusal => refusal,
+    };
+    sky: a_leaf_of_sky_is_solid, record, "bsp_record", |f, m, s, i, o| {
+        changed(stub::bsp_record(f, m, s, i, o), o, |o| if s == 10 { swap(&mut o[0], 6, 2) })
+    };
+    sky: sky_has_no_bit, contents_box, "bsp_contents_box", |f, m, h, b, marks, o| {
+        changed(stub::bsp_contents_box(f, m, h, b, marks, o), o, |o| o[0] &= !64)
     };
 }

@@ -8,6 +8,7 @@
 //! - `world`: a tree that divides a box evenly, as a map compiler makes it, for timing
 //! - `damage`: cut and changed copies
 //! - `query`: points and segments
+//! - `sky`: contents that the published Rust refuses, put into a map
 
 pub mod damage;
 pub mod floats;
@@ -16,6 +17,7 @@ pub mod query;
 pub mod record;
 pub mod seed;
 pub mod shape;
+pub mod sky;
 pub mod world;
 
 pub use make::{make, Plan};

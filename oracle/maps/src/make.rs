@@ -27,7 +27,7 @@ pub struct Plan {
     pub odd_layout: bool,
 }
 
-/// The contents codes that exist.
+/// The contents codes of the published Rust; `sky` puts a further one into maps.
 pub const CONTENTS: [i32; 11] = [1, 2, 3, 4, 5, 9, 10, 11, 12, 13, 14];
 
 impl Plan {

@@ -8,6 +8,18 @@ use std::marker::PhantomData;
 type Words = [u64; 20];
 
 /// What a leaf holds.
+///
+/// ```
+/// # let file = std::fs::read(concat!(env!("CARGO_MANIFEST_DIR"), "/../../maps/yard.bsp")).unwrap();
+/// use bsp29::{Contents, Map};
+///
+/// let map = Map::load(&file)?;
+/// let hull = map.hull(0, 0)?;
+/// assert_eq!(map.contents(&hull, [0.0, 0.0, 0.0])?.0, Contents::Empty);
+/// assert_eq!(map.contents(&hull, [0.0, 0.0, 100.0])?.0, Contents::Sky);
+/// assert_eq!(map.contents(&hull, [0.0, 0.0, 300.0])?.0, Contents::Solid);
+/// # Ok::<(), bsp29::Refusal>(())
+/// ```
 #[derive(Copy, Clone, Debug, PartialEq, Eq, Hash)]
 pub enum Contents {
     /// Nothing.
@@ -20,6 +32,8 @@ pub enum Contents {
     Slime,
     /// Lava.
     Lava,
+    /// The sky of an open-air map. It is not solid: a trace goes through it.
+    Sky,
     /// Water that flows along x.
     Current0,
     /// Water that flows along y.
@@ -39,6 +53,7 @@ impl Contents {
     ///
     /// ```
     /// assert_eq!(bsp29::Contents::Water.code(), 3);
+    /// assert_eq!(bsp29::Contents::Sky.code(), 6);
     /// assert_eq!(bsp29::Contents::Current0.code(), 9);
     /// ```
     pub fn code(self) -> u32 {
@@ -48,6 +63,7 @@ impl Contents {
             Contents::Water => 3,
             Contents::Slime => 4,
             Contents::Lava => 5,
+            Contents::Sky => 6,
             Contents::Current0 => 9,
             Contents::Current90 => 10,
             Contents::Current180 => 11,
@@ -64,6 +80,7 @@ impl Contents {
             3 => Contents::Water,
             4 => Contents::Slime,
             5 => Contents::Lava,
+            6 => Contents::Sky,
             9 => Contents::Current0,
             10 => Contents::Current90,
             11 => Contents::Current180,

@@ -14,7 +14,7 @@ use crate::tally::{bits, Tally};
 type Words = [u32; 16];
 
 /// The codes of contents.
-const CODES: [u32; 11] = [1, 2, 3, 4, 5, 9, 10, 11, 12, 13, 14];
+const CODES: [u32; 12] = [1, 2, 3, 4, 5, 6, 9, 10, 11, 12, 13, 14];
 
 /// Every word of a trace and some past the last.
 const TRACE_WORDS: [u32; 18] = [0, 1, 2, 3, 4, 5, 6, 7, 8, 9, 10, 11, 12, 13, 14, 15, 16, u32::MAX];
@@ -84,9 +84,9 @@ fn plain(code: u32, start_solid: u32, start: Vector, end: Vector, kind: u32) -> 
 /// Any trace: its end a boundary in most, its contents solid or empty in many.
 fn any(seed: &mut Seed) -> Words {
     let code = match seed.below(16) {
-        n @ 0..=10 => CODES[n as usize],
-        11 | 12 => 2,
-        13 | 14 => 1,
+        n @ 0..=11 => CODES[n as usize],
+        12 | 13 => 2,
+        14 => 1,
         _ => seed.below(20) as u32,
     };
     let number = |seed: &mut Seed| match seed.below(8) {
@@ -260,15 +260,15 @@ pub fn join(proved: &Leaves, plan: &Plan) -> Tally {
         tally.count(differs.is_none(), || format!("{a:x?} and {b:x?}: {}", differs.unwrap()));
     };
     let (from, to) = ([1.0, -2.0, 4.0], [3.0, 5.0, -7.0]);
-    for codes in 0..144 {
-        let code = |n: usize| CODES.get(n).copied().unwrap_or(6);
+    for codes in 0..169 {
+        let code = |n: usize| CODES.get(n).copied().unwrap_or(7);
         for bit in 0..16 {
             for (at, (x, y)) in CORE.iter().flat_map(|x| CORE.map(|y| (*x, y))).enumerate() {
                 let (mut end, mut start) = ([0.5, 1.5, 2.5], [0.5, 1.5, 2.5]);
                 end[at % 3] = x;
                 start[at % 3] = y;
-                let first = plain(code(codes / 12), bit & 1, from, end, bit >> 1 & 1);
-                let second = plain(code(codes % 12), bit >> 2 & 1, start, to, bit >> 3);
+                let first = plain(code(codes / 13), bit & 1, from, end, bit >> 1 & 1);
+                let second = plain(code(codes % 13), bit >> 2 & 1, start, to, bit >> 3);
                 one(&first, &second);
             }
         }

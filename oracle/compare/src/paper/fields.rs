@@ -71,9 +71,9 @@ impl<'a> Reader<'a> {
     }
 }
 
-/// Whether a contents code exists: 1 to 5 and 9 to 14.
+/// Whether a contents code exists: 1 to 5 and 9 to 14, and 6 for sky (document 02, note 1).
 pub fn is_contents(code: i64) -> bool {
-    (1..=5).contains(&code) || (9..=14).contains(&code)
+    (1..=6).contains(&code) || (9..=14).contains(&code)
 }
 
 /// The bits of a float in a word, every NaN as one. The test is on the bits.

@@ -83,6 +83,11 @@ pub fn rooms() -> Vec<u8> {
     sample("rooms.bsp")
 }
 
+/// The yard under the open sky.
+pub fn yard() -> Vec<u8> {
+    sample("yard.bsp")
+}
+
 /// A map with a chain of so many clip nodes, at z = 0, -1, -2 and so on: a segment that comes from
 /// below crosses the first node's plane last, and every part of it before a plane crosses the next.
 pub fn chain(length: i32) -> Vec<u8> {

@@ -52,9 +52,13 @@ returns-11 c = sym (ap contentsOf (c .match .keys11))
 
 returns-12 : tie.Need-returns-12
 unfolding contentsOf
-returns-12 c =
+returns-12 c = sym (ap contentsOf (c .match .keys12))
+
+returns-13 : tie.Need-returns-13
+unfolding contentsOf
+returns-13 c =
     let r = c .match .rest in
-    simp (ne-eqb _ 14 (r .1), ne-eqb _ 13 (r .0 .1), ne-eqb _ 12 (r .0 .0 .1), ne-eqb _ 11 (r .0 .0 .0 .1), ne-eqb _ 10 (r .0 .0 .0 .0 .1), ne-eqb _ 9 (r .0 .0 .0 .0 .0 .1), ne-eqb _ 5 (r .0 .0 .0 .0 .0 .0 .1), ne-eqb _ 4 (r .0 .0 .0 .0 .0 .0 .0 .1), ne-eqb _ 3 (r .0 .0 .0 .0 .0 .0 .0 .0 .1), ne-eqb _ 2 (r .0 .0 .0 .0 .0 .0 .0 .0 .0 .1), ne-eqb _ 1 (r .0 .0 .0 .0 .0 .0 .0 .0 .0 .0 .1))
+    simp (ne-eqb _ 14 (r .1), ne-eqb _ 13 (r .0 .1), ne-eqb _ 12 (r .0 .0 .1), ne-eqb _ 11 (r .0 .0 .0 .1), ne-eqb _ 10 (r .0 .0 .0 .0 .1), ne-eqb _ 9 (r .0 .0 .0 .0 .0 .1), ne-eqb _ 6 (r .0 .0 .0 .0 .0 .0 .1), ne-eqb _ 5 (r .0 .0 .0 .0 .0 .0 .0 .1), ne-eqb _ 4 (r .0 .0 .0 .0 .0 .0 .0 .0 .1), ne-eqb _ 3 (r .0 .0 .0 .0 .0 .0 .0 .0 .0 .1), ne-eqb _ 2 (r .0 .0 .0 .0 .0 .0 .0 .0 .0 .0 .1), ne-eqb _ 1 (r .0 .0 .0 .0 .0 .0 .0 .0 .0 .0 .0 .1))
 
 pub contents-of-spec : {M : Type 1} → statement M
 contents-of-spec =
@@ -71,4 +75,5 @@ contents-of-spec =
     returns-9
     returns-10
     returns-11
-    returns-12)
+    returns-12
+    returns-13)

@@ -312,6 +312,7 @@ pub enum BspLeafContents {
 
     // This doesn't appear to ever be used
     // Sky = 6,
+    #[cfg(feature = "sky")] Sky = 6, // oracle
 
     // This is removed during map compilation
     // Origin = 7,
