@@ -60,6 +60,8 @@ enum bsp_refusal {
     BSP_MIN_NOT_BELOW_MAX = 21,
     BSP_LIST_TOO_SHORT = 22,
     BSP_UNREADABLE = 23,
+    BSP_INVALID_SIZES_FILE = 26,
+    BSP_NOT_A_BODY = 27,
     BSP_NOT_A_BOX = 28,
     /* the map's shape, met in a query */
     BSP_INDEX_OUTSIDE_TABLE = 30,
@@ -91,6 +93,8 @@ static inline const char *bsp_sentence(uint32_t refusal)
     case BSP_MIN_NOT_BELOW_MAX: return "a minimum of the box is at or above its maximum";
     case BSP_LIST_TOO_SHORT: return "a list lent to the call is too short";
     case BSP_UNREADABLE: return "the map record leads outside the file or to a record that loading refuses";
+    case BSP_INVALID_SIZES_FILE: return "the file of body sizes is not two fields of 24 bytes, one of tag 1 and one of tag 2";
+    case BSP_NOT_A_BODY: return "a bound of a body is not finite, or a minimum is at or above its maximum";
     case BSP_NOT_A_BOX: return "a bound of the box is not finite, or a minimum is above its maximum";
     case BSP_INDEX_OUTSIDE_TABLE: return "a node of the map names a node, plane or leaf that is not there, or the root is not there";
     case BSP_WALK_TOO_LONG: return "the walk entered as many nodes as the map has and did not end";
@@ -112,7 +116,7 @@ static inline float bsp_float(uint64_t word)
     return value;
 }
 
-/* The word of a float, for a hull made by hand. */
+/* The word of a float, for a hull or body sizes made by hand. */
 static inline uint64_t bsp_word(float value)
 {
     uint32_t bits;
@@ -173,6 +177,7 @@ enum bsp_length {
     BSP_ENTITIES_WORDS = 2,
     BSP_HULL_WORDS = 11,
     BSP_HULL_ASKED = 9, /* of a hull that a call takes: it does not look at the words after these */
+    BSP_SIZES_WORDS = 12,
     BSP_CONTENTS_WORDS = 2,
     BSP_LEAF_WORDS = 2,
     BSP_TRACE_WORDS = 17
@@ -275,6 +280,14 @@ enum bsp_hull_word {
     BSP_HULL_TREE_HEIGHT = 10 /* the nodes on the longest way down it */
 };
 
+/* The body sizes that a hall brings: how far a body of hull 1 and one of hull 2 reach. */
+enum bsp_sizes_word {
+    BSP_SIZES_HULL_1_MINS = 0, /* three floats each */
+    BSP_SIZES_HULL_1_MAXS = 3,
+    BSP_SIZES_HULL_2_MINS = 6,
+    BSP_SIZES_HULL_2_MAXS = 9
+};
+
 enum bsp_trace_word {
     BSP_TRACE_VISITS = 0,
     BSP_TRACE_CONTENTS = 1,    /* contents code of what the trace went through */
@@ -348,6 +361,33 @@ uint32_t bsp_hull(const uint8_t *file, size_t file_length,
                   const uint32_t *map, size_t map_length,
                   uint64_t model, uint64_t index,
                   uint64_t *hull, size_t hull_length);
+
+/*
+ * The body sizes of a hall's own file, for bsp_hull_sized. The file is two fields in either order, each
+ * a byte of tag (1 for hull 1, 2 for hull 2), two bytes of length, the lowest first, which say 24, and
+ * six floats: mins, then maxs.
+ *   sizes: 12 words or more.
+ *   Refuses: 22; 26, a field cut short, a wrong length, an unknown, missing or repeated tag, anywhere in
+ *   the file; then 27, a bound that is not finite or a minimum at or above its maximum.
+ * Time: constant.
+ */
+uint32_t bsp_body_sizes(const uint8_t *bytes, size_t bytes_length,
+                        uint64_t *sizes, size_t sizes_length);
+
+/*
+ * bsp_hull with these body sizes in place of the built-in ones: the mins and maxs of hulls 1 and 2 are
+ * theirs, hull 0 has zeros still, and every other word is that of bsp_hull. What a hull is asked does
+ * not depend on them: contents, leaves and traces go by its nodes. Sizes made by hand are taken as they
+ * stand, their floats as they are read: the low 32 bits, every NaN as one. They are not tested again.
+ *   map: 31 words or more; sizes: 12 or more; hull: 11 or more.
+ *   Refuses: as bsp_hull.
+ * Time: constant.
+ */
+uint32_t bsp_hull_sized(const uint8_t *file, size_t file_length,
+                        const uint32_t *map, size_t map_length,
+                        const uint64_t *sizes, size_t sizes_length,
+                        uint64_t model, uint64_t index,
+                        uint64_t *hull, size_t hull_length);
 
 /*
  * The hull of a box: solid within, empty outside. Such a hull reads no file: any file and any map

@@ -1,5 +1,5 @@
 #!/usr/bin/env python3
-"""Writes the sample maps of this folder. Run it in any folder: the files go beside this script.
+"""Writes the sample maps of this folder and a sample file of body sizes. Run it in any folder: the files go beside this script.
 
 smallest.bsp  the 193-byte map of document 01: one zero entity byte at 124, a zero texture count at
               125, one all-zero model at 129, every other section empty at offset 0.
@@ -10,6 +10,8 @@ rooms.bsp     two rooms with a doorway between them, water in the western room a
               3 for every 4.
 yard.bsp      a yard under the open sky. The walls are at x = -128 and 128, y = -128 and 128, the floor
               at z = -64. The sky begins at z = 64 and ends at z = 256; beyond it is solid.
+hall.sizes    the body sizes of a hall with larger figures: two fields, tag 1 for hull 1 and tag 2 for
+              hull 2, each with a length of 24 and six floats, mins and then maxs.
 """
 import os
 import struct
@@ -221,9 +223,26 @@ def yard():
     })
 
 
+def field(tag, value):
+    """A field of a file of body sizes: one byte of tag, two bytes of length, the value."""
+    return struct.pack("<BH", tag, len(value)) + value
+
+
+def hall_sizes():
+    return b"".join(field(tag, struct.pack("<6f", *mins, *maxs)) for tag, mins, maxs in [
+        (1, (-20, -20, -30), (20, 20, 40)),
+        (2, (-40, -40, -30), (40, 40, 80.5)),
+    ])
+
+
 def main():
     here = os.path.dirname(os.path.abspath(__file__))
-    for name, data in [("smallest.bsp", smallest()), ("rooms.bsp", rooms()), ("yard.bsp", yard())]:
+    for name, data in [
+        ("smallest.bsp", smallest()),
+        ("rooms.bsp", rooms()),
+        ("yard.bsp", yard()),
+        ("hall.sizes", hall_sizes()),
+    ]:
         with open(os.path.join(here, name), "wb") as f:
             f.write(data)
         print(f"{name}: {len(data)} bytes")

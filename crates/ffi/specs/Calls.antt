@@ -10,3 +10,4 @@ pub use Rattle.ffi_vis.specs.Calls.{bspPvs}
 pub use Rattle.ffi_tree.specs.Calls.{bspTreeCheck}
 pub use Rattle.ffi_checked.specs.Calls.{bspHullCheck}
 pub use Rattle.ffi_boxes.specs.Calls.{bspContentsBox}
+pub use Rattle.ffi_sizes.specs.Calls.{bspBodySizes, bspHullSized}

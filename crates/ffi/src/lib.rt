@@ -58,6 +58,29 @@ pub extern "C" fn bsp_hull(
     ffi_hull::hull_of_model(file, map, model, index, hull)
 }
 
+// The body sizes of a file, in a list.
+#[no_mangle]
+pub extern "C" fn bsp_body_sizes(bytes: &[u8], sizes: &mut [u64]) -> u32
+    ensures { λ r. ⌜ written r (now (sizes .exit)) ≡ Calls.bspBodySizes (now (bytes .entry)) (now (sizes .entry)) ⌝ }
+{
+    ffi_sizes::body_sizes(bytes, sizes)
+}
+
+// The hull of a model with these body sizes.
+#[no_mangle]
+pub extern "C" fn bsp_hull_sized(
+    file: &[u8],
+    map: &[u32],
+    sizes: &[u64],
+    model: u64,
+    index: u64,
+    hull: &mut [u64],
+) -> u32
+    ensures { λ r. ⌜ written r (now (hull .exit)) ≡ Calls.bspHullSized (now (file .entry)) (now (map .entry)) (now (sizes .entry)) model index (now (hull .entry)) ⌝ }
+{
+    ffi_sizes::hull_sized(file, map, sizes, model, index, hull)
+}
+
 // The hull of a box: 11 words.
 #[no_mangle]
 pub extern "C" fn bsp_box(bounds: &[f32], hull: &mut [u64]) -> u32

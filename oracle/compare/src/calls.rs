@@ -24,6 +24,8 @@ extern "C" {
     fn bsp_entities(file: Bytes, file_len: usize, map: Words, map_len: usize, out: LongsOut, out_len: usize) -> u32;
 
     fn bsp_hull(file: Bytes, file_len: usize, map: Words, map_len: usize, model: u64, index: u64, hull: LongsOut, hull_len: usize) -> u32;
+    fn bsp_body_sizes(bytes: Bytes, bytes_len: usize, sizes: LongsOut, sizes_len: usize) -> u32;
+    fn bsp_hull_sized(file: Bytes, file_len: usize, map: Words, map_len: usize, sizes: Longs, sizes_len: usize, model: u64, index: u64, hull: LongsOut, hull_len: usize) -> u32;
     fn bsp_box(bounds: Floats, bounds_len: usize, hull: LongsOut, hull_len: usize) -> u32;
     fn bsp_contents(file: Bytes, file_len: usize, map: Words, map_len: usize, hull: Longs, hull_len: usize, point: Floats, point_len: usize, out: LongsOut, out_len: usize) -> u32;
     fn bsp_find_leaf(file: Bytes, file_len: usize, map: Words, map_len: usize, root: u64, point: Floats, point_len: usize, out: LongsOut, out_len: usize) -> u32;
@@ -59,6 +61,8 @@ pub struct Calls {
     pub count: fn(&[u32], u32, &mut [u64]) -> u32,
     pub entities: fn(&[u8], &[u32], &mut [u64]) -> u32,
     pub hull: fn(&[u8], &[u32], u64, u64, &mut [u64]) -> u32,
+    pub body_sizes: fn(&[u8], &mut [u64]) -> u32,
+    pub hull_sized: fn(&[u8], &[u32], &[u64], u64, u64, &mut [u64]) -> u32,
     pub bounds: fn(&[f32], &mut [u64]) -> u32,
     pub contents: fn(&[u8], &[u32], &[u64], &[f32], &mut [u64]) -> u32,
     pub find_leaf: fn(&[u8], &[u32], u64, &[f32], &mut [u64]) -> u32,
@@ -80,6 +84,8 @@ impl Calls {
             count,
             entities,
             hull,
+            body_sizes,
+            hull_sized,
             bounds,
             contents,
             find_leaf,
@@ -103,6 +109,7 @@ pub fn is_linked(call: &str) -> bool {
         "bsp_pvs" => cfg!(feature = "ffi_pvs"),
         "bsp_tree_check" | "bsp_hull_check" => cfg!(feature = "ffi_tree"),
         "bsp_contents_box" => cfg!(feature = "ffi_boxes"),
+        "bsp_body_sizes" | "bsp_hull_sized" => cfg!(feature = "ffi_sizes"),
         "bsp_contents_nodes" | "bsp_find_leaf_nodes" | "bsp_trace_nodes" => {
             cfg!(feature = "ffi_nodes")
         }
@@ -160,6 +167,40 @@ pub fn hull(file: &[u8], map: &[u32], model: u64, index: u64, hull: &mut [u64]) 
             file.len(),
             map.as_ptr(),
             map.len(),
+            model,
+            index,
+            hull.as_mut_ptr(),
+            hull.len()
+        )
+    )
+}
+
+pub fn body_sizes(bytes: &[u8], sizes: &mut [u64]) -> u32 {
+    either!(
+        "ffi_sizes",
+        bsp_body_sizes(bytes, sizes),
+        (bytes.as_ptr(), bytes.len(), sizes.as_mut_ptr(), sizes.len())
+    )
+}
+
+pub fn hull_sized(
+    file: &[u8],
+    map: &[u32],
+    sizes: &[u64],
+    model: u64,
+    index: u64,
+    hull: &mut [u64],
+) -> u32 {
+    either!(
+        "ffi_sizes",
+        bsp_hull_sized(file, map, sizes, model, index, hull),
+        (
+            file.as_ptr(),
+            file.len(),
+            map.as_ptr(),
+            map.len(),
+            sizes.as_ptr(),
+            sizes.len(),
             model,
             index,
             hull.as_mut_ptr(),

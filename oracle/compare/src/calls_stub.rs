@@ -6,7 +6,7 @@
 #![allow(dead_code)]
 
 use crate::paper::walk::{self, Hull, Walked};
-use crate::paper::{boxes, load, tree, vis, Answer, Map, MAP_WORDS, SECTIONS};
+use crate::paper::{bodies, boxes, load, tree, vis, Answer, Map, MAP_WORDS, SECTIONS};
 
 /// The words of `bsp_record`'s list, of a trace's, of a walk's and of a hull, and of a hull that a call
 /// takes, which does not look at the last two.
@@ -15,6 +15,9 @@ pub const TRACE_WORDS: usize = 17;
 pub const WALK_WORDS: usize = 2;
 pub const HULL_WORDS: usize = 11;
 pub const HULL_ASKED: usize = 9;
+
+/// The words of body sizes.
+pub const SIZES_WORDS: usize = 12;
 
 /// Writes an answer's words into the list's front and answers 0, or answers the refusal.
 fn put(answer: Answer<Vec<u64>>, out: &mut [u64]) -> u32 {
@@ -95,6 +98,26 @@ pub fn bsp_entities(file: &[u8], map: &[u32], out: &mut [u64]) -> u32 {
 pub fn bsp_hull(file: &[u8], map: &[u32], model: u64, index: u64, hull: &mut [u64]) -> u32 {
     let map = map_of(file, map, hull.len() >= HULL_WORDS);
     put(map.and_then(|map| map.hull_words(model, index)), hull)
+}
+
+pub fn bsp_body_sizes(bytes: &[u8], sizes: &mut [u64]) -> u32 {
+    if sizes.len() < SIZES_WORDS {
+        return 22;
+    }
+    put(bodies::parse(bytes).map(|found| bodies::words(&found)), sizes)
+}
+
+pub fn bsp_hull_sized(
+    file: &[u8],
+    map: &[u32],
+    sizes: &[u64],
+    model: u64,
+    index: u64,
+    hull: &mut [u64],
+) -> u32 {
+    let enough = sizes.len() >= SIZES_WORDS && hull.len() >= HULL_WORDS;
+    let map = map_of(file, map, enough);
+    put(map.and_then(|map| map.sized_hull_words(sizes, model, index)), hull)
 }
 
 pub fn bsp_box(bounds: &[f32], hull: &mut [u64]) -> u32 {

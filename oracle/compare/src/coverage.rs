@@ -5,28 +5,32 @@ use crate::board::{Agreed, Board, Line};
 use crate::calls;
 
 /// The numbers of document 01 and of the requests of document 02.
-pub const NUMBERS: [u32; 23] =
-    [1, 2, 3, 4, 5, 6, 7, 8, 9, 10, 11, 12, 19, 20, 21, 22, 23, 28, 30, 31, 32, 33, 34];
+pub const NUMBERS: [u32; 25] =
+    [1, 2, 3, 4, 5, 6, 7, 8, 9, 10, 11, 12, 19, 20, 21, 22, 23, 26, 27, 28, 30, 31, 32, 33, 34];
 
 /// A call and the numbers that it can give. Those that it cannot:
 /// - 1 to 12 are refusals of loading. A record read later that would be 1 or 10, or in a face's
 ///   extents 11, is 23; 12 is not tested again.
 /// - 19 is join's, which is no call.
-/// - 20 needs a number that the caller names: none in loading, entities, a box, a leaf lookup
-///   (its root outside the table is 30).
+/// - 20 needs a number that the caller names: none in loading, entities, a box, body sizes, a leaf
+///   lookup (its root outside the table is 30).
 /// - 21 is a box's alone.
 /// - 22 is every call's: each is lent a list.
-/// - 23 needs bytes and a map record that the caller made: none in loading, counts, a box.
+/// - 23 needs bytes and a map record that the caller made: none in loading, counts, a box, body sizes.
 /// - 30 needs a walk: loading says 11 of a leaf outside its table.
 /// - 31 bounds walks, 32 bounds traces and the tree check; neither the other.
+/// - 26 and 27 are those of a file of body sizes.
 /// - 28 is that of a box whose contents are asked.
 /// - 33 is visibility's, 34 the tree check's and that of the calls which make it.
-const CAN: [(&str, &[u32]); 16] = [
+const CAN: [(&str, &[u32]); 18] = [
     ("bsp_load", &[1, 2, 3, 4, 5, 6, 7, 8, 9, 10, 11, 12, 22]),
     ("bsp_record", &[20, 22, 23]),
     ("bsp_count", &[20, 22]),
     ("bsp_entities", &[22, 23]),
     ("bsp_hull", &[20, 22, 23]),
+    ("bsp_body_sizes", &[22, 26, 27]),
+    // as `bsp_hull`: sizes that a caller made by hand are taken as they stand
+    ("bsp_hull_sized", &[20, 22, 23]),
     ("bsp_box", &[21, 22]),
     // 20 where the hull's words name no table
     ("bsp_contents", &[20, 22, 23, 30, 31]),

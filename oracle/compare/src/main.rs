@@ -4,6 +4,7 @@ mod all;
 mod asked;
 mod bench;
 mod board;
+mod bodies;
 mod boxes;
 mod calls;
 mod calls_stub;
@@ -101,6 +102,7 @@ fn run(mode: &str, given: &Arguments) -> bool {
         "walks" => walks::run(&given.plan(10_000)),
         "tree-check" => tree::run(&given.plan(20_000)),
         "boxes" => boxes::run(&given.plan(10_000)),
+        "sizes" => bodies::run(&given.plan(10_000)),
         "pvs" => pvs::run(&given.plan(20_000)),
         "loads" => loads::run(&given.plan(5_000)),
         "sky" => sky::run(&given.plan(5_000)),

@@ -17,7 +17,9 @@
 //! - `vis`: visibility lists
 //! - `load`: loading
 //! - `boxes`: the contents that a box may meet (document 02, note 12)
+//! - `bodies`: the hall's own body sizes (document 02, note 10)
 
+pub mod bodies;
 pub mod boxes;
 pub mod faces;
 pub mod fields;

@@ -3,9 +3,7 @@
 use crate::board::{Board, Plan};
 use crate::calls::Calls;
 use crate::calls_stub as stub;
-use crate::{
-    all, boxes, coverage, hand_made, joins, loads, pvs, records, replay, sample, sky, tree, walks,
-};
+use crate::{all, bodies, boxes, coverage, hand_made, joins, loads, pvs, records, replay, sample, sky, tree, walks};
 
 const PLAN: Plan = Plan { cases: 250, from: 0, seed: 7, quick: true };
 
@@ -19,6 +17,8 @@ fn right() -> Calls {
         count: stub::bsp_count,
         entities: stub::bsp_entities,
         hull: stub::bsp_hull,
+        body_sizes: stub::bsp_body_sizes,
+        hull_sized: stub::bsp_hull_sized,
         bounds: stub::bsp_box,
         contents: stub::bsp_contents,
         find_leaf: stub::bsp_find_leaf,
@@ -33,12 +33,13 @@ fn right() -> Calls {
     }
 }
 
-const MODES: [Compare; 9] = [
+const MODES: [Compare; 10] = [
     records::compare,
     hand_made::compare,
     walks::compare,
     tree::compare,
     boxes::compare,
+    bodies::compare,
     pvs::compare,
     loads::compare,
     sky::compare,
@@ -348,6 +349,73 @@ wrong! {
     boxes: check_before_the_bounds, contents_box, "bsp_contents_box", |f, m, h, b, marks, o| {
         match stub::bsp_contents_box(f, m, h, b, marks, o) {
             28 if h[1] > 40_000 => 30,
+            refusal => refusal,
+        }
+    };
+
+    bodies: a_minimum_at_its_maximum, body_sizes, "bsp_body_sizes", |f, o| {
+        match stub::bsp_body_sizes(f, o) {
+            27 if f[3..7] == f[15..19] && f[6] < 0x7f => 0,
+            refusal => refusal,
+        }
+    };
+    bodies: tags_in_one_order, body_sizes, "bsp_body_sizes", |f, o| {
+        match stub::bsp_body_sizes(f, o) {
+            0 if f[0] == 2 => 26,
+            refusal => refusal,
+        }
+    };
+    bodies: bounds_before_the_whole_file, body_sizes, "bsp_body_sizes", |f, o| {
+        match stub::bsp_body_sizes(f, o) {
+            26 if f.len() > 27 && f[..3] == [1, 24, 0] && f[6] & 0x7f == 0x7f => 27,
+            refusal => refusal,
+        }
+    };
+    bodies: a_byte_behind_the_fields, body_sizes, "bsp_body_sizes", |f, o| {
+        match f.len() {
+            55 => stub::bsp_body_sizes(&f[..54], o),
+            _ => stub::bsp_body_sizes(f, o),
+        }
+    };
+    bodies: a_tag_twice, body_sizes, "bsp_body_sizes", |f, o| {
+        match stub::bsp_body_sizes(f, o) {
+            26 if f.len() == 81 && f[0] == f[27] => stub::bsp_body_sizes(&f[27..], o),
+            refusal => refusal,
+        }
+    };
+    bodies: the_high_byte_of_a_length, body_sizes, "bsp_body_sizes", |f, o| {
+        let mut low = f.to_vec();
+        if f.len() == 54 {
+            low[2] = 0;
+        }
+        stub::bsp_body_sizes(&low, o)
+    };
+    bodies: sizes_written_when_refused, body_sizes, "bsp_body_sizes", |f, o| {
+        let refusal = stub::bsp_body_sizes(f, o);
+        if refusal == 27 {
+            o[0] = 0;
+        }
+        refusal
+    };
+    bodies: hull_0_has_bounds, hull_sized, "bsp_hull_sized", |f, m, z, n, i, o| {
+        let give = |o: &mut [u64]| if i == 0 { o[3..9].copy_from_slice(&[z[0]; 6]) };
+        changed(stub::bsp_hull_sized(f, m, z, n, i, o), o, give)
+    };
+    bodies: hull_2_as_hull_1, hull_sized, "bsp_hull_sized", |f, m, z, n, i, o| {
+        match i {
+            2 if z.len() >= 12 => stub::bsp_hull_sized(f, m, &[&z[..6], &z[..6]].concat(), n, i, o),
+            _ => stub::bsp_hull_sized(f, m, z, n, i, o),
+        }
+    };
+    bodies: the_built_in_sizes_kept, hull_sized, "bsp_hull_sized", |f, m, z, n, i, o| {
+        match z.len() >= 12 {
+            true => stub::bsp_hull(f, m, n, i, o),
+            false => 22,
+        }
+    };
+    bodies: sizes_of_no_body_refused, hull_sized, "bsp_hull_sized", |f, m, z, n, i, o| {
+        match stub::bsp_hull_sized(f, m, z, n, i, o) {
+            0 if z[..12].iter().any(|word| !f32::from_bits(*word as u32).is_finite()) => 27,
             refusal => refusal,
         }
     };

@@ -23,6 +23,8 @@ extern "C" {
     fn bsp_count(map: Words, map_length: usize, section: u32, out: LongsOut, out_length: usize) -> u32;
     fn bsp_entities(file: Bytes, file_length: usize, map: Words, map_length: usize, out: LongsOut, out_length: usize) -> u32;
     fn bsp_hull(file: Bytes, file_length: usize, map: Words, map_length: usize, model: u64, index: u64, hull: LongsOut, hull_length: usize) -> u32;
+    fn bsp_body_sizes(bytes: Bytes, bytes_length: usize, sizes: LongsOut, sizes_length: usize) -> u32;
+    fn bsp_hull_sized(file: Bytes, file_length: usize, map: Words, map_length: usize, sizes: Longs, sizes_length: usize, model: u64, index: u64, hull: LongsOut, hull_length: usize) -> u32;
     fn bsp_box(bounds: Floats, bounds_length: usize, hull: LongsOut, hull_length: usize) -> u32;
     fn bsp_hull_check(file: Bytes, file_length: usize, map: Words, map_length: usize, hull: Longs, hull_length: usize, marks: BytesOut, marks_length: usize, out: LongsOut, out_length: usize) -> u32;
     fn bsp_contents(file: Bytes, file_length: usize, map: Words, map_length: usize, hull: Longs, hull_length: usize, point: Floats, point_length: usize, out: LongsOut, out_length: usize) -> u32;
@@ -42,6 +44,8 @@ pub(crate) type MapWords = [u32; 31];
 pub(crate) type HullWords = [u64; HULL_WORDS];
 /// How many they are.
 const HULL_WORDS: usize = 11;
+/// The words of body sizes.
+pub(crate) type SizesWords = [u64; 12];
 /// Two points, one after the other.
 pub(crate) type Segment = [f32; 6];
 
@@ -128,6 +132,42 @@ pub(crate) fn hull(
             file.len(),
             map.as_ptr(),
             map.len(),
+            model,
+            index,
+            hull.as_mut_ptr(),
+            hull.len(),
+        )
+    };
+    answered(status, hull)
+}
+
+/// `bsp_body_sizes`: the body sizes of a file.
+pub(crate) fn body_sizes(bytes: &[u8]) -> Result<SizesWords, Refusal> {
+    let mut sizes = [0; 12];
+    // SAFETY: as in `load`.
+    let status =
+        unsafe { bsp_body_sizes(bytes.as_ptr(), bytes.len(), sizes.as_mut_ptr(), sizes.len()) };
+    answered(status, sizes)
+}
+
+/// `bsp_hull_sized`: the hull of a model with these body sizes.
+pub(crate) fn hull_sized(
+    file: &[u8],
+    map: &MapWords,
+    sizes: &SizesWords,
+    model: u64,
+    index: u64,
+) -> Result<HullWords, Refusal> {
+    let mut hull = [0; HULL_WORDS];
+    // SAFETY: as in `load`.
+    let status = unsafe {
+        bsp_hull_sized(
+            file.as_ptr(),
+            file.len(),
+            map.as_ptr(),
+            map.len(),
+            sizes.as_ptr(),
+            sizes.len(),
             model,
             index,
             hull.as_mut_ptr(),

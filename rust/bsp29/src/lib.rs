@@ -48,6 +48,7 @@
 //! - [`Map`]: a map, and the questions that it answers
 //! - [`Records`] and the records: planes, leaves, models and the rest, by their index
 //! - [`Hull`], [`Trace`]: what something moves in, and what it meets
+//! - [`BodySizes`]: a hall's own sizes in place of the built-in ones
 //! - [`Refusal`]: why a call is refused
 
 #![deny(unsafe_code, missing_docs)]
@@ -61,6 +62,7 @@ mod hull;
 mod map;
 mod records;
 mod refusal;
+mod sizes;
 mod words;
 
 pub use hull::{Hull, NodeTable, Trace, TraceEnd};
@@ -71,3 +73,4 @@ pub use records::{
     Sounds, TextureInfo, Vertex,
 };
 pub use refusal::Refusal;
+pub use sizes::{BodySizes, Bounds};

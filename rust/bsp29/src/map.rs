@@ -2,7 +2,7 @@
 
 use crate::hull::both;
 use crate::records::*;
-use crate::{ffi, Hull, NodeTable, Refusal, Trace};
+use crate::{ffi, BodySizes, Hull, NodeTable, Refusal, Trace};
 
 /// The sections whose sizes are looked at here.
 const VISIBILITY: u32 = 4;
@@ -336,6 +336,35 @@ impl Map<'_> {
     /// ```
     pub fn hull(&self, model: usize, index: usize) -> Result<Hull, Refusal> {
         ffi::hull(self.file, &self.words, model as u64, index as u64).map(|words| Hull::of(&words))
+    }
+
+    /// The same with a hall's own body sizes: `mins` and `maxs` of hulls 1 and 2 are theirs, hull 0 has
+    /// zeros still, and everything else is as in [`hull`](Map::hull), its refusals too. Contents, leaves and
+    /// traces do not depend on the sizes. Sizes made by hand are taken as they are.
+    ///
+    /// ```
+    /// # let maps = concat!(env!("CARGO_MANIFEST_DIR"), "/../../maps");
+    /// # let bytes = std::fs::read(format!("{maps}/hall.sizes")).unwrap();
+    /// # let file = std::fs::read(format!("{maps}/rooms.bsp")).unwrap();
+    /// use bsp29::{BodySizes, Hull, Refusal};
+    ///
+    /// let map = bsp29::Map::load(&file)?;
+    /// let sizes = BodySizes::parse(&bytes)?;
+    /// let hull = map.hull_with(&sizes, 0, 2)?;
+    /// let (mins, maxs) = (sizes.hull_2.mins, sizes.hull_2.maxs);
+    /// assert_eq!(hull, Hull { mins, maxs, ..map.hull(0, 2)? });
+    /// assert_eq!(map.hull_with(&sizes, 0, 0)?.maxs, [0.0; 3]);
+    /// assert_eq!(map.hull_with(&sizes, 0, 3), Err(Refusal::NoSuchRecord));
+    /// # Ok::<(), Refusal>(())
+    /// ```
+    pub fn hull_with(
+        &self,
+        sizes: &BodySizes,
+        model: usize,
+        index: usize,
+    ) -> Result<Hull, Refusal> {
+        ffi::hull_sized(self.file, &self.words, &sizes.words(), model as u64, index as u64)
+            .map(|words| Hull::of(&words))
     }
 
     /// What is at a point of a hull, and how many nodes were entered.

@@ -103,6 +103,10 @@ refusals! {
     ListTooShort = 22, "a list lent to the call is too short";
     /// 23: a map record made by hand leads outside the bytes, or to a record that loading refuses.
     Unreadable = 23, "the map record leads outside the file or to a record that loading refuses";
+    /// 26: a file of body sizes has a field cut short, a wrong length, or an unknown, missing or repeated tag.
+    InvalidSizesFile = 26, "the file of body sizes is not two fields of 24 bytes, one of tag 1 and one of tag 2";
+    /// 27: a bound in a file of body sizes is not finite, or a minimum is at or above its maximum.
+    NotABody = 27, "a bound of a body is not finite, or a minimum is at or above its maximum";
     /// 28: a bound of a box is not finite, or a minimum is above its maximum.
     NotABox = 28, "a bound of the box is not finite, or a minimum is above its maximum";
     /// 30: a root, child, plane or leaf index outside its table.

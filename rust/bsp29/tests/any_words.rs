@@ -2,7 +2,7 @@
 
 mod common;
 
-use bsp29::{Hull, Map, NodeTable, Record, Records, Refusal};
+use bsp29::{BodySizes, Bounds, Hull, Map, NodeTable, Record, Records, Refusal};
 use common::{rooms, smallest};
 
 /// Numbers that follow from a seed (xorshift).
@@ -66,7 +66,15 @@ fn ask(map: &Map, seed: &mut Seed) -> usize {
         nodes: seed.number(),
         height: seed.number(),
     };
-    let hulls = [Ok(made), map.hull(0, seed.below(4) as usize), map.hull(seed.number(), 1)];
+    let mut body = || Bounds { mins: seed.point(), maxs: seed.point() };
+    let sizes = BodySizes { hull_1: body(), hull_2: body() };
+    let hulls = [
+        Ok(made),
+        map.hull(0, seed.below(4) as usize),
+        map.hull(seed.number(), 1),
+        map.hull_with(&sizes, 0, seed.below(4) as usize),
+        map.hull_with(&sizes, seed.number(), 2),
+    ];
     for hull in hulls.into_iter().flatten() {
         let (a, b) = (seed.point(), seed.point());
         answered += usize::from(map.contents(&hull, a).is_ok());

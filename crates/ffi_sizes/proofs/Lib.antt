@@ -1,0 +1,3 @@
+-- That a file's sizes come to the hull, and that what is asked of a hull does not depend on them.
+pub mod FromFile
+pub mod SameAnswers

@@ -1,0 +1,3 @@
+-- What holds of hulls whatever the body sizes.
+mod Laws
+pub mod AnySizes

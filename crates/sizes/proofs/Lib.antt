@@ -1,0 +1,4 @@
+-- Laws about the definitions of `sizes`.
+mod Rows
+mod Directions
+pub mod Files
