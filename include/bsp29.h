@@ -62,6 +62,7 @@ enum bsp_refusal {
     BSP_UNREADABLE = 23,
     BSP_INVALID_SIZES_FILE = 26,
     BSP_NOT_A_BODY = 27,
+    BSP_TOO_MANY_PLAYERS = 25,
     BSP_NOT_A_BOX = 28,
     /* the map's shape, met in a query */
     BSP_INDEX_OUTSIDE_TABLE = 30,
@@ -95,6 +96,7 @@ static inline const char *bsp_sentence(uint32_t refusal)
     case BSP_UNREADABLE: return "the map record leads outside the file or to a record that loading refuses";
     case BSP_INVALID_SIZES_FILE: return "the file of body sizes is not two fields of 24 bytes, one of tag 1 and one of tag 2";
     case BSP_NOT_A_BODY: return "a bound of a body is not finite, or a minimum is at or above its maximum";
+    case BSP_TOO_MANY_PLAYERS: return "more than 16 players are asked about at once";
     case BSP_NOT_A_BOX: return "a bound of the box is not finite, or a minimum is above its maximum";
     case BSP_INDEX_OUTSIDE_TABLE: return "a node of the map names a node, plane or leaf that is not there, or the root is not there";
     case BSP_WALK_TOO_LONG: return "the walk entered as many nodes as the map has and did not end";
@@ -537,11 +539,29 @@ uint32_t bsp_pvs(const uint8_t *file, size_t file_length,
                  uint64_t *out, size_t out_length);
 
 /*
+ * The leaves that at least one of up to 16 players sees, from the players' leaves: their number in
+ * out[0], and the leaves at the front of list, lowest first and each once. A leaf is listed exactly if
+ * bsp_pvs lists it for one of the players with this leaf_count; no players see none, and a player
+ * twice sees as once. A list of leaf_count entries is always enough.
+ * The players' rows are read side by side, and no memory is used but the list. For each byte of a row,
+ * as far as leaf_count, the cursors of all players are looked at twice at most, to count and to
+ * write; a run of leaves that no player sees costs no more than its bytes, however long it is.
+ *   map: 31 words or more; out: 1 word or more.
+ *   Refuses: 22; 25, more than 16 players; then the first player that bsp_pvs refuses, with its 20, 23
+ *   or 33; 22, a list too short for the leaves.
+ */
+uint32_t bsp_pvs_team(const uint8_t *file, size_t file_length,
+                      const uint32_t *map, size_t map_length,
+                      const uint64_t *leaves, size_t leaves_length, uint64_t leaf_count,
+                      uint32_t *list, size_t list_length,
+                      uint64_t *out, size_t out_length);
+
+/*
  * The tree check from a root of a node table (enum bsp_table): the height of its tree. From a root
  * that passed, in a file that loads, every walk and trace is answered, whatever its floats, and
  * enters no node twice. It says nothing of other roots: bsp_find_leaf from root 0 wants render node 0
  * checked too, which need not be the root of a model. And it says nothing of visibility: no call
- * but bsp_pvs itself looks at a leaf's row (33).
+ * but bsp_pvs and bsp_pvs_team looks at a leaf's row (33).
  *   map: 31 words or more; out: 1 word or more; marks: a byte for each node of the table
  *   (bsp_count; six for a box), of any values.
  *   Refuses: 22; 20, a table that is none; 22, too few marks, which are kept; then at each node, front

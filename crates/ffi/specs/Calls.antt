@@ -7,6 +7,7 @@ pub use Rattle.ffi_walks.specs.Calls.{bspContents, bspFindLeaf}
 pub use Rattle.ffi_traces.specs.Calls.{bspTrace}
 pub use Rattle.ffi_entered.specs.Calls.{bspContentsNodes, bspFindLeafNodes, bspTraceNodes}
 pub use Rattle.ffi_vis.specs.Calls.{bspPvs}
+pub use Rattle.ffi_team.specs.Calls.{bspPvsTeam}
 pub use Rattle.ffi_tree.specs.Calls.{bspTreeCheck}
 pub use Rattle.ffi_checked.specs.Calls.{bspHullCheck}
 pub use Rattle.ffi_boxes.specs.Calls.{bspContentsBox}

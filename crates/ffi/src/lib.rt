@@ -220,6 +220,21 @@ pub extern "C" fn bsp_pvs(
     ffi_vis::pvs(file, map, leaf, leaf_count, list, out)
 }
 
+// The leaves that one of up to 16 players sees, from their leaves, at the front of `list`, and their count.
+#[no_mangle]
+pub extern "C" fn bsp_pvs_team(
+    file: &[u8],
+    map: &[u32],
+    leaves: &[u64],
+    leaf_count: u64,
+    list: &mut [u32],
+    out: &mut [u64],
+) -> u32
+    ensures { λ r. ⌜ left r (now (list .exit)) (now (out .exit)) ≡ Calls.bspPvsTeam (now (file .entry)) (now (map .entry)) (now (leaves .entry)) «leaf_count» (now (list .entry)) (now (out .entry)) ⌝ }
+{
+    ffi_team::pvs_team(file, map, leaves, leaf_count, list, out)
+}
+
 // The tree check from a root of a node table: the tree's height.
 #[no_mangle]
 pub extern "C" fn bsp_tree_check(

@@ -66,15 +66,15 @@ module _ (leaves leaf : ℕ) where
   unfolding visible
   done bytes h = ap (mapped (visible leaf)) (none-past bytes h)
 
-  none-left : leaf < leaves → rowFrom leaves leaf [] ≡ refused 33
+  pub none-left : leaf < leaves → rowFrom leaves leaf [] ≡ refused 33
   unfolding rowBits
   none-left h = rw (lt-ltb leaf leaves h)
 
-  zero-left : leaf < leaves → rowFrom leaves leaf (0 ∷ []) ≡ refused 33
+  pub zero-left : leaf < leaves → rowFrom leaves leaf (0 ∷ []) ≡ refused 33
   unfolding rowBits
   zero-left h = rw (lt-ltb leaf leaves h)
 
-  zero-byte : (n : ℕ) (bytes : List ℕ) → leaf < leaves → rowFrom leaves leaf (0 ∷ n ∷ bytes) ≡ rowFrom leaves (leaf + 8 * n) bytes
+  pub zero-byte : (n : ℕ) (bytes : List ℕ) → leaf < leaves → rowFrom leaves leaf (0 ∷ n ∷ bytes) ≡ rowFrom leaves (leaf + 8 * n) bytes
   unfolding rowBits
   zero-byte n bytes h = rw (lt-ltb leaf leaves h) (after-zeros leaf (8 * n) (rowBits leaves (leaf + 8 * n) bytes))
 
@@ -105,7 +105,7 @@ pub kept-leaves : (leaves leaf b : ℕ) → byteLeaves leaf (keptBits leaves lea
 kept-leaves leaves leaf b = low-bits 8 (inByte leaves leaf) leaf b (min-le-left 8 (leaves - leaf))
 
 module _ (leaves leaf : ℕ) where
-  bit-byte : (b : ℕ) (bytes : List ℕ) → leaf < leaves → (b ≡ 0 → ⊥)
+  pub bit-byte : (b : ℕ) (bytes : List ℕ) → leaf < leaves → (b ≡ 0 → ⊥)
       → rowFrom leaves leaf (b ∷ bytes) ≡ before (byteLeaves leaf (keptBits leaves leaf b)) (rowFrom leaves (leaf + 8) bytes)
   unfolding rowBits
   bit-byte zero bytes h z = absurd (z refl)

@@ -16,7 +16,7 @@ use format::section::BspFileSection;
 use format::section::BspFileSectionId;
 
 // The lowest `left` bits of a byte, which has eight: those for the leaves below the count, where so many leaves are left.
-fn kept_bits(byte: u8, left: usize) -> u8
+pub fn kept_bits(byte: u8, left: usize) -> u8
     ensures { λ r. ⌜ r ≡ byte % 2 ^ min 8 left ⌝ }
 {
     if 8 <= left {

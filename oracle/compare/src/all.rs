@@ -3,12 +3,12 @@
 
 use crate::board::{Board, Plan};
 use crate::calls::{self, Calls};
-use crate::{bodies, boxes, coverage, hand_made, joins, leaves, loads, pvs, records, sky, tree, walks};
+use crate::{bodies, boxes, coverage, hand_made, joins, leaves, loads, pvs, records, sky, team, tree, walks};
 
 type Mode = fn(&Calls, &Plan) -> Board;
 
 /// The modes, and the cases of each in a round.
-const MODES: [(Mode, u64); 10] = [
+const MODES: [(Mode, u64); 11] = [
     (records::compare, 500),
     (hand_made::compare, 1_000),
     (walks::compare, 1_000),
@@ -16,6 +16,7 @@ const MODES: [(Mode, u64); 10] = [
     (boxes::compare, 500),
     (bodies::compare, 500),
     (pvs::compare, 2_000),
+    (team::compare, 500),
     (loads::compare, 2_000),
     (sky::compare, 500),
     (joins::compare, 10_000),

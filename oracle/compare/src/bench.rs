@@ -33,6 +33,9 @@ const ROOMS: &[u8] = include_bytes!("../../../maps/rooms.bsp");
 /// Leaves asked for their lists a slice.
 const LISTS: usize = 1_000;
 
+/// Teams of 16 players asked for their pooled lists a slice.
+const TEAMS: usize = 100;
+
 /// Loading and the tree check, one call a slice, take so many times the slices.
 const SINGLE: u64 = 10;
 
@@ -64,6 +67,7 @@ pub fn run(plan: &Plan) -> bool {
         "{:<9} {:<22} {:>12} {:>12} {:>7} {:>10} {:>10}",
         "map", "call", "ns a call", "Rust", "ratio", "ns a part", "Rust"
     );
+    println!("team: beside 16 calls of bsp_pvs and a merge by the caller, in the Rust's columns");
     let mut equal = true;
     for (name, world) in worlds {
         let mut seed = Seed::named(plan.seed, name);
@@ -75,7 +79,7 @@ pub fn run(plan: &Plan) -> bool {
     let mut table = Table { name: "rooms", slices: plan.cases, equal: true };
     of_rooms(&mut table, &mut Seed::named(plan.seed, "rooms"), ROOMS);
     equal &= table.equal;
-    for call in ["bsp_load", "bsp_contents", "bsp_pvs", "bsp_tree_check"] {
+    for call in ["bsp_load", "bsp_contents", "bsp_pvs", "bsp_pvs_team", "bsp_tree_check"] {
         if !calls::is_linked(call) {
             println!("{call} and its group are the stub's");
         }
@@ -209,6 +213,7 @@ fn of_map(table: &mut Table, seed: &mut Seed, file: &[u8]) {
     find_leaf(table, (file, &map), &rust, "", &points);
     find_leaf(table, (file, &map), &rust, ", near", &near);
     lists(table, seed, (file, &map), &rust);
+    team(table, seed, (file, &map), rust.leaves().len() as u64 - 1);
     for (number, nodes) in [(1, "clip"), (0, "render")] {
         tree_check(table, (file, &map), number, nodes);
     }
@@ -370,6 +375,74 @@ fn lists(table: &mut Table, seed: &mut Seed, (file, map): (&[u8], &[u32]), rust:
         sum
     };
     table.line("visibility", (asked.len(), entries), ours, Some(&mut other));
+}
+
+/// The pooled list of 16 players beside 16 lists and a merge by the caller: one list after the other,
+/// sorted, or a byte for each leaf, marked.
+fn team(table: &mut Table, seed: &mut Seed, (file, map): (&[u8], &[u32]), count: u64) {
+    let teams: Vec<[u64; 16]> =
+        (0..TEAMS).map(|_| [0; 16].map(|_| 1 + seed.below(count))).collect();
+    let mut list = vec![0u32; 16 * count as usize];
+    let mut out = [0; 1];
+    let mut entries = 0;
+    for leaves in &teams {
+        let refusal = calls::pvs_team(file, map, leaves, count, &mut list, &mut out);
+        assert_eq!(refusal, 0, "pvs_team");
+        entries += out[0];
+    }
+    // every entry counts with its place
+    let sum_of = |list: &[u32]| {
+        let places = list.iter().enumerate();
+        places.map(|(place, leaf)| (1 + place as u64) * *leaf as u64).sum::<u64>()
+    };
+    let mut pooled = || {
+        let mut sum = 0;
+        for leaves in &teams {
+            calls::pvs_team(file, map, black_box(leaves), count, &mut list, &mut out);
+            sum += sum_of(&list[..out[0] as usize]);
+        }
+        sum
+    };
+    let mut lists = vec![0u32; 16 * count as usize];
+    let mut told = [0; 1];
+    let mut single = |leaves: &[u64; 16], lists: &mut Vec<u32>| {
+        lists.resize(16 * count as usize, 0);
+        let mut filled = 0;
+        for leaf in leaves {
+            let room = &mut lists[filled..];
+            assert_eq!(calls::pvs(file, map, black_box(*leaf), count, room, &mut told), 0);
+            filled += told[0] as usize;
+        }
+        lists.truncate(filled);
+    };
+    let mut sorted = || {
+        let mut sum = 0;
+        for leaves in &teams {
+            single(leaves, &mut lists);
+            lists.sort_unstable();
+            lists.dedup();
+            sum += sum_of(&lists);
+        }
+        sum
+    };
+    table.line("team, sorted", (TEAMS, entries), &mut pooled, Some(&mut sorted));
+    let mut marks = vec![0u8; count as usize];
+    let mut pool = Vec::new();
+    let mut marked = || {
+        let mut sum = 0;
+        for leaves in &teams {
+            single(leaves, &mut lists);
+            marks.fill(0);
+            for leaf in &lists {
+                marks[*leaf as usize] = 1;
+            }
+            pool.clear();
+            pool.extend((0..count as u32).filter(|leaf| marks[*leaf as usize] == 1));
+            sum += sum_of(&pool);
+        }
+        sum
+    };
+    table.line("team, marked", (TEAMS, entries), &mut pooled, Some(&mut marked));
 }
 
 /// Ours alone: the Rust has no such check.

@@ -36,6 +36,7 @@ extern "C" {
 
     fn bsp_pvs(file: Bytes, file_len: usize, map: Words, map_len: usize, leaf: u64, leaf_count: u64, list: WordsOut, list_len: usize, out: LongsOut, out_len: usize) -> u32;
 
+    fn bsp_pvs_team(file: Bytes, file_len: usize, map: Words, map_len: usize, leaves: Longs, leaves_len: usize, leaf_count: u64, list: WordsOut, list_len: usize, out: LongsOut, out_len: usize) -> u32;
     fn bsp_tree_check(file: Bytes, file_len: usize, map: Words, map_len: usize, table: u32, root: u64, marks: BytesOut, marks_len: usize, out: LongsOut, out_len: usize) -> u32;
     fn bsp_contents_box(file: Bytes, file_len: usize, map: Words, map_len: usize, hull: Longs, hull_len: usize, bounds: Floats, bounds_len: usize, marks: BytesOut, marks_len: usize, out: LongsOut, out_len: usize) -> u32;
     fn bsp_hull_check(file: Bytes, file_len: usize, map: Words, map_len: usize, hull: Longs, hull_len: usize, marks: BytesOut, marks_len: usize, out: LongsOut, out_len: usize) -> u32;
@@ -71,6 +72,7 @@ pub struct Calls {
     pub find_leaf_nodes: fn(&[u8], &[u32], u64, &[f32], &mut [u32], &mut [u64]) -> u32,
     pub trace_nodes: fn(&[u8], &[u32], &[u64], &[f32], &mut [u32], &mut [u64]) -> u32,
     pub pvs: fn(&[u8], &[u32], u64, u64, &mut [u32], &mut [u64]) -> u32,
+    pub pvs_team: fn(&[u8], &[u32], &[u64], u64, &mut [u32], &mut [u64]) -> u32,
     pub tree_check: fn(&[u8], &[u32], u32, u64, &mut [u8], &mut [u64]) -> u32,
     pub contents_box: fn(&[u8], &[u32], &[u64], &[f32], &mut [u8], &mut [u64]) -> u32,
     pub hull_check: fn(&[u8], &[u32], &[u64], &mut [u8], &mut [u64]) -> u32,
@@ -94,6 +96,7 @@ impl Calls {
             find_leaf_nodes,
             trace_nodes,
             pvs,
+            pvs_team,
             tree_check,
             contents_box,
             hull_check,
@@ -107,6 +110,7 @@ pub fn is_linked(call: &str) -> bool {
         "bsp_load" => cfg!(feature = "ffi_load"),
         "bsp_record" | "bsp_count" | "bsp_entities" => cfg!(feature = "ffi_records"),
         "bsp_pvs" => cfg!(feature = "ffi_pvs"),
+        "bsp_pvs_team" => cfg!(feature = "ffi_team"),
         "bsp_tree_check" | "bsp_hull_check" => cfg!(feature = "ffi_tree"),
         "bsp_contents_box" => cfg!(feature = "ffi_boxes"),
         "bsp_body_sizes" | "bsp_hull_sized" => cfg!(feature = "ffi_sizes"),
@@ -374,6 +378,33 @@ pub fn pvs(
             map.as_ptr(),
             map.len(),
             leaf,
+            leaf_count,
+            list.as_mut_ptr(),
+            list.len(),
+            out.as_mut_ptr(),
+            out.len()
+        )
+    )
+}
+
+pub fn pvs_team(
+    file: &[u8],
+    map: &[u32],
+    leaves: &[u64],
+    leaf_count: u64,
+    list: &mut [u32],
+    out: &mut [u64],
+) -> u32 {
+    either!(
+        "ffi_team",
+        bsp_pvs_team(file, map, leaves, leaf_count, list, out),
+        (
+            file.as_ptr(),
+            file.len(),
+            map.as_ptr(),
+            map.len(),
+            leaves.as_ptr(),
+            leaves.len(),
             leaf_count,
             list.as_mut_ptr(),
             list.len(),

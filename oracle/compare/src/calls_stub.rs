@@ -6,7 +6,7 @@
 #![allow(dead_code)]
 
 use crate::paper::walk::{self, Hull, Walked};
-use crate::paper::{bodies, boxes, load, tree, vis, Answer, Map, MAP_WORDS, SECTIONS};
+use crate::paper::{Answer, MAP_WORDS, Map, SECTIONS, bodies, boxes, load, team, tree, vis};
 
 /// The words of `bsp_record`'s list, of a trace's, of a walk's and of a hull, and of a hull that a call
 /// takes, which does not look at the last two.
@@ -210,6 +210,19 @@ pub fn bsp_pvs(
     let leaves =
         map_of(file, map, !out.is_empty()).and_then(|map| vis::get_pvs(&map, leaf, leaf_count));
     put_list(leaves, list, out)
+}
+
+pub fn bsp_pvs_team(
+    file: &[u8],
+    map: &[u32],
+    leaves: &[u64],
+    leaf_count: u64,
+    list: &mut [u32],
+    out: &mut [u64],
+) -> u32 {
+    let pool =
+        map_of(file, map, !out.is_empty()).and_then(|map| team::pvs_team(&map, leaves, leaf_count));
+    put_list(pool, list, out)
 }
 
 pub fn bsp_tree_check(

@@ -5,8 +5,8 @@ use crate::board::{Agreed, Board, Line};
 use crate::calls;
 
 /// The numbers of document 01 and of the requests of document 02.
-pub const NUMBERS: [u32; 25] =
-    [1, 2, 3, 4, 5, 6, 7, 8, 9, 10, 11, 12, 19, 20, 21, 22, 23, 26, 27, 28, 30, 31, 32, 33, 34];
+pub const NUMBERS: [u32; 26] =
+    [1, 2, 3, 4, 5, 6, 7, 8, 9, 10, 11, 12, 19, 20, 21, 22, 23, 25, 26, 27, 28, 30, 31, 32, 33, 34];
 
 /// A call and the numbers that it can give. Those that it cannot:
 /// - 1 to 12 are refusals of loading. A record read later that would be 1 or 10, or in a face's
@@ -20,9 +20,10 @@ pub const NUMBERS: [u32; 25] =
 /// - 30 needs a walk: loading says 11 of a leaf outside its table.
 /// - 31 bounds walks, 32 bounds traces and the tree check; neither the other.
 /// - 26 and 27 are those of a file of body sizes.
+/// - 25 is a team's.
 /// - 28 is that of a box whose contents are asked.
 /// - 33 is visibility's, 34 the tree check's and that of the calls which make it.
-const CAN: [(&str, &[u32]); 18] = [
+const CAN: [(&str, &[u32]); 19] = [
     ("bsp_load", &[1, 2, 3, 4, 5, 6, 7, 8, 9, 10, 11, 12, 22]),
     ("bsp_record", &[20, 22, 23]),
     ("bsp_count", &[20, 22]),
@@ -41,6 +42,7 @@ const CAN: [(&str, &[u32]); 18] = [
     ("bsp_find_leaf_nodes", &[22, 23, 30, 31]),
     ("bsp_trace_nodes", &[20, 22, 23, 30, 32]),
     ("bsp_pvs", &[20, 22, 23, 33]),
+    ("bsp_pvs_team", &[20, 22, 23, 25, 33]),
     // 20 where the number names no table
     ("bsp_tree_check", &[20, 22, 23, 30, 32, 34]),
     // as the tree check; 20 where the hull's words name no table

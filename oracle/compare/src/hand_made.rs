@@ -13,7 +13,7 @@ use crate::calls_stub::{HULL_WORDS, RECORD_WORDS};
 use crate::paper::{self, record_size, tree, vis, MAP_WORDS, SECTIONS};
 use crate::tables::{self, Made};
 use crate::words::{self, Words};
-use crate::{sizes, walks};
+use crate::{sizes, team, walks};
 
 pub fn run(plan: &Plan) -> bool {
     compare(&Calls::linked(), plan).print()
@@ -368,6 +368,13 @@ fn lists(board: &mut Board, asked: &Asked, seed: &mut Seed, rust: Option<richter
             |list, out| (calls.pvs)(file, map, leaf, leaf_count, list, out),
             || asked.input(format!("leaf {leaf}, leaf count {leaf_count}, map {map:?}")),
         );
+    }
+    for _ in 0..3 {
+        let most = if seed.below(4) == 0 { count.saturating_add(1) } else { count.min(3) };
+        let size = if seed.below(8) == 0 { 17 } else { seed.below(4) };
+        let players: Vec<u64> = (0..size).map(|_| seed.below(most.max(1))).collect();
+        let leaf_count = if seed.below(2) == 0 { seed.below(20) } else { seed.below(300) };
+        team::ask(board, asked, seed, rust.as_ref(), (&players, leaf_count));
     }
 }
 

@@ -30,6 +30,7 @@ mod sky;
 mod stub;
 mod tables;
 mod tally;
+mod team;
 mod tree;
 mod walks;
 mod words;
@@ -104,6 +105,7 @@ fn run(mode: &str, given: &Arguments) -> bool {
         "boxes" => boxes::run(&given.plan(10_000)),
         "sizes" => bodies::run(&given.plan(10_000)),
         "pvs" => pvs::run(&given.plan(20_000)),
+        "team" => team::run(&given.plan(10_000)),
         "loads" => loads::run(&given.plan(5_000)),
         "sky" => sky::run(&given.plan(5_000)),
         "sample" => sample::run(given.path(), given.number("--seed", 1), !given.has("--no-nodes")),

@@ -18,6 +18,7 @@
 //! - `load`: loading
 //! - `boxes`: the contents that a box may meet (document 02, note 12)
 //! - `bodies`: the hall's own body sizes (document 02, note 10)
+//! - `team`: what a team can see (document 02, note 9)
 
 pub mod bodies;
 pub mod boxes;
@@ -26,6 +27,7 @@ pub mod fields;
 pub mod load;
 pub mod plane;
 pub mod records;
+pub mod team;
 pub mod tree;
 pub mod vis;
 pub mod walk;

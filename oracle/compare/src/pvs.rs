@@ -60,7 +60,7 @@ fn zero_run(seed: &mut Seed) -> u8 {
 }
 
 /// A map with some leaves and rows, large now and then.
-fn map(seed: &mut Seed) -> Made {
+pub fn map(seed: &mut Seed) -> Made {
     let size = match seed.below(10) {
         0 => 0,
         1 => 1,
@@ -94,7 +94,12 @@ fn one(board: &mut Board, asked: &Asked, seed: &mut Seed, rust: &richter::Map, l
         4 => u64::MAX,
         _ => seed.below(leaves.max(1)),
     };
-    let leaf_count = match seed.below(12) {
+    let leaf_count = leaf_count(seed);
+    ask(board, asked, seed, rust, (leaf, leaf_count));
+}
+
+pub fn leaf_count(seed: &mut Seed) -> u64 {
+    match seed.below(12) {
         0 => 0,
         1 => 1,
         2 => 2,
@@ -103,8 +108,7 @@ fn one(board: &mut Board, asked: &Asked, seed: &mut Seed, rust: &richter::Map, l
         5 => seed.below(70_000),
         6 => 1 + 8 * seed.below(20),
         _ => seed.below(400),
-    };
-    ask(board, asked, seed, rust, (leaf, leaf_count));
+    }
 }
 
 /// The list of a leaf for so many leaves.

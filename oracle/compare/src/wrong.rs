@@ -3,7 +3,7 @@
 use crate::board::{Board, Plan};
 use crate::calls::Calls;
 use crate::calls_stub as stub;
-use crate::{all, bodies, boxes, coverage, hand_made, joins, loads, pvs, records, replay, sample, sky, tree, walks};
+use crate::{all, bodies, boxes, coverage, hand_made, joins, loads, pvs, records, replay, sample, sky, team, tree, walks};
 
 const PLAN: Plan = Plan { cases: 250, from: 0, seed: 7, quick: true };
 
@@ -27,13 +27,14 @@ fn right() -> Calls {
         find_leaf_nodes: stub::bsp_find_leaf_nodes,
         trace_nodes: stub::bsp_trace_nodes,
         pvs: stub::bsp_pvs,
+        pvs_team: stub::bsp_pvs_team,
         tree_check: stub::bsp_tree_check,
         hull_check: stub::bsp_hull_check,
         contents_box: stub::bsp_contents_box,
     }
 }
 
-const MODES: [Compare; 10] = [
+const MODES: [Compare; 11] = [
     records::compare,
     hand_made::compare,
     walks::compare,
@@ -41,6 +42,7 @@ const MODES: [Compare; 10] = [
     boxes::compare,
     bodies::compare,
     pvs::compare,
+    team::compare,
     loads::compare,
     sky::compare,
     joins::compare,
@@ -514,6 +516,35 @@ wrong! {
         match stub::bsp_pvs(f, m, l, c, list, o) {
             33 if list.is_empty() => 22,
             refusal => refusal,
+        }
+    };
+
+    team: seventeen_players, pvs_team, "bsp_pvs_team", |f, m, l, c, list, o| {
+        match l.len() {
+            17 => stub::bsp_pvs_team(f, m, &l[..16], c, list, o),
+            _ => stub::bsp_pvs_team(f, m, l, c, list, o),
+        }
+    };
+    team: players_before_their_number, pvs_team, "bsp_pvs_team", |f, m, l, c, list, o| {
+        match stub::bsp_pvs_team(f, m, l, c, list, o) {
+            25 if l.contains(&u64::MAX) => 20,
+            refusal => refusal,
+        }
+    };
+    team: last_refusal, pvs_team, "bsp_pvs_team", |f, m, l, c, list, o| {
+        let turned: Vec<u64> = l.iter().rev().copied().collect();
+        stub::bsp_pvs_team(f, m, &turned, c, list, o)
+    };
+    team: short_before_a_player, pvs_team, "bsp_pvs_team", |f, m, l, c, list, o| {
+        match stub::bsp_pvs_team(f, m, l, c, list, o) {
+            33 if list.is_empty() => 22,
+            refusal => refusal,
+        }
+    };
+    team: last_player_left_out, pvs_team, "bsp_pvs_team", |f, m, l, c, list, o| {
+        match l.len() {
+            16 => stub::bsp_pvs_team(f, m, &l[..15], c, list, o),
+            _ => stub::bsp_pvs_team(f, m, l, c, list, o),
         }
     };
 

@@ -34,6 +34,7 @@ extern "C" {
     fn bsp_find_leaf_nodes(file: Bytes, file_length: usize, map: Words, map_length: usize, root: u64, point: Floats, point_length: usize, list: WordsOut, list_length: usize, out: LongsOut, out_length: usize) -> u32;
     fn bsp_trace_nodes(file: Bytes, file_length: usize, map: Words, map_length: usize, hull: Longs, hull_length: usize, segment: Floats, segment_length: usize, list: WordsOut, list_length: usize, out: LongsOut, out_length: usize) -> u32;
     fn bsp_pvs(file: Bytes, file_length: usize, map: Words, map_length: usize, leaf: u64, leaf_count: u64, list: WordsOut, list_length: usize, out: LongsOut, out_length: usize) -> u32;
+    fn bsp_pvs_team(file: Bytes, file_length: usize, map: Words, map_length: usize, leaves: Longs, leaves_length: usize, leaf_count: u64, list: WordsOut, list_length: usize, out: LongsOut, out_length: usize) -> u32;
     fn bsp_contents_box(file: Bytes, file_length: usize, map: Words, map_length: usize, hull: Longs, hull_length: usize, bounds: Floats, bounds_length: usize, marks: BytesOut, marks_length: usize, out: LongsOut, out_length: usize) -> u32;
     fn bsp_tree_check(file: Bytes, file_length: usize, map: Words, map_length: usize, table: u32, root: u64, marks: BytesOut, marks_length: usize, out: LongsOut, out_length: usize) -> u32;
 }
@@ -365,6 +366,34 @@ pub(crate) fn trace_nodes(
             hull.len(),
             segment.as_ptr(),
             segment.len(),
+            list.as_mut_ptr(),
+            list.len(),
+            out.as_mut_ptr(),
+            out.len(),
+        )
+    };
+    answered(status, out[0])
+}
+
+/// `bsp_pvs_team`: the leaves in `list`, and their number.
+pub(crate) fn pvs_team(
+    file: &[u8],
+    map: &MapWords,
+    leaves: &[u64],
+    leaf_count: u64,
+    list: &mut [u32],
+) -> Result<u64, Refusal> {
+    let mut out = [0; 1];
+    // SAFETY: as in `load`.
+    let status = unsafe {
+        bsp_pvs_team(
+            file.as_ptr(),
+            file.len(),
+            map.as_ptr(),
+            map.len(),
+            leaves.as_ptr(),
+            leaves.len(),
+            leaf_count,
             list.as_mut_ptr(),
             list.len(),
             out.as_mut_ptr(),

@@ -12,6 +12,9 @@ const CLIP_NODES: u32 = 9;
 /// The most bytes that visibility data may have.
 const MOST_VISIBILITY: usize = 1_048_576;
 
+/// The most players of a team.
+const MOST_PLAYERS: usize = 16;
+
 /// The most nodes that a table may have. Of a longer one, which a map record made by hand can name, no
 /// node is read.
 const MOST_NODES: usize = 32_767;
@@ -572,9 +575,7 @@ impl Map<'_> {
     /// # Ok::<(), bsp29::Refusal>(())
     /// ```
     pub fn visible_leaves(&self, leaf: usize, leaf_count: usize) -> Result<Vec<u32>, Refusal> {
-        // a byte of the row lists 8 leaves at most, and the row lies in the visibility data
-        let bytes = self.count(VISIBILITY).min(MOST_VISIBILITY).min(self.file.len());
-        let mut list = vec![0; (8 * bytes).min(leaf_count)];
+        let mut list = vec![0; self.most_in_row().min(leaf_count)];
         let count = self.visible_leaves_into(leaf, leaf_count, &mut list)?;
         list.truncate(count);
         Ok(list)
@@ -602,6 +603,73 @@ impl Map<'_> {
     ) -> Result<usize, Refusal> {
         ffi::pvs(self.file, &self.words, leaf as u64, leaf_count as u64, list)
             .map(|count| count as usize)
+    }
+
+    /// The leaves that at least one of up to 16 players sees, from the players' leaves: lowest first and
+    /// each once. A leaf is listed exactly if [`visible_leaves`](Map::visible_leaves) lists it for one of
+    /// the players. No players see none.
+    ///
+    /// Refuses with 25 for more than 16 players, and then with the first refusal of
+    /// [`visible_leaves`](Map::visible_leaves) in the players' order.
+    ///
+    /// ```
+    /// # let file = std::fs::read(concat!(env!("CARGO_MANIFEST_DIR"), "/../../maps/rooms.bsp")).unwrap();
+    /// use bsp29::{Map, Refusal};
+    ///
+    /// let map = Map::load(&file)?;
+    /// let leaf_count = map.models().get(0)?.leaf_count + 1;
+    /// assert_eq!(map.visible_to_team(&[2, 4], leaf_count)?, [1, 2, 3, 4]);
+    /// assert_eq!(map.visible_to_team(&[4, 0, 4], leaf_count)?, [1, 3, 4]);
+    /// assert!(map.visible_to_team(&[], leaf_count)?.is_empty());
+    /// assert_eq!(map.visible_to_team(&[2; 17], leaf_count), Err(Refusal::TooManyPlayers));
+    /// assert_eq!(map.visible_to_team(&[2, 999], leaf_count), Err(Refusal::NoSuchRecord));
+    /// # Ok::<(), Refusal>(())
+    /// ```
+    pub fn visible_to_team(
+        &self,
+        leaves: &[usize],
+        leaf_count: usize,
+    ) -> Result<Vec<u32>, Refusal> {
+        let most = leaves.len().min(MOST_PLAYERS) * self.most_in_row();
+        let mut list = vec![0; most.min(leaf_count)];
+        let count = self.visible_to_team_into(leaves, leaf_count, &mut list)?;
+        list.truncate(count);
+        Ok(list)
+    }
+
+    /// The same into a list of the caller's: it answers how many there are and leaves the rest of the
+    /// list as it is. Refuses with 22, last of all, where the list is too short.
+    ///
+    /// ```
+    /// # let file = std::fs::read(concat!(env!("CARGO_MANIFEST_DIR"), "/../../maps/rooms.bsp")).unwrap();
+    /// use bsp29::{Map, Refusal};
+    ///
+    /// let map = Map::load(&file)?;
+    /// let mut list = [0; 8];
+    /// let count = map.visible_to_team_into(&[2, 4], 5, &mut list)?;
+    /// assert_eq!(list[..count], [1, 2, 3, 4]);
+    /// assert_eq!(map.visible_to_team_into(&[2, 4], 5, &mut list[..3]), Err(Refusal::ListTooShort));
+    /// # Ok::<(), Refusal>(())
+    /// ```
+    pub fn visible_to_team_into(
+        &self,
+        leaves: &[usize],
+        leaf_count: usize,
+        list: &mut [u32],
+    ) -> Result<usize, Refusal> {
+        // one player more than are answered is enough to be refused
+        let mut asked = [0; MOST_PLAYERS + 1];
+        let players = leaves.len().min(asked.len());
+        for (leaf, number) in leaves.iter().zip(&mut asked) {
+            *number = *leaf as u64;
+        }
+        ffi::pvs_team(self.file, &self.words, &asked[..players], leaf_count as u64, list)
+            .map(|count| count as usize)
+    }
+
+    /// How many leaves a row lists at most: a byte of it 8, and the row lies in the visibility data.
+    fn most_in_row(&self) -> usize {
+        8 * self.count(VISIBILITY).min(MOST_VISIBILITY).min(self.file.len())
     }
 
     /// The height of the tree from a root of a node table. Where it answers, every index in that tree

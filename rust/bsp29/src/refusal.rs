@@ -107,6 +107,8 @@ refusals! {
     InvalidSizesFile = 26, "the file of body sizes is not two fields of 24 bytes, one of tag 1 and one of tag 2";
     /// 27: a bound in a file of body sizes is not finite, or a minimum is at or above its maximum.
     NotABody = 27, "a bound of a body is not finite, or a minimum is at or above its maximum";
+    /// 25: more than 16 players.
+    TooManyPlayers = 25, "more than 16 players are asked about at once";
     /// 28: a bound of a box is not finite, or a minimum is above its maximum.
     NotABox = 28, "a bound of the box is not finite, or a minimum is above its maximum";
     /// 30: a root, child, plane or leaf index outside its table.

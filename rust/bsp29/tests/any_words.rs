@@ -89,7 +89,10 @@ fn ask(map: &Map, seed: &mut Seed) -> usize {
     answered += usize::from(map.find_leaf_from(seed.number(), seed.point()).is_ok());
     let seen = map.visible_leaves(seed.below(8) as usize, seed.number());
     assert_ne!(seen, Err(Refusal::ListTooShort));
-    answered + usize::from(seen.is_ok())
+    let players: Vec<usize> = (0..seed.below(18)).map(|_| seed.below(8) as usize).collect();
+    let pool = map.visible_to_team(&players, seed.number());
+    assert_ne!(pool, Err(Refusal::ListTooShort));
+    answered + usize::from(seen.is_ok()) + usize::from(pool.is_ok())
 }
 
 /// From a root that passed the tree check every walk and trace is answered and enters no node twice.

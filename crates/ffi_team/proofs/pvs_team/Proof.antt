@@ -1,0 +1,55 @@
+-- `ffi_team::pvs_team` meets its contract. Assumes nothing.
+use borrow.Author.Needs.{needs}
+use mathlib.Core.Path.{ap, _∙_}
+use borrow.Author.Tests.{lt-ltb, le-ltb}
+use Rattle.format.specs.Listed.{into}
+use Rattle.words.proofs.Giving.{counts}
+use Rattle.vis.specs.Pvs.{lengthOf}
+use Rattle.team.specs.Team.{teamOf}
+use Rattle.ffi_team.specs.Calls.{bspPvsTeam}
+use Rattle.ffi_team.proofs.pvs_team.Statement.{statement}
+use Rattle.ffi_team.proofs.pvs_team.Tie as tie
+
+returns : tie.Need-returns
+unfolding bspPvsTeam
+returns c = simp (lt-ltb _ _ (c .if1 .taken))
+
+returns-2 : tie.Need-returns-2
+unfolding bspPvsTeam
+returns-2 c = simp (le-ltb _ _ (c .before .if1 .left), lt-ltb _ _ (c .if2 .taken))
+
+map-of-requires : tie.Need-map-of-requires
+map-of-requires c κs = search needs
+
+pvs-team-requires : tie.Need-pvs-team-requires
+pvs-team-requires c κs = search needs
+
+give-length-requires : tie.Need-give-length-requires
+give-length-requires c κs = search needs
+
+same-length : tie.Need-same-length
+same-length c = search needs
+
+same-length-2 : tie.Need-same-length-2
+same-length-2 c = search needs
+
+returns-3 : tie.Need-returns-3
+unfolding bspPvsTeam
+returns-3 c =
+    let s = c .before .before .before .before .before .before .before .before .before .before .before .before .before .before .before .before .args in
+    simp (le-ltb _ _ (c .before .before .before .before .before .before .before .before .before .before .if1 .left), le-ltb _ _ (c .before .before .before .before .before .before .before .before .before .if2 .left))
+    (counts (lengthOf (c .before .before .before .before .before .before .pvs-team .result)) _ (s .out .now) (c .before .before .give-length .ensures)
+    (c .before .before .before .before .before .before .pvs-team .ensures ∙ ap (λ m. into (teamOf (s .file .now) m (s .leaves .now) (s .leaf-count)) (s .list .now)) (c .before .before .before .before .before .before .before .before .map-of .ensures)))
+
+pub pvs-team-spec : {M : Type 1} → statement M
+pvs-team-spec =
+    tie.close
+    (tie.spec
+    returns
+    returns-2
+    map-of-requires
+    pvs-team-requires
+    give-length-requires
+    same-length
+    same-length-2
+    returns-3)

@@ -1,0 +1,2 @@
+-- What the contract of `ffi_team` cites.
+pub mod Calls

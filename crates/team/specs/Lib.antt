@@ -1,0 +1,5 @@
+-- What the contracts of `team` cite.
+pub mod Team
+pub mod Starts
+pub mod Walk
+pub mod Pooled
