@@ -8,8 +8,8 @@
  * causes each, and in which order they come). Whatever the bytes, the map record, the hull or the
  * numbers, it ends and answers one of these; it reads and writes nothing but the lists it is lent.
  * What it answers goes to the front of a list that the caller lends; entries past the answer are
- * kept. A refusal writes nothing, but for the marks of bsp_tree_check, bsp_hull_check and
- * bsp_contents_box. The library holds no state: any thread may call it at any time.
+ * kept. A refusal writes nothing, but for the marks of bsp_tree_check, bsp_hull_check,
+ * bsp_contents_box and bsp_accept. The library holds no state: any thread may call it at any time.
  *
  * Stack, measured on a chain of 512 nodes, the deepest there can be, and not proved: bsp_trace and
  * bsp_trace_nodes need up to 574,000 bytes, bsp_contents_box 262,000, bsp_tree_check and
@@ -69,7 +69,9 @@ enum bsp_refusal {
     BSP_WALK_TOO_LONG = 31,
     BSP_TOO_DEEP = 32,
     BSP_ROW_OUTSIDE_DATA = 33,
-    BSP_REACHED_TWICE = 34
+    BSP_REACHED_TWICE = 34,
+    /* the map's references, met by bsp_accept */
+    BSP_NOT_ACCEPTABLE = 35
 };
 
 /* A sentence for a person about an answer of a call. */
@@ -103,6 +105,8 @@ static inline const char *bsp_sentence(uint32_t refusal)
     case BSP_TOO_DEEP: return "the map's tree is deeper than 512 nodes";
     case BSP_ROW_OUTSIDE_DATA: return "a leaf's visibility row lies outside the visibility data";
     case BSP_REACHED_TWICE: return "a node of the map is reached by two ways, so that its nodes are no tree";
+    case BSP_NOT_ACCEPTABLE:
+        return "a record of the map names another that is not there, or a visibility row is not whole";
     default: return "the library answered a number that this header does not know";
     }
 }
@@ -574,6 +578,27 @@ uint32_t bsp_tree_check(const uint8_t *file, size_t file_length,
                         uint32_t table, uint64_t root,
                         uint8_t *marks, size_t marks_length,
                         uint64_t *out, size_t out_length);
+
+/*
+ * Whether a map may go on the rota: one call before a stranger's map is played. It checks, in this
+ * order: face by face the plane, the texture info, the edge-list range and each edge with its two
+ * vertices; every leaf's range of the face list; every model's range of faces; every model's leaves,
+ * the last one included; the visibility row of each leaf but 0, with the count of all leaves; the tree
+ * check of the roots of hulls 0 to 2 of every model, then of render node 0. The texture section and
+ * the entries of the face list are not read.
+ * Where it answers 0 for a file that loads, every later call on this map is answered: contents, traces
+ * and leaf lookups from these roots and from any other root that passes bsp_tree_check, and bsp_pvs of
+ * every leaf with a leaf count up to the number of leaves. With a map record made by hand such a call
+ * may be 23, but never 30 to 34.
+ *   map: 31 words or more; marks: a byte for each node of the larger node table, of any values.
+ *   Refuses: 22, also for too few marks, which are kept; else the first of the checks that fails: 35, a
+ *   reference outside its table or a row that is not whole; 23, a record that it must read; a tree's
+ *   own number (30, 34, 32, 23). But for 22 the first marks, one for each node of the larger table, are
+ *   0 afterwards, whether it passes or refuses, and later ones are kept.
+ */
+uint32_t bsp_accept(const uint8_t *file, size_t file_length,
+                    const uint32_t *map, size_t map_length,
+                    uint8_t *marks, size_t marks_length);
 
 #ifdef __cplusplus
 }

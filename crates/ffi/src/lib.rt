@@ -249,3 +249,11 @@ pub extern "C" fn bsp_tree_check(
 {
     ffi_tree::tree_check(file, map, table, root, marks, out)
 }
+
+// Whether a map may go on the rota: 0, or why not.
+#[no_mangle]
+pub extern "C" fn bsp_accept(file: &[u8], map: &[u32], marks: &mut [u8]) -> u32
+    ensures { λ r. ⌜ written r (now (marks .exit)) ≡ Calls.bspAccept (now (file .entry)) (now (map .entry)) (now (marks .entry)) ⌝ }
+{
+    ffi_accept::accept(file, map, marks)
+}

@@ -50,7 +50,7 @@ pub record Loads (s map : List ℕ) : Type 0 where
 some-number : (s : List ℕ) → RefusedOnly Some (loadOf s)
 some-number s n e = loading-refuses s n e .0
 
-load-passed : (s lent : List ℕ) → bspLoad s lent .status ≡ 0 → Loads s (mapWritten s lent)
+pub load-passed : (s lent : List ℕ) → bspLoad s lent .status ≡ 0 → Loads s (mapWritten s lent)
 unfolding bspLoad
 load-passed s lent e = by (loadOf s) refl (ltb (length lent) 31) e
   where
@@ -88,7 +88,7 @@ module _ (s map : List ℕ) (table root : ℕ) (marks out : List ℕ) where
       by (answer h) p e = record { t = t; is-table = is-word table t q; marks = marks; passed = p }
       by (refused n) p e = let l : 1 ≤ n = of-check Some (omega arith) (omega arith) (omega arith) (omega arith) (omega arith) (omega arith) s (mapOf map) t marks root n p in absurd (omega (arith, e, l))
 
-  check-passed : bspTreeCheck s map table root marks out .status ≡ 0 → Checked s map table root (treeHeight (bspTreeCheck s map table root marks out .out))
+  pub check-passed : bspTreeCheck s map table root marks out .status ≡ 0 → Checked s map table root (treeHeight (bspTreeCheck s map table root marks out .out))
   unfolding bspTreeCheck
   check-passed e =
       let a = were-long 31 map marks out (enough 1 out marks out (checkOf (tableNumbered table) s map root marks out)) e in

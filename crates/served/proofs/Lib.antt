@@ -2,5 +2,6 @@
 pub mod Refusals
 pub mod EveryCall
 pub mod StartedSolid
+pub mod Rota
 -- what these rest on
 mod Statuses

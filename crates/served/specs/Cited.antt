@@ -6,6 +6,9 @@ unfoldable pub use Rattle.ffi_tree.specs.Calls.{bspTreeCheck}
 unfoldable pub use Rattle.ffi_walks.specs.Calls.{bspContents, bspFindLeaf}
 unfoldable pub use Rattle.ffi_traces.specs.Calls.{bspTrace}
 unfoldable pub use Rattle.ffi_entered.specs.Calls.{bspContentsNodes, bspFindLeafNodes, bspTraceNodes}
+unfoldable pub use Rattle.ffi_hull.specs.Calls.{bspHull}
+unfoldable pub use Rattle.ffi_vis.specs.Calls.{bspPvs}
+unfoldable pub use Rattle.ffi_accept.specs.Calls.{bspAccept}
 -- a point from a list of floats
 pub use Rattle.ffi_hull.specs.Layout.{pointAt}
 -- and, for the proofs, the parts of which these are made
@@ -14,6 +17,7 @@ pub use Rattle.ffi_tree.specs.Calls.{checkOf}
 pub use Rattle.ffi_tree.specs.declared.TableNumbered.{TableNumbered}
 pub use Rattle.ffi_tree.specs.declared.TableNumbered.the-variants.{Table, NoTable}
 unfoldable pub use Rattle.ffi_hull.specs.Layout.{hullFrom}
-pub use Rattle.ffi_hull.specs.Layout.{vectorAt, hullIn, tableWord}
+pub use Rattle.ffi_hull.specs.Layout.{vectorAt, hullIn, tableWord, hullWords}
 pub use Rattle.ffi_walks.specs.Calls.{contentsWords, leafWords}
 pub use Rattle.ffi_traces.specs.Layout.{traceWords}
+pub use Rattle.ffi_accept.specs.Calls.{statusOf, judgedIn}

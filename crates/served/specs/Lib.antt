@@ -4,3 +4,4 @@ pub mod Words
 pub mod Refusals
 pub mod EveryCall
 pub mod StartedSolid
+pub mod Rota

@@ -96,7 +96,8 @@ fn check_child(file: &[u8], t: Tables, word: u16, levels: u32, marks: &mut [u8])
     }
 }
 
-fn clear(marks: &mut [u8])
+// Every mark zero.
+pub fn clear(marks: &mut [u8])
     ensures { λ _. ⌜ now (marks .exit) ≡ replicate (length (now (marks .entry))) 0 ⌝ }
 {
     let mut i = 0;

@@ -3,18 +3,19 @@
 
 use crate::board::{Board, Plan};
 use crate::calls::{self, Calls};
-use crate::{bodies, boxes, coverage, hand_made, joins, leaves, loads, pvs, records, sky, team, tree, walks};
+use crate::{accept, bodies, boxes, coverage, hand_made, joins, leaves, loads, pvs, records, sky, team, tree, walks};
 
 type Mode = fn(&Calls, &Plan) -> Board;
 
 /// The modes, and the cases of each in a round.
-const MODES: [(Mode, u64); 11] = [
+const MODES: [(Mode, u64); 12] = [
     (records::compare, 500),
     (hand_made::compare, 1_000),
     (walks::compare, 1_000),
     (tree::compare, 2_000),
     (boxes::compare, 500),
     (bodies::compare, 500),
+    (accept::compare, 500),
     (pvs::compare, 2_000),
     (team::compare, 500),
     (loads::compare, 2_000),

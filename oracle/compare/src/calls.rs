@@ -39,6 +39,7 @@ extern "C" {
     fn bsp_pvs_team(file: Bytes, file_len: usize, map: Words, map_len: usize, leaves: Longs, leaves_len: usize, leaf_count: u64, list: WordsOut, list_len: usize, out: LongsOut, out_len: usize) -> u32;
     fn bsp_tree_check(file: Bytes, file_len: usize, map: Words, map_len: usize, table: u32, root: u64, marks: BytesOut, marks_len: usize, out: LongsOut, out_len: usize) -> u32;
     fn bsp_contents_box(file: Bytes, file_len: usize, map: Words, map_len: usize, hull: Longs, hull_len: usize, bounds: Floats, bounds_len: usize, marks: BytesOut, marks_len: usize, out: LongsOut, out_len: usize) -> u32;
+    fn bsp_accept(file: Bytes, file_len: usize, map: Words, map_len: usize, marks: BytesOut, marks_len: usize) -> u32;
     fn bsp_hull_check(file: Bytes, file_len: usize, map: Words, map_len: usize, hull: Longs, hull_len: usize, marks: BytesOut, marks_len: usize, out: LongsOut, out_len: usize) -> u32;
 }
 
@@ -75,6 +76,7 @@ pub struct Calls {
     pub pvs_team: fn(&[u8], &[u32], &[u64], u64, &mut [u32], &mut [u64]) -> u32,
     pub tree_check: fn(&[u8], &[u32], u32, u64, &mut [u8], &mut [u64]) -> u32,
     pub contents_box: fn(&[u8], &[u32], &[u64], &[f32], &mut [u8], &mut [u64]) -> u32,
+    pub accept: fn(&[u8], &[u32], &mut [u8]) -> u32,
     pub hull_check: fn(&[u8], &[u32], &[u64], &mut [u8], &mut [u64]) -> u32,
 }
 
@@ -99,6 +101,7 @@ impl Calls {
             pvs_team,
             tree_check,
             contents_box,
+            accept,
             hull_check,
         }
     }
@@ -114,6 +117,7 @@ pub fn is_linked(call: &str) -> bool {
         "bsp_tree_check" | "bsp_hull_check" => cfg!(feature = "ffi_tree"),
         "bsp_contents_box" => cfg!(feature = "ffi_boxes"),
         "bsp_body_sizes" | "bsp_hull_sized" => cfg!(feature = "ffi_sizes"),
+        "bsp_accept" => cfg!(feature = "ffi_accept"),
         "bsp_contents_nodes" | "bsp_find_leaf_nodes" | "bsp_trace_nodes" => {
             cfg!(feature = "ffi_nodes")
         }
@@ -489,6 +493,21 @@ pub fn contents_box(
             marks.len(),
             out.as_mut_ptr(),
             out.len()
+        )
+    )
+}
+
+pub fn accept(file: &[u8], map: &[u32], marks: &mut [u8]) -> u32 {
+    either!(
+        "ffi_accept",
+        bsp_accept(file, map, marks),
+        (
+            file.as_ptr(),
+            file.len(),
+            map.as_ptr(),
+            map.len(),
+            marks.as_mut_ptr(),
+            marks.len()
         )
     )
 }

@@ -6,7 +6,7 @@
 #![allow(dead_code)]
 
 use crate::paper::walk::{self, Hull, Walked};
-use crate::paper::{Answer, MAP_WORDS, Map, SECTIONS, bodies, boxes, load, team, tree, vis};
+use crate::paper::{Answer, MAP_WORDS, Map, SECTIONS, accept, bodies, boxes, load, team, tree, vis};
 
 /// The words of `bsp_record`'s list, of a trace's, of a walk's and of a hull, and of a hull that a call
 /// takes, which does not look at the last two.
@@ -262,4 +262,11 @@ pub fn bsp_contents_box(
     let set = map_of(file, map, enough)
         .and_then(|map| boxes::contents_box(&map, &Hull::of_words(hull)?, bounds, marks));
     put(set.map(|set| vec![set]), out)
+}
+
+pub fn bsp_accept(file: &[u8], map: &[u32], marks: &mut [u8]) -> u32 {
+    match map_of(file, map, true).and_then(|map| accept::accept(&map, marks)) {
+        Ok(()) => 0,
+        Err(refusal) => refusal,
+    }
 }

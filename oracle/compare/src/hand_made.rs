@@ -95,7 +95,7 @@ fn long_texts(board: &mut Board, calls: &Calls) {
 }
 
 /// Bytes and a map record that fits them, if any does.
-fn bytes(seed: &mut Seed) -> (Vec<u8>, [u32; MAP_WORDS]) {
+pub fn bytes(seed: &mut Seed) -> (Vec<u8>, [u32; MAP_WORDS]) {
     match seed.below(8) {
         0..=3 => {
             let what = maps::Plan::any(seed, 10);
@@ -159,7 +159,7 @@ fn place(seed: &mut Seed, len: u64) -> u32 {
 }
 
 /// Changes one section's place, or the texture count.
-fn spoil(seed: &mut Seed, map: &mut [u32; MAP_WORDS], len: u64) {
+pub fn spoil(seed: &mut Seed, map: &mut [u32; MAP_WORDS], len: u64) {
     let section = seed.below(SECTIONS as u64) as usize;
     let other = seed.below(SECTIONS as u64) as usize;
     let size = record_size(section) as u32;

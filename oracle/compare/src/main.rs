@@ -1,5 +1,6 @@
 //! Compares the proved code with the published Rust. `oracle/run` builds and starts it.
 
+mod accept;
 mod all;
 mod asked;
 mod bench;
@@ -102,6 +103,7 @@ fn run(mode: &str, given: &Arguments) -> bool {
         "hand-made" => hand_made::run(&given.plan(10_000)),
         "walks" => walks::run(&given.plan(10_000)),
         "tree-check" => tree::run(&given.plan(20_000)),
+        "accept" => accept::run(&given.plan(10_000)),
         "boxes" => boxes::run(&given.plan(10_000)),
         "sizes" => bodies::run(&given.plan(10_000)),
         "pvs" => pvs::run(&given.plan(20_000)),

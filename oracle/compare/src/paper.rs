@@ -19,8 +19,10 @@
 //! - `boxes`: the contents that a box may meet (document 02, note 12)
 //! - `bodies`: the hall's own body sizes (document 02, note 10)
 //! - `team`: what a team can see (document 02, note 9)
+//! - `accept`: whole-map acceptance (document 02, note 4)
 
 pub mod bodies;
+pub mod accept;
 pub mod boxes;
 pub mod faces;
 pub mod fields;

@@ -3,7 +3,7 @@
 use crate::board::{Board, Plan};
 use crate::calls::Calls;
 use crate::calls_stub as stub;
-use crate::{all, bodies, boxes, coverage, hand_made, joins, loads, pvs, records, replay, sample, sky, team, tree, walks};
+use crate::{accept, all, bodies, boxes, coverage, hand_made, joins, loads, pvs, records, replay, sample, sky, team, tree, walks};
 
 const PLAN: Plan = Plan { cases: 250, from: 0, seed: 7, quick: true };
 
@@ -31,16 +31,18 @@ fn right() -> Calls {
         tree_check: stub::bsp_tree_check,
         hull_check: stub::bsp_hull_check,
         contents_box: stub::bsp_contents_box,
+        accept: stub::bsp_accept,
     }
 }
 
-const MODES: [Compare; 11] = [
+const MODES: [Compare; 12] = [
     records::compare,
     hand_made::compare,
     walks::compare,
     tree::compare,
     boxes::compare,
     bodies::compare,
+    accept::compare,
     pvs::compare,
     team::compare,
     loads::compare,
@@ -420,6 +422,39 @@ wrong! {
             0 if z[..12].iter().any(|word| !f32::from_bits(*word as u32).is_finite()) => 27,
             refusal => refusal,
         }
+    };
+
+    accept: a_range_may_go_one_further, accept, "bsp_accept", |f, m, marks| {
+        let mut longer = m.to_vec();
+        longer[2 * 11 + 1] += 2;
+        match stub::bsp_accept(f, m, marks) {
+            35 if m.len() == 31 => stub::bsp_accept(f, &longer, marks),
+            refusal => refusal,
+        }
+    };
+    accept: trees_before_rows, accept, "bsp_accept", |f, m, marks| {
+        let mut without = m.to_vec();
+        if m.len() == 31 {
+            (without[21], without[15]) = (0, 0);
+        }
+        match (stub::bsp_accept(f, m, marks), stub::bsp_accept(f, &without, marks)) {
+            (35, 34) => 34,
+            (refusal, _) => refusal,
+        }
+    };
+    accept: node_0_not_checked, accept, "bsp_accept", |f, m, marks| {
+        match stub::bsp_accept(f, m, marks) {
+            30 | 34 if m[29] == 0 => 0,
+            refusal => refusal,
+        }
+    };
+    accept: marks_left_as_they_were, accept, "bsp_accept", |f, m, marks| {
+        let before = marks.to_vec();
+        let refusal = stub::bsp_accept(f, m, marks);
+        if refusal == 35 {
+            marks.copy_from_slice(&before);
+        }
+        refusal
     };
 
     tree: marks_left_behind, tree_check, "bsp_tree_check", |f, m, t, r, marks, o| {

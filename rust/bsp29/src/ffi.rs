@@ -36,6 +36,7 @@ extern "C" {
     fn bsp_pvs(file: Bytes, file_length: usize, map: Words, map_length: usize, leaf: u64, leaf_count: u64, list: WordsOut, list_length: usize, out: LongsOut, out_length: usize) -> u32;
     fn bsp_pvs_team(file: Bytes, file_length: usize, map: Words, map_length: usize, leaves: Longs, leaves_length: usize, leaf_count: u64, list: WordsOut, list_length: usize, out: LongsOut, out_length: usize) -> u32;
     fn bsp_contents_box(file: Bytes, file_length: usize, map: Words, map_length: usize, hull: Longs, hull_length: usize, bounds: Floats, bounds_length: usize, marks: BytesOut, marks_length: usize, out: LongsOut, out_length: usize) -> u32;
+    fn bsp_accept(file: Bytes, file_length: usize, map: Words, map_length: usize, marks: BytesOut, marks_length: usize) -> u32;
     fn bsp_tree_check(file: Bytes, file_length: usize, map: Words, map_length: usize, table: u32, root: u64, marks: BytesOut, marks_length: usize, out: LongsOut, out_length: usize) -> u32;
 }
 
@@ -484,4 +485,20 @@ pub(crate) fn contents_box(
         )
     };
     answered(status, out[0])
+}
+
+/// `bsp_accept`: whether a map may go on the rota.
+pub(crate) fn accept(file: &[u8], map: &MapWords, marks: &mut [u8]) -> Result<(), Refusal> {
+    // SAFETY: as in `load`.
+    let status = unsafe {
+        bsp_accept(
+            file.as_ptr(),
+            file.len(),
+            map.as_ptr(),
+            map.len(),
+            marks.as_mut_ptr(),
+            marks.len(),
+        )
+    };
+    answered(status, ())
 }

@@ -9,26 +9,14 @@
 //! Every NaN that a call answers is the same one, 0x7fc00000.
 //!
 //! ```
-//! use bsp29::{Contents, Map, NodeTable, TraceEnd};
+//! use bsp29::{Contents, Map, TraceEnd};
 //!
 //! let path = concat!(env!("CARGO_MANIFEST_DIR"), "/../../maps/rooms.bsp");
 //! let file = std::fs::read(path)?;
 //! let map = Map::load(&file)?;
 //!
-//! // before a stranger's map is played: each hull of each model, for contents and traces
-//! for model in 0..map.models().len() {
-//!     for index in 0..3 {
-//!         let hull = map.hull(model, index)?;
-//!         map.tree_check(hull.table, hull.root)?;
-//!     }
-//! }
-//! // leaf lookups start at render node 0, which need not be the root of a model
-//! map.tree_check(NodeTable::Render, 0)?;
-//! // no tree check looks at visibility: each leaf's row
-//! let leaf_count = map.models().get(0)?.leaf_count + 1;
-//! for leaf in 0..map.leaves().len() {
-//!     map.visible_leaves(leaf, leaf_count)?;
-//! }
+//! // before a stranger's map is played
+//! map.accept()?;
 //!
 //! let hull = map.hull(0, 0)?;
 //! let (contents, _visits) = map.contents(&hull, [-64.0, 0.0, 0.0])?;
@@ -39,11 +27,10 @@
 //! # Ok::<(), Box<dyn std::error::Error>>(())
 //! ```
 //!
-//! Where these checks pass, contents and traces in the hulls that were checked and leaf lookups from render
-//! node 0 are answered, whatever the floats, and so are visibility lists with this leaf count or a smaller
-//! one. They do not cover a hull made by hand with another root, a leaf lookup from another root, or a
-//! greater leaf count. Whether the faces and face lists of nodes, leaves and models lie in their tables is
-//! not looked at.
+//! Where [`accept`](Map::accept) passes on a map that was loaded, contents and traces in every hull of every
+//! model, leaf lookups and the visibility of every leaf are answered, whatever the floats, with a leaf count
+//! up to the number of leaves. A hull made by hand with another root wants
+//! [`tree_check`](Map::tree_check) first.
 //!
 //! - [`Map`]: a map, and the questions that it answers
 //! - [`Records`] and the records: planes, leaves, models and the rest, by their index
@@ -67,10 +54,6 @@ mod words;
 
 pub use hull::{Hull, NodeTable, Trace, TraceEnd};
 pub use map::Map;
-pub use records::{
-    ClipChild, ClipNode, Contents, ContentsSet, Direction, Edge, EdgeListEntry, Face,
-    FaceListEntry, Leaf, Model, Plane, PlaneKind, Record, Records, RenderChild, RenderNode, Side,
-    Sounds, TextureInfo, Vertex,
-};
+pub use records::{ClipChild, ClipNode, Contents, ContentsSet, Direction, Edge, EdgeListEntry, Face, FaceListEntry, Leaf, Model, Plane, PlaneKind, Record, Records, RenderChild, RenderNode, Side, Sounds, TextureInfo, Vertex};
 pub use refusal::Refusal;
 pub use sizes::{BodySizes, Bounds};

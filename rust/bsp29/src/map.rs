@@ -21,10 +21,8 @@ const MOST_NODES: usize = 32_767;
 
 /// A map over the bytes of its file, which it borrows and never copies.
 ///
-/// Whatever the bytes are, no call crashes, hangs or reads outside them. Check the roots of a map
-/// from a stranger ([`tree_check`](Map::tree_check)) before it is played: from a root that passed, in a
-/// map that was loaded, every walk and trace is answered and enters no node twice. The first example of
-/// this crate checks all roots that play asks for.
+/// Whatever the bytes are, no call crashes, hangs or reads outside them. Ask whether a map from a
+/// stranger may be played ([`accept`](Map::accept)) before it is: then every question to it is answered.
 ///
 /// A call needs at most some 574,000 bytes of stack (measured, not proved; `include/bsp29.h` says of
 /// which call).
@@ -32,8 +30,8 @@ const MOST_NODES: usize = 32_767;
 /// ```
 /// # let file = std::fs::read(concat!(env!("CARGO_MANIFEST_DIR"), "/../../maps/rooms.bsp")).unwrap();
 /// let map = bsp29::Map::load(&file)?;
+/// map.accept()?;
 /// let hull = map.hull(0, 1)?;
-/// map.tree_check(hull.table, hull.root)?;
 /// let trace = map.trace(&hull, [-64.0, 64.0, 0.0], [64.0, 64.0, 0.0])?;
 /// assert_eq!(trace.end, [-24.0, 64.0, 0.0]);
 /// # Ok::<(), bsp29::Refusal>(())
@@ -723,6 +721,41 @@ impl Map<'_> {
         let mut marks: Vec<u8> = self.list(hull.table);
         ffi::hull_check(self.file, &self.words, &hull.words(), &mut marks)
             .map(|words| Hull::of(&words))
+    }
+
+    /// Whether a map may go on the rota: one call before a stranger's map is played.
+    ///
+    /// It checks every face with its edges, the face ranges of leaves and models, the models' leaves,
+    /// the visibility row of every leaf, and the trees of hulls 0 to 2 of every model and of render node
+    /// 0. Where it passes, every later question to a map that was loaded is answered: contents and
+    /// traces in these hulls, leaf lookups, the same from any other root that passes
+    /// [`tree_check`](Map::tree_check), and the visibility of every leaf with a leaf count up to the
+    /// number of leaves. On a map record made by hand such a question may still be refused with 23,
+    /// where a record cannot be read, but never with 30 to 34.
+    ///
+    /// Refuses with the first check that fails: 35 for a reference outside its table or a row that is not
+    /// whole, 23 for a record that it must read, or a tree's own number (30, 32, 34); before that with 22
+    /// for a table above 32,767 nodes, which only a map record made by hand can name.
+    ///
+    /// ```
+    /// # let file = std::fs::read(concat!(env!("CARGO_MANIFEST_DIR"), "/../../maps/rooms.bsp")).unwrap();
+    /// use bsp29::{Map, Refusal};
+    ///
+    /// let map = Map::load(&file)?;
+    /// map.accept()?;
+    ///
+    /// // the smallest map that loads has no leaf, and its model names one
+    /// # let file = std::fs::read(concat!(env!("CARGO_MANIFEST_DIR"), "/../../maps/smallest.bsp")).unwrap();
+    /// let smallest = Map::load(&file)?;
+    /// assert_eq!(smallest.accept(), Err(Refusal::NotAcceptable));
+    /// # Ok::<(), Refusal>(())
+    /// ```
+    pub fn accept(&self) -> Result<(), Refusal> {
+        let larger = match self.nodes(NodeTable::Render) < self.nodes(NodeTable::Clip) {
+            true => NodeTable::Clip,
+            false => NodeTable::Render,
+        };
+        ffi::accept(self.file, &self.words, &mut self.list::<u8>(larger))
     }
 
     /// The contents that a point of a box may have, for one who is known only to be somewhere in it.

@@ -121,6 +121,8 @@ refusals! {
     RowOutsideData = 33, "a leaf's visibility row lies outside the visibility data";
     /// 34: a node reached twice.
     ReachedTwice = 34, "a node of the map is reached by two ways, so that its nodes are no tree";
+    /// 35, on acceptance: a reference outside its table, or a visibility row that is not whole.
+    NotAcceptable = 35, "a record of the map names another that is not there, or a visibility row is not whole";
 }
 
 impl std::error::Error for Refusal {}
