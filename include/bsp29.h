@@ -63,6 +63,7 @@ enum bsp_refusal {
     BSP_INVALID_SIZES_FILE = 26,
     BSP_NOT_A_BODY = 27,
     BSP_TOO_MANY_PLAYERS = 25,
+    BSP_NOT_POINTS = 24,
     BSP_NOT_A_BOX = 28,
     /* the map's shape, met in a query */
     BSP_INDEX_OUTSIDE_TABLE = 30,
@@ -99,6 +100,7 @@ static inline const char *bsp_sentence(uint32_t refusal)
     case BSP_INVALID_SIZES_FILE: return "the file of body sizes is not two fields of 24 bytes, one of tag 1 and one of tag 2";
     case BSP_NOT_A_BODY: return "a bound of a body is not finite, or a minimum is at or above its maximum";
     case BSP_TOO_MANY_PLAYERS: return "more than 16 players are asked about at once";
+    case BSP_NOT_POINTS: return "there are more than 1,024 points, or their coordinates are not in threes";
     case BSP_NOT_A_BOX: return "a bound of the box is not finite, or a minimum is above its maximum";
     case BSP_INDEX_OUTSIDE_TABLE: return "a node of the map names a node, plane or leaf that is not there, or the root is not there";
     case BSP_WALK_TOO_LONG: return "the walk entered as many nodes as the map has and did not end";
@@ -524,6 +526,28 @@ uint32_t bsp_contents_box(const uint8_t *file, size_t file_length,
                           const float *bounds, size_t bounds_length,
                           uint8_t *marks, size_t marks_length,
                           uint64_t *out, size_t out_length);
+
+/*
+ * The contents of up to 1,024 points of a hull at once: the code of each (enum bsp_contents), a byte
+ * each in the order of the points, at the front of list, and in out[0] how often a node was read. A
+ * node is read once for all points that come to it the same way: the reads are the different runs of
+ * sides from the root by which the points reach nodes, and from a root that passed bsp_tree_check the
+ * different nodes that they meet. Where every point is answered, each answer is that of bsp_contents;
+ * else the call refuses as bsp_contents does of the first point that it refuses. No points: no reads,
+ * and no refusal for the root.
+ *   map: 31 words or more; hull: 9; points: three floats for each point; list: a byte for each point;
+ *   out: 1 word or more.
+ *   Refuses: 24, more than 1,024 points or coordinates not in threes, before everything else; 22, list
+ *   counted; 20, a hull whose table is none; then as bsp_contents.
+ *   Takes at most one step for each node that each point enters, and less where they go together;
+ *   it calls itself at most ten deep.
+ */
+uint32_t bsp_contents_points(const uint8_t *file, size_t file_length,
+                             const uint32_t *map, size_t map_length,
+                             const uint64_t *hull, size_t hull_length,
+                             const float *points, size_t points_length,
+                             uint8_t *list, size_t list_length,
+                             uint64_t *out, size_t out_length);
 
 /*
  * The leaves that can be seen from a leaf: their number in out[0], and the leaves, lowest first, at

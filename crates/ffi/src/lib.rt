@@ -205,6 +205,21 @@ pub extern "C" fn bsp_contents_box(
     ffi_boxes::contents_box(file, map, hull, bounds, marks, out)
 }
 
+// The contents codes of many points, a byte each, at the front of `list`, and how often a node was read.
+#[no_mangle]
+pub extern "C" fn bsp_contents_points(
+    file: &[u8],
+    map: &[u32],
+    hull: &[u64],
+    points: &[f32],
+    list: &mut [u8],
+    out: &mut [u64],
+) -> u32
+    ensures { λ r. ⌜ left r (now (list .exit)) (now (out .exit)) ≡ Calls.bspContentsPoints (now (file .entry)) (now (map .entry)) (now (hull .entry)) (now (points .entry)) (now (list .entry)) (now (out .entry)) ⌝ }
+{
+    ffi_points::contents_points(file, map, hull, points, list, out)
+}
+
 // The leaves that can be seen from a leaf, at the front of `list`, and their count.
 #[no_mangle]
 pub extern "C" fn bsp_pvs(

@@ -36,6 +36,10 @@ const LISTS: usize = 1_000;
 /// Teams of 16 players asked for their pooled lists a slice.
 const TEAMS: usize = 100;
 
+/// Points asked at once, and the part of the map's side that a room takes.
+const AT_ONCE: [usize; 4] = [1_024, 64, 8, 1];
+const ROOM: f32 = 1.0 / 16.0;
+
 /// Loading and the tree check, one call a slice, take so many times the slices.
 const SINGLE: u64 = 10;
 
@@ -43,8 +47,36 @@ pub fn run(plan: &Plan) -> bool {
     if cfg!(feature = "notes") {
         println!("built with the marked lines: the Rust's times are too high");
     }
+    println!(
+        "least of {} slices, of load and tree check {}; ratio: proved / Rust",
+        plan.cases,
+        SINGLE * plan.cases
+    );
+    println!(
+        "{:<9} {:<22} {:>12} {:>12} {:>7} {:>10} {:>10}",
+        "map", "call", "ns a call", "Rust", "ratio", "ns a part", "Rust"
+    );
+    let mut equal = true;
+    for (name, world) in worlds() {
+        let mut seed = Seed::named(plan.seed, name);
+        let file = tables(&mut seed, &world).file(&Layout::plain());
+        let mut table = Table { name, slices: plan.cases, equal: true };
+        of_map(&mut table, &mut seed, &file);
+        equal &= table.equal;
+    }
+    equal &= run_points(plan);
+    for call in ["bsp_load", "bsp_contents", "bsp_contents_points", "bsp_pvs", "bsp_tree_check"] {
+        if !calls::is_linked(call) {
+            println!("{call} and its group are the stub's");
+        }
+    }
+    equal
+}
+
+/// The maps, by their names.
+fn worlds() -> [(&'static str, World); 3] {
     let axis = World { nodes: 10_000, slanted: 0, visibility: 200_000, lightmaps: 0, faces: 500 };
-    let worlds = [
+    [
         ("axis", axis),
         ("slanted", World { slanted: 40, ..axis }),
         (
@@ -57,32 +89,24 @@ pub fn run(plan: &Plan) -> bool {
                 faces: 16_000,
             },
         ),
-    ];
+    ]
+}
+
+/// Many points in one call, on the same maps.
+pub fn run_points(plan: &Plan) -> bool {
     println!(
-        "least of {} slices, of load and tree check {}; ratio: proved / Rust",
-        plan.cases,
-        SINGLE * plan.cases
+        "many points in one call: ns a point, beside a call for each point and the Rust's calls"
     );
     println!(
-        "{:<9} {:<22} {:>12} {:>12} {:>7} {:>10} {:>10}",
-        "map", "call", "ns a call", "Rust", "ratio", "ns a part", "Rust"
+        "{:<9} {:<14} {:>6} {:>7} {:>8} {:>8} {:>8} {:>8} {:>8}",
+        "map", "points", "n", "reads", "many", "alone", "Rust", "/ alone", "/ Rust"
     );
     println!("team: beside 16 calls of bsp_pvs and a merge by the caller, in the Rust's columns");
     let mut equal = true;
-    for (name, world) in worlds {
+    for (name, world) in worlds() {
         let mut seed = Seed::named(plan.seed, name);
         let file = tables(&mut seed, &world).file(&Layout::plain());
-        let mut table = Table { name, slices: plan.cases, equal: true };
-        of_map(&mut table, &mut seed, &file);
-        equal &= table.equal;
-    }
-    let mut table = Table { name: "rooms", slices: plan.cases, equal: true };
-    of_rooms(&mut table, &mut Seed::named(plan.seed, "rooms"), ROOMS);
-    equal &= table.equal;
-    for call in ["bsp_load", "bsp_contents", "bsp_pvs", "bsp_pvs_team", "bsp_tree_check"] {
-        if !calls::is_linked(call) {
-            println!("{call} and its group are the stub's");
-        }
+        equal &= many_points(name, plan.cases, &mut seed, &file);
     }
     equal
 }
@@ -456,4 +480,91 @@ fn tree_check(table: &mut Table, (file, map): (&[u8], &[u32]), number: u32, node
     table.slices = SINGLE * slices;
     table.line(&format!("tree check, {nodes}"), (1, count as u64), ours, None);
     table.slices = slices;
+}
+
+/// Many points at once, spread over the map and in rooms of a sixteenth of its side, a room for each
+/// 1,024.
+fn many_points(name: &str, slices: u64, seed: &mut Seed, file: &[u8]) -> bool {
+    let mut map = [0u32; 31];
+    let (0, Ok(rust)) = (calls::load(file, &mut map), richter::load(file)) else { return false };
+    let count = INPUTS / AT_ONCE[0] * AT_ONCE[0];
+    let spread: Vec<[f32; 3]> = (0..count).map(|_| point(seed)).collect();
+    let mut near = spread.clone();
+    for room in near.chunks_mut(AT_ONCE[0]) {
+        let corner = room[0].map(|x| x * (1.0 - ROOM));
+        for p in room {
+            *p = [0, 1, 2].map(|at| corner[at] + ROOM * p[at]);
+        }
+    }
+    let mut equal = true;
+    for (number, nodes) in [(1, "clip"), (0, "render")] {
+        let hull = rust.table(number).with_root(0);
+        let words = words::hull(number as u64, &hull);
+        for (kind, points) in [("spread", &spread), ("near", &near)] {
+            for n in AT_ONCE {
+                let what = (name, format!("{nodes}, {kind}"));
+                equal &= at_once(what, (slices, n), (file, &map, &words), &hull, points);
+            }
+        }
+    }
+    equal
+}
+
+/// Each side by turns on every 1,024 points; of these the least time of all slices counts, and the
+/// table has their sum.
+fn at_once(
+    (name, kind): (&str, String),
+    (slices, n): (u64, usize),
+    (file, map, words): Lent,
+    hull: &Hull,
+    points: &[[f32; 3]],
+) -> bool {
+    let (mut list, mut reads, mut out) = (vec![0u8; n], [0; 1], [0; 2]);
+    let mut all_reads = 0;
+    let mut many = |points: &[[f32; 3]]| {
+        let mut sum = 0;
+        for some in points.chunks(n) {
+            let some = black_box(some.as_flattened());
+            calls::contents_points(file, map, words, some, &mut list, &mut reads);
+            all_reads += reads[0];
+            sum += list.iter().map(|code| *code as u64).sum::<u64>();
+        }
+        sum
+    };
+    let mut alone = |points: &[[f32; 3]]| {
+        let mut sum = 0;
+        for p in points {
+            let point = black_box(*p);
+            calls::contents(file, map, words, &point, &mut out);
+            sum += out[0];
+        }
+        sum
+    };
+    let rust =
+        |points: &[[f32; 3]]| points.iter().map(|p| hull.bare_contents(black_box(*p)) as u64).sum();
+    let mut sums = [0.0; 3];
+    for some in points.chunks(AT_ONCE[0]) {
+        let one = many(some);
+        if one != alone(some) || one != rust(some) {
+            println!("{name:<9} {kind:<14} {n:>6} the answers differ");
+            return false;
+        }
+        let mut least = [f64::MAX; 3];
+        for _ in 0..slices {
+            least[0] = least[0].min(timed(&mut || many(some)));
+            least[1] = least[1].min(timed(&mut || alone(some)));
+            least[2] = least[2].min(timed(&mut || rust(some)));
+        }
+        for (sum, time) in sums.iter_mut().zip(least) {
+            *sum += time;
+        }
+    }
+    let reads = all_reads as f64 / (points.len() as u64 * (slices + 1)) as f64;
+    let [many, alone, rust] = sums.map(|time| time / points.len() as f64);
+    println!(
+        "{name:<9} {kind:<14} {n:>6} {reads:>7.2} {many:>8.1} {alone:>8.1} {rust:>8.1} {:>8.2} {:>8.2}",
+        many / alone,
+        many / rust
+    );
+    true
 }

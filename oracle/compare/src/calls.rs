@@ -40,6 +40,7 @@ extern "C" {
     fn bsp_tree_check(file: Bytes, file_len: usize, map: Words, map_len: usize, table: u32, root: u64, marks: BytesOut, marks_len: usize, out: LongsOut, out_len: usize) -> u32;
     fn bsp_contents_box(file: Bytes, file_len: usize, map: Words, map_len: usize, hull: Longs, hull_len: usize, bounds: Floats, bounds_len: usize, marks: BytesOut, marks_len: usize, out: LongsOut, out_len: usize) -> u32;
     fn bsp_accept(file: Bytes, file_len: usize, map: Words, map_len: usize, marks: BytesOut, marks_len: usize) -> u32;
+    fn bsp_contents_points(file: Bytes, file_len: usize, map: Words, map_len: usize, hull: Longs, hull_len: usize, points: Floats, points_len: usize, list: BytesOut, list_len: usize, out: LongsOut, out_len: usize) -> u32;
     fn bsp_hull_check(file: Bytes, file_len: usize, map: Words, map_len: usize, hull: Longs, hull_len: usize, marks: BytesOut, marks_len: usize, out: LongsOut, out_len: usize) -> u32;
 }
 
@@ -77,6 +78,7 @@ pub struct Calls {
     pub tree_check: fn(&[u8], &[u32], u32, u64, &mut [u8], &mut [u64]) -> u32,
     pub contents_box: fn(&[u8], &[u32], &[u64], &[f32], &mut [u8], &mut [u64]) -> u32,
     pub accept: fn(&[u8], &[u32], &mut [u8]) -> u32,
+    pub contents_points: fn(&[u8], &[u32], &[u64], &[f32], &mut [u8], &mut [u64]) -> u32,
     pub hull_check: fn(&[u8], &[u32], &[u64], &mut [u8], &mut [u64]) -> u32,
 }
 
@@ -102,6 +104,7 @@ impl Calls {
             tree_check,
             contents_box,
             accept,
+            contents_points,
             hull_check,
         }
     }
@@ -118,6 +121,7 @@ pub fn is_linked(call: &str) -> bool {
         "bsp_contents_box" => cfg!(feature = "ffi_boxes"),
         "bsp_body_sizes" | "bsp_hull_sized" => cfg!(feature = "ffi_sizes"),
         "bsp_accept" => cfg!(feature = "ffi_accept"),
+        "bsp_contents_points" => cfg!(feature = "ffi_points"),
         "bsp_contents_nodes" | "bsp_find_leaf_nodes" | "bsp_trace_nodes" => {
             cfg!(feature = "ffi_nodes")
         }
@@ -508,6 +512,34 @@ pub fn accept(file: &[u8], map: &[u32], marks: &mut [u8]) -> u32 {
             map.len(),
             marks.as_mut_ptr(),
             marks.len()
+        )
+    )
+}
+
+pub fn contents_points(
+    file: &[u8],
+    map: &[u32],
+    hull: &[u64],
+    points: &[f32],
+    list: &mut [u8],
+    out: &mut [u64],
+) -> u32 {
+    either!(
+        "ffi_points",
+        bsp_contents_points(file, map, hull, points, list, out),
+        (
+            file.as_ptr(),
+            file.len(),
+            map.as_ptr(),
+            map.len(),
+            hull.as_ptr(),
+            hull.len(),
+            points.as_ptr(),
+            points.len(),
+            list.as_mut_ptr(),
+            list.len(),
+            out.as_mut_ptr(),
+            out.len()
         )
     )
 }

@@ -6,7 +6,7 @@
 #![allow(dead_code)]
 
 use crate::paper::walk::{self, Hull, Walked};
-use crate::paper::{Answer, MAP_WORDS, Map, SECTIONS, accept, bodies, boxes, load, team, tree, vis};
+use crate::paper::{Answer, MAP_WORDS, Map, SECTIONS, accept, bodies, boxes, load, points, team, tree, vis};
 
 /// The words of `bsp_record`'s list, of a trace's, of a walk's and of a hull, and of a hull that a call
 /// takes, which does not look at the last two.
@@ -269,4 +269,28 @@ pub fn bsp_accept(file: &[u8], map: &[u32], marks: &mut [u8]) -> u32 {
         Ok(()) => 0,
         Err(refusal) => refusal,
     }
+}
+
+pub fn bsp_contents_points(
+    file: &[u8],
+    map: &[u32],
+    hull: &[u64],
+    points: &[f32],
+    list: &mut [u8],
+    out: &mut [u64],
+) -> u32 {
+    let points = match points::points_of(points) {
+        Err(refusal) => return refusal,
+        Ok(points) => points,
+    };
+    let enough = !out.is_empty() && list.len() >= points.len();
+    let answer = lent(file, map, hull, enough)
+        .and_then(|(map, hull)| points::contents_points(&map, &hull, &points));
+    put(
+        answer.map(|(codes, reads)| {
+            list[..codes.len()].copy_from_slice(&codes);
+            vec![reads]
+        }),
+        out,
+    )
 }

@@ -5,8 +5,8 @@ use crate::board::{Agreed, Board, Line};
 use crate::calls;
 
 /// The numbers of document 01 and of the requests of document 02.
-pub const NUMBERS: [u32; 27] =
-    [1, 2, 3, 4, 5, 6, 7, 8, 9, 10, 11, 12, 19, 20, 21, 22, 23, 25, 26, 27, 28, 30, 31, 32, 33, 34, 35];
+pub const NUMBERS: [u32; 28] =
+    [1, 2, 3, 4, 5, 6, 7, 8, 9, 10, 11, 12, 19, 20, 21, 22, 23, 24, 25, 26, 27, 28, 30, 31, 32, 33, 34, 35];
 
 /// A call and the numbers that it can give. Those that it cannot:
 /// - 1 to 12 are refusals of loading. A record read later that would be 1 or 10, or in a face's
@@ -21,10 +21,10 @@ pub const NUMBERS: [u32; 27] =
 /// - 31 bounds walks, 32 bounds traces and the tree check; neither the other.
 /// - 26 and 27 are those of a file of body sizes.
 /// - 25 is a team's.
-/// - 28 is that of a box whose contents are asked.
+/// - 24 is that of many points, 28 that of a box whose contents are asked.
 /// - 35 is acceptance's.
 /// - 33 is visibility's, 34 the tree check's and that of the calls which make it.
-const CAN: [(&str, &[u32]); 20] = [
+const CAN: [(&str, &[u32]); 21] = [
     ("bsp_load", &[1, 2, 3, 4, 5, 6, 7, 8, 9, 10, 11, 12, 22]),
     ("bsp_record", &[20, 22, 23]),
     ("bsp_count", &[20, 22]),
@@ -52,6 +52,8 @@ const CAN: [(&str, &[u32]); 20] = [
     ("bsp_contents_box", &[20, 22, 23, 28, 30, 32, 34]),
     // references and rows are 35, a tree's refusals its own
     ("bsp_accept", &[22, 23, 30, 32, 34, 35]),
+    // 24 first, then as the contents of one point
+    ("bsp_contents_points", &[20, 22, 23, 24, 30, 31]),
 ];
 
 /// What is wrong with the cells of a table.

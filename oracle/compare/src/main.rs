@@ -19,6 +19,7 @@ mod leaves;
 mod loads;
 mod notes;
 mod paper;
+mod points;
 mod proved;
 mod pvs;
 mod queries;
@@ -106,12 +107,14 @@ fn run(mode: &str, given: &Arguments) -> bool {
         "accept" => accept::run(&given.plan(10_000)),
         "boxes" => boxes::run(&given.plan(10_000)),
         "sizes" => bodies::run(&given.plan(10_000)),
+        "points" => points::run(&given.plan(10_000)),
         "pvs" => pvs::run(&given.plan(20_000)),
         "team" => team::run(&given.plan(10_000)),
         "loads" => loads::run(&given.plan(5_000)),
         "sky" => sky::run(&given.plan(5_000)),
         "sample" => sample::run(given.path(), given.number("--seed", 1), !given.has("--no-nodes")),
         "bench" => bench::run(&given.plan(30)),
+        "bench-points" => bench::run_points(&given.plan(30)),
         "rust-facts" => facts::run(),
         "notes" => notes::run(),
         _ => wrong("compare: a mode of oracle/run"),

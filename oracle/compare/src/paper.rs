@@ -20,6 +20,7 @@
 //! - `bodies`: the hall's own body sizes (document 02, note 10)
 //! - `team`: what a team can see (document 02, note 9)
 //! - `accept`: whole-map acceptance (document 02, note 4)
+//! - `points`: the contents of many points (document 02, note 7)
 
 pub mod bodies;
 pub mod accept;
@@ -28,6 +29,7 @@ pub mod faces;
 pub mod fields;
 pub mod load;
 pub mod plane;
+pub mod points;
 pub mod records;
 pub mod team;
 pub mod tree;

@@ -3,7 +3,7 @@
 use crate::board::{Board, Plan};
 use crate::calls::Calls;
 use crate::calls_stub as stub;
-use crate::{accept, all, bodies, boxes, coverage, hand_made, joins, loads, pvs, records, replay, sample, sky, team, tree, walks};
+use crate::{accept, all, bodies, boxes, coverage, hand_made, joins, loads, points, pvs, records, replay, sample, sky, team, tree, walks};
 
 const PLAN: Plan = Plan { cases: 250, from: 0, seed: 7, quick: true };
 
@@ -32,10 +32,11 @@ fn right() -> Calls {
         hull_check: stub::bsp_hull_check,
         contents_box: stub::bsp_contents_box,
         accept: stub::bsp_accept,
+        contents_points: stub::bsp_contents_points,
     }
 }
 
-const MODES: [Compare; 12] = [
+const MODES: [Compare; 13] = [
     records::compare,
     hand_made::compare,
     walks::compare,
@@ -43,6 +44,7 @@ const MODES: [Compare; 12] = [
     boxes::compare,
     bodies::compare,
     accept::compare,
+    points::compare,
     pvs::compare,
     team::compare,
     loads::compare,
@@ -455,6 +457,67 @@ wrong! {
             marks.copy_from_slice(&before);
         }
         refusal
+    };
+
+    points: every_visit_counts, contents_points, "bsp_contents_points", |f, m, h, p, list, o| {
+        let refusal = stub::bsp_contents_points(f, m, h, p, list, o);
+        let mut visits = 0;
+        for p in p.chunks(3) {
+            let mut walked = [0; 2];
+            visits += if stub::bsp_contents(f, m, h, p, &mut walked) == 0 { walked[1] } else { 0 };
+        }
+        changed(refusal, o, |o| o[0] = visits)
+    };
+    points: nodes_and_not_runs, contents_points, "bsp_contents_points", |f, m, h, p, list, o| {
+        let refusal = stub::bsp_contents_points(f, m, h, p, list, o);
+        let mut met = std::collections::BTreeSet::new();
+        for p in p.chunks(3) {
+            let (mut nodes, mut count) = (vec![0; 40_000], [0]);
+            stub::bsp_contents_nodes(f, m, h, p, &mut nodes, &mut count);
+            met.extend(nodes[..count[0] as usize].to_vec());
+        }
+        changed(refusal, o, |o| o[0] = met.len() as u64)
+    };
+    points: codes_before_the_refusal, contents_points, "bsp_contents_points", |f, m, h, p, list, o| {
+        let refusal = stub::bsp_contents_points(f, m, h, p, list, o);
+        if refusal == 30 {
+            let mut walked = [0; 2];
+            if stub::bsp_contents(f, m, h, p, &mut walked) == 0 {
+                list[0] = walked[0] as u8;
+            }
+        }
+        refusal
+    };
+    points: the_last_refusal, contents_points, "bsp_contents_points", |f, m, h, p, list, o| {
+        let refusal = stub::bsp_contents_points(f, m, h, p, list, o);
+        if matches!(refusal, 23 | 30 | 31) {
+            for p in p.chunks(3).rev() {
+                match stub::bsp_contents(f, m, h, p, &mut [0; 2]) {
+                    0 => {}
+                    last => return last,
+                }
+            }
+        }
+        refusal
+    };
+    points: no_points_of_no_root, contents_points, "bsp_contents_points", |f, m, h, p, list, o| {
+        match stub::bsp_contents_points(f, m, h, p, list, o) {
+            0 if p.is_empty() && h[1] > 1 << 40 => 30,
+            refusal => refusal,
+        }
+    };
+    points: list_past_the_points_cleared, contents_points, "bsp_contents_points", |f, m, h, p, list, o| {
+        let refusal = stub::bsp_contents_points(f, m, h, p, list, o);
+        if refusal == 0 {
+            list[p.len() / 3..].fill(0);
+        }
+        refusal
+    };
+    points: short_before_threes, contents_points, "bsp_contents_points", |f, m, h, p, list, o| {
+        match stub::bsp_contents_points(f, m, h, p, list, o) {
+            24 if h.len() < 9 => 22,
+            refusal => refusal,
+        }
     };
 
     tree: marks_left_behind, tree_check, "bsp_tree_check", |f, m, t, r, marks, o| {

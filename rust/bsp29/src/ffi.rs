@@ -37,6 +37,7 @@ extern "C" {
     fn bsp_pvs_team(file: Bytes, file_length: usize, map: Words, map_length: usize, leaves: Longs, leaves_length: usize, leaf_count: u64, list: WordsOut, list_length: usize, out: LongsOut, out_length: usize) -> u32;
     fn bsp_contents_box(file: Bytes, file_length: usize, map: Words, map_length: usize, hull: Longs, hull_length: usize, bounds: Floats, bounds_length: usize, marks: BytesOut, marks_length: usize, out: LongsOut, out_length: usize) -> u32;
     fn bsp_accept(file: Bytes, file_length: usize, map: Words, map_length: usize, marks: BytesOut, marks_length: usize) -> u32;
+    fn bsp_contents_points(file: Bytes, file_length: usize, map: Words, map_length: usize, hull: Longs, hull_length: usize, points: Floats, points_length: usize, list: BytesOut, list_length: usize, out: LongsOut, out_length: usize) -> u32;
     fn bsp_tree_check(file: Bytes, file_length: usize, map: Words, map_length: usize, table: u32, root: u64, marks: BytesOut, marks_length: usize, out: LongsOut, out_length: usize) -> u32;
 }
 
@@ -501,4 +502,33 @@ pub(crate) fn accept(file: &[u8], map: &MapWords, marks: &mut [u8]) -> Result<()
         )
     };
     answered(status, ())
+}
+
+/// `bsp_contents_points`: the codes of the points, a byte each, and how often a node was read.
+pub(crate) fn contents_points(
+    file: &[u8],
+    map: &MapWords,
+    hull: &HullWords,
+    points: &[f32],
+    list: &mut [u8],
+) -> Result<u64, Refusal> {
+    let mut out = [0; 1];
+    // SAFETY: as in `load`.
+    let status = unsafe {
+        bsp_contents_points(
+            file.as_ptr(),
+            file.len(),
+            map.as_ptr(),
+            map.len(),
+            hull.as_ptr(),
+            hull.len(),
+            points.as_ptr(),
+            points.len(),
+            list.as_mut_ptr(),
+            list.len(),
+            out.as_mut_ptr(),
+            out.len(),
+        )
+    };
+    answered(status, out[0])
 }

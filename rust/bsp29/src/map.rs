@@ -19,6 +19,9 @@ const MOST_PLAYERS: usize = 16;
 /// node is read.
 const MOST_NODES: usize = 32_767;
 
+/// The most points that are asked at once.
+const MOST_POINTS: usize = 1_024;
+
 /// A map over the bytes of its file, which it borrows and never copies.
 ///
 /// Whatever the bytes are, no call crashes, hangs or reads outside them. Ask whether a map from a
@@ -384,6 +387,41 @@ impl Map<'_> {
     pub fn contents(&self, hull: &Hull, point: [f32; 3]) -> Result<(Contents, u64), Refusal> {
         ffi::contents(self.file, &self.words, &hull.words(), &point)
             .map(|[code, visits]| (Contents::of(code), visits))
+    }
+
+    /// What is at each of up to 1,024 points of a hull, in their order, and how often a node was read:
+    /// once for all points that come to it the same way. From a root that passed
+    /// [`tree_check`](Map::tree_check) that is the number of different nodes that the points meet.
+    ///
+    /// Where every point is answered, each answer is that of [`contents`](Map::contents); else this
+    /// refuses as `contents` does of the first point that it refuses. More than 1,024 points are 24,
+    /// before everything else. No points: no reads, and no refusal for the root.
+    ///
+    /// ```
+    /// # let file = std::fs::read(concat!(env!("CARGO_MANIFEST_DIR"), "/../../maps/rooms.bsp")).unwrap();
+    /// use bsp29::{Contents, Map, Refusal};
+    ///
+    /// let map = Map::load(&file)?;
+    /// let hull = map.hull(0, 0)?;
+    /// let points = [[-64.0, 0.0, 0.0], [-64.0, 0.0, -40.0], [-64.0, 0.0, 0.0], [120.0, 0.0, -60.0]];
+    /// let (contents, reads) = map.contents_at_points(&hull, &points)?;
+    /// assert_eq!(contents, [Contents::Empty, Contents::Water, Contents::Empty, Contents::Solid]);
+    /// let visits: u64 = points.iter().map(|p| map.contents(&hull, *p).unwrap().1).sum();
+    /// assert!(reads < visits);
+    /// assert_eq!(map.contents_at_points(&hull, &[])?.1, 0);
+    /// assert_eq!(map.contents_at_points(&hull, &[[0.0; 3]; 1025]), Err(Refusal::NotPoints));
+    /// # Ok::<(), Refusal>(())
+    /// ```
+    pub fn contents_at_points(
+        &self,
+        hull: &Hull,
+        points: &[[f32; 3]],
+    ) -> Result<(Vec<Contents>, u64), Refusal> {
+        let mut codes = vec![0; points.len().min(MOST_POINTS)];
+        let floats = points.as_flattened();
+        let reads =
+            ffi::contents_points(self.file, &self.words, &hull.words(), floats, &mut codes)?;
+        Ok((codes.into_iter().map(|code| Contents::of(code as u64)).collect(), reads))
     }
 
     /// The leaf that a point of the world is in, and how many nodes were entered.

@@ -109,6 +109,8 @@ refusals! {
     NotABody = 27, "a bound of a body is not finite, or a minimum is at or above its maximum";
     /// 25: more than 16 players.
     TooManyPlayers = 25, "more than 16 players are asked about at once";
+    /// 24: more than 1,024 points, or coordinates not in threes.
+    NotPoints = 24, "there are more than 1,024 points, or their coordinates are not in threes";
     /// 28: a bound of a box is not finite, or a minimum is above its maximum.
     NotABox = 28, "a bound of the box is not finite, or a minimum is above its maximum";
     /// 30: a root, child, plane or leaf index outside its table.

@@ -1,0 +1,2 @@
+-- Many points from a root that passed the tree check.
+pub mod EveryPoint
