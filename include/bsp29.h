@@ -12,8 +12,8 @@
  * bsp_contents_box and bsp_accept. The library holds no state: any thread may call it at any time.
  *
  * Stack, measured on a chain of 512 nodes, the deepest there can be, and not proved: bsp_trace and
- * bsp_trace_nodes need up to 574,000 bytes, bsp_contents_box 262,000, bsp_tree_check and
- * bsp_hull_check 164,000. The other calls have no such depth.
+ * bsp_trace_nodes need up to 574,000 bytes, bsp_trace_line 607,000, bsp_contents_box 262,000,
+ * bsp_tree_check and bsp_hull_check 164,000. The other calls have no such depth.
  *
  * A list is two parameters: a pointer to its first entry and the number of its entries.
  *   - The pointer is not null and is aligned for its entries, even where the number is 0.
@@ -311,6 +311,17 @@ enum bsp_trace_word {
     BSP_TRACE_DIST = 16        /* float */
 };
 
+enum bsp_line_word {
+    BSP_LINE_FRACTION = 0,    /* float: from 0 to 1 along the whole line, or a NaN */
+    BSP_LINE_END = 1,         /* three floats */
+    BSP_LINE_NORMAL = 4,      /* three floats; zeros where no plane was met */
+    BSP_LINE_DIST = 7,        /* float */
+    BSP_LINE_ALL_SOLID = 8,   /* flag: no leaf that is not solid was traced into */
+    BSP_LINE_START_SOLID = 9, /* flag: a solid leaf was traced into */
+    BSP_LINE_IN_OPEN = 10,    /* flag: an empty leaf was traced into */
+    BSP_LINE_IN_WATER = 11    /* flag: a leaf of other contents was traced into */
+};
+
 /* ---- the calls ---- */
 
 /*
@@ -457,7 +468,7 @@ uint32_t bsp_find_leaf(const uint8_t *file, size_t file_length,
  *     before the plane is then a single point, the trace ends at it again, and so would every further
  *     one. On maps/rooms.bsp, hull 0 of model 0, the trace from (0, -32, 0) to (-112, -32, 0) ends as
  *     terminal at (-8, -32, 0), and so does the one from there. A caller who traces on in a loop must
- *     stop where the end does not move. What a whole shot meets is not what this call answers.
+ *     stop where the end does not move. What a whole shot meets is what bsp_trace_line answers.
  *   - The ratio of a boundary is along the part of the segment that was left at the node of that
  *     plane, and not along the whole segment.
  *   map: 31 words or more; hull: 9 or more; segment: 6 floats or more, start and end;
@@ -508,6 +519,31 @@ uint32_t bsp_trace_nodes(const uint8_t *file, size_t file_length,
                          const float *segment, size_t segment_length,
                          uint32_t *list, size_t list_length,
                          uint64_t *out, size_t out_length);
+
+/*
+ * What a whole shot meets: the line from start to end through a hull, by the published rule of id
+ * Software's world.c (its recursive hull check): 12 words. Fraction 1, the line's end and a plane of
+ * zeros if nothing is met. Where the line comes out of what is not solid into what is, the fraction
+ * and the point of that impact, 0.03125 before the plane and not inside a solid leaf if that can be had
+ * by steps back of 0.1 of the part of the line at that plane, and the plane, turned (0 less it) where
+ * the line came from its back. A line that never came out of the solid leaf it starts in has all-solid
+ * set, fraction 1 and no plane: so a fraction of 1 alone does not say that the way is free.
+ *   - Sides go by the distance from the plane, 0 is its front, a NaN its back. Arithmetic is that of
+ *     floats; where it comes to a NaN or an infinity, so may the answer.
+ *   - From a root that passed bsp_tree_check, on a map that was loaded, it is never refused. Time: a
+ *     step a node that the line goes through, and at each plane that it crosses a look for contents,
+ *     at most as many steps as the tree is high. Over other nodes it ends too, but it may take long.
+ *   map: 31 words or more; hull: 9 or more; segment: 6 floats or more, start and end;
+ *   out: 12 words or more.
+ *   Refuses: 22; 20, a hull whose table is none; then what the line or a look meets first: at each node
+ *   30 its number, 32, 23 its record, 30 its plane's number, 23 the plane, and at a leaf 30 and 23. A
+ *   look counts its depth from its own top.
+ */
+uint32_t bsp_trace_line(const uint8_t *file, size_t file_length,
+                        const uint32_t *map, size_t map_length,
+                        const uint64_t *hull, size_t hull_length,
+                        const float *segment, size_t segment_length,
+                        uint64_t *out, size_t out_length);
 
 /*
  * The contents that a point of a box may have, for one who is known only to be somewhere in it: the

@@ -25,6 +25,12 @@ fn main() {
             println!("cargo:rerun-if-changed={folder}/lib{library}.a");
         }
     }
+    if std::env::var_os("CARGO_FEATURE_PEER").is_some() {
+        let peer = concat!(env!("CARGO_MANIFEST_DIR"), "/../target/peer");
+        println!("cargo:rustc-link-search=native={peer}");
+        println!("cargo:rustc-link-lib=static=peer");
+        println!("cargo:rerun-if-changed={peer}/libpeer.a");
+    }
     println!("cargo:rerun-if-env-changed=ORACLE_LIBRARY");
     println!("cargo:rerun-if-changed=build.rs");
 }

@@ -190,6 +190,20 @@ pub extern "C" fn bsp_trace_nodes(
     ffi_entered::trace_nodes(file, map, hull, segment, list, out)
 }
 
+// What a whole shot meets: the trace of the line from start to end, by its fraction.
+#[no_mangle]
+pub extern "C" fn bsp_trace_line(
+    file: &[u8],
+    map: &[u32],
+    hull: &[u64],
+    segment: &[f32],
+    out: &mut [u64],
+) -> u32
+    ensures { λ r. ⌜ written r (now (out .exit)) ≡ Calls.bspTraceLine (now (file .entry)) (now (map .entry)) (now (hull .entry)) (now (segment .entry)) (now (out .entry)) ⌝ }
+{
+    ffi_line::trace_line(file, map, hull, segment, out)
+}
+
 // The set of contents that a box of points meets.
 #[no_mangle]
 pub extern "C" fn bsp_contents_box(

@@ -15,7 +15,7 @@ use richter::{Hull, Trace};
 
 use crate::board::Plan;
 use crate::calls;
-use crate::calls_stub::TRACE_WORDS;
+use crate::calls_stub::{LINE_WORDS, TRACE_WORDS};
 use crate::words;
 
 /// Points and segments asked a slice: more than a processor's branch prediction remembers. With a
@@ -232,6 +232,7 @@ fn of_map(table: &mut Table, seed: &mut Seed, file: &[u8]) {
             let segments: Vec<[f32; 6]> =
                 points.iter().map(|p| segment(seed, *p, length)).collect();
             traces(table, (file, &map, &words), &hull, &format!("{nodes}, {name}"), &segments);
+            lines(table, (file, &map, &words), &format!("{nodes}, {name}"), &segments);
         }
     }
     find_leaf(table, (file, &map), &rust, "", &points);
@@ -335,6 +336,38 @@ fn traces(
     };
     let name = format!("trace, {name}");
     table.line(&name, (segments.len(), visits), ours, Some(&mut rust));
+}
+
+/// Whole-line traces, ours alone: the Rust has none. Beside them stands our own `bsp_trace` of the
+/// same segments, which as a rule ends earlier.
+fn lines(table: &mut Table, (file, map, words): Lent, name: &str, segments: &[[f32; 6]]) {
+    let mut out = [0; LINE_WORDS];
+    for s in segments {
+        assert_eq!(calls::trace_line(file, map, words, s, &mut out), 0, "trace_line");
+    }
+    let mut least = [f64::MAX; 2];
+    for _ in 0..table.slices {
+        least[0] = least[0].min(timed(&mut || {
+            let mut sum = 0;
+            for s in segments {
+                let segment = black_box(*s);
+                calls::trace_line(file, map, words, &segment, &mut out);
+                sum += out[0];
+            }
+            sum
+        }));
+        let mut other = [0; TRACE_WORDS];
+        least[1] = least[1].min(timed(&mut || {
+            let mut sum = 0;
+            for s in segments {
+                let segment = black_box(*s);
+                calls::trace(file, map, words, &segment, &mut other);
+                sum += other[2];
+            }
+            sum
+        }));
+    }
+    table.row(&format!("*line, {name}"), (segments.len(), segments.len() as u64), least, true);
 }
 
 fn find_leaf(

@@ -41,6 +41,7 @@ extern "C" {
     fn bsp_contents_box(file: Bytes, file_len: usize, map: Words, map_len: usize, hull: Longs, hull_len: usize, bounds: Floats, bounds_len: usize, marks: BytesOut, marks_len: usize, out: LongsOut, out_len: usize) -> u32;
     fn bsp_accept(file: Bytes, file_len: usize, map: Words, map_len: usize, marks: BytesOut, marks_len: usize) -> u32;
     fn bsp_contents_points(file: Bytes, file_len: usize, map: Words, map_len: usize, hull: Longs, hull_len: usize, points: Floats, points_len: usize, list: BytesOut, list_len: usize, out: LongsOut, out_len: usize) -> u32;
+    fn bsp_trace_line(file: Bytes, file_len: usize, map: Words, map_len: usize, hull: Longs, hull_len: usize, segment: Floats, segment_len: usize, out: LongsOut, out_len: usize) -> u32;
     fn bsp_hull_check(file: Bytes, file_len: usize, map: Words, map_len: usize, hull: Longs, hull_len: usize, marks: BytesOut, marks_len: usize, out: LongsOut, out_len: usize) -> u32;
 }
 
@@ -79,6 +80,7 @@ pub struct Calls {
     pub contents_box: fn(&[u8], &[u32], &[u64], &[f32], &mut [u8], &mut [u64]) -> u32,
     pub accept: fn(&[u8], &[u32], &mut [u8]) -> u32,
     pub contents_points: fn(&[u8], &[u32], &[u64], &[f32], &mut [u8], &mut [u64]) -> u32,
+    pub trace_line: fn(&[u8], &[u32], &[u64], &[f32], &mut [u64]) -> u32,
     pub hull_check: fn(&[u8], &[u32], &[u64], &mut [u8], &mut [u64]) -> u32,
 }
 
@@ -105,6 +107,7 @@ impl Calls {
             contents_box,
             accept,
             contents_points,
+            trace_line,
             hull_check,
         }
     }
@@ -122,6 +125,7 @@ pub fn is_linked(call: &str) -> bool {
         "bsp_body_sizes" | "bsp_hull_sized" => cfg!(feature = "ffi_sizes"),
         "bsp_accept" => cfg!(feature = "ffi_accept"),
         "bsp_contents_points" => cfg!(feature = "ffi_points"),
+        "bsp_trace_line" => cfg!(feature = "ffi_line"),
         "bsp_contents_nodes" | "bsp_find_leaf_nodes" | "bsp_trace_nodes" => {
             cfg!(feature = "ffi_nodes")
         }
@@ -538,6 +542,25 @@ pub fn contents_points(
             points.len(),
             list.as_mut_ptr(),
             list.len(),
+            out.as_mut_ptr(),
+            out.len()
+        )
+    )
+}
+
+pub fn trace_line(file: &[u8], map: &[u32], hull: &[u64], segment: &[f32], out: &mut [u64]) -> u32 {
+    either!(
+        "ffi_line",
+        bsp_trace_line(file, map, hull, segment, out),
+        (
+            file.as_ptr(),
+            file.len(),
+            map.as_ptr(),
+            map.len(),
+            hull.as_ptr(),
+            hull.len(),
+            segment.as_ptr(),
+            segment.len(),
             out.as_mut_ptr(),
             out.len()
         )

@@ -6,12 +6,13 @@
 #![allow(dead_code)]
 
 use crate::paper::walk::{self, Hull, Walked};
-use crate::paper::{Answer, MAP_WORDS, Map, SECTIONS, accept, bodies, boxes, load, points, team, tree, vis};
+use crate::paper::{Answer, MAP_WORDS, Map, SECTIONS, accept, bodies, boxes, line, load, points, team, tree, vis};
 
-/// The words of `bsp_record`'s list, of a trace's, of a walk's and of a hull, and of a hull that a call
+/// The words of `bsp_record`'s list, of a trace's, of a whole line's, of a walk's and of a hull, and of a hull that a call
 /// takes, which does not look at the last two.
 pub const RECORD_WORDS: usize = 20;
 pub const TRACE_WORDS: usize = 17;
+pub const LINE_WORDS: usize = 12;
 pub const WALK_WORDS: usize = 2;
 pub const HULL_WORDS: usize = 11;
 pub const HULL_ASKED: usize = 9;
@@ -293,4 +294,19 @@ pub fn bsp_contents_points(
         }),
         out,
     )
+}
+
+pub fn bsp_trace_line(
+    file: &[u8],
+    map: &[u32],
+    hull: &[u64],
+    segment: &[f32],
+    out: &mut [u64],
+) -> u32 {
+    let enough = segment.len() >= 6 && out.len() >= LINE_WORDS;
+    let answer = lent(file, map, hull, enough).and_then(|(map, hull)| {
+        let (start, end) = (three(segment), three(&segment[3..]));
+        line::trace_line(&map, &hull, start, end, usize::MAX)
+    });
+    put(answer.map(|line| line.words()), out)
 }

@@ -24,7 +24,7 @@ pub const NUMBERS: [u32; 28] =
 /// - 24 is that of many points, 28 that of a box whose contents are asked.
 /// - 35 is acceptance's.
 /// - 33 is visibility's, 34 the tree check's and that of the calls which make it.
-const CAN: [(&str, &[u32]); 21] = [
+const CAN: [(&str, &[u32]); 22] = [
     ("bsp_load", &[1, 2, 3, 4, 5, 6, 7, 8, 9, 10, 11, 12, 22]),
     ("bsp_record", &[20, 22, 23]),
     ("bsp_count", &[20, 22]),
@@ -54,6 +54,8 @@ const CAN: [(&str, &[u32]); 21] = [
     ("bsp_accept", &[22, 23, 30, 32, 34, 35]),
     // 24 first, then as the contents of one point
     ("bsp_contents_points", &[20, 22, 23, 24, 30, 31]),
+    // both its descents; 20 where the hull's words name no table
+    ("bsp_trace_line", &[20, 22, 23, 30, 32]),
 ];
 
 /// What is wrong with the cells of a table.

@@ -16,6 +16,9 @@ mod faults;
 mod hand_made;
 mod joins;
 mod leaves;
+mod line;
+#[cfg(feature = "peer")]
+mod line_peer;
 mod loads;
 mod notes;
 mod paper;
@@ -108,6 +111,9 @@ fn run(mode: &str, given: &Arguments) -> bool {
         "boxes" => boxes::run(&given.plan(10_000)),
         "sizes" => bodies::run(&given.plan(10_000)),
         "points" => points::run(&given.plan(10_000)),
+        "line" => line::run(&given.plan(10_000)),
+        #[cfg(feature = "peer")]
+        "line-peer" => line_peer::run(&given.plan(3_000)),
         "pvs" => pvs::run(&given.plan(20_000)),
         "team" => team::run(&given.plan(10_000)),
         "loads" => loads::run(&given.plan(5_000)),

@@ -21,12 +21,14 @@
 //! - `team`: what a team can see (document 02, note 9)
 //! - `accept`: whole-map acceptance (document 02, note 4)
 //! - `points`: the contents of many points (document 02, note 7)
+//! - `line`: whole-line traces (document 02, note 6)
 
 pub mod bodies;
 pub mod accept;
 pub mod boxes;
 pub mod faces;
 pub mod fields;
+pub mod line;
 pub mod load;
 pub mod plane;
 pub mod points;

@@ -3,7 +3,7 @@
 use crate::board::{Board, Plan};
 use crate::calls::Calls;
 use crate::calls_stub as stub;
-use crate::{accept, all, bodies, boxes, coverage, hand_made, joins, loads, points, pvs, records, replay, sample, sky, team, tree, walks};
+use crate::{accept, all, bodies, boxes, coverage, hand_made, joins, line, loads, points, pvs, records, replay, sample, sky, team, tree, walks};
 
 const PLAN: Plan = Plan { cases: 250, from: 0, seed: 7, quick: true };
 
@@ -33,10 +33,11 @@ fn right() -> Calls {
         contents_box: stub::bsp_contents_box,
         accept: stub::bsp_accept,
         contents_points: stub::bsp_contents_points,
+        trace_line: stub::bsp_trace_line,
     }
 }
 
-const MODES: [Compare; 13] = [
+const MODES: [Compare; 14] = [
     records::compare,
     hand_made::compare,
     walks::compare,
@@ -45,6 +46,7 @@ const MODES: [Compare; 13] = [
     bodies::compare,
     accept::compare,
     points::compare,
+    line::compare,
     pvs::compare,
     team::compare,
     loads::compare,
@@ -518,6 +520,32 @@ wrong! {
             24 if h.len() < 9 => 22,
             refusal => refusal,
         }
+    };
+
+    line: crossing_not_moved, trace_line, "bsp_trace_line", |f, m, h, s, o| {
+        let refusal = stub::bsp_trace_line(f, m, h, s, o);
+        changed(refusal, o, |o| o[0] += (o[0] > 0 && o[0] < 0x3f80_0000) as u64)
+    };
+    line: plane_not_turned, trace_line, "bsp_trace_line", |f, m, h, s, o| {
+        // what is 0 less a zero is a zero without a sign
+        let turn = |o: &mut [u64]| o[4..8].iter_mut().for_each(|x| swap(x, 0, 0x8000_0000));
+        changed(stub::bsp_trace_line(f, m, h, s, o), o, |o| if o[0] < 0x3f80_0000 { turn(o) })
+    };
+    line: sky_is_open, trace_line, "bsp_trace_line", |f, m, h, s, o| {
+        changed(stub::bsp_trace_line(f, m, h, s, o), o, |o| o[10] |= o[11])
+    };
+    line: too_deep_is_outside, trace_line, "bsp_trace_line", |f, m, h, s, o| {
+        match stub::bsp_trace_line(f, m, h, s, o) {
+            32 => 30,
+            refusal => refusal,
+        }
+    };
+    line: refusal_leaves_its_fraction, trace_line, "bsp_trace_line", |f, m, h, s, o| {
+        let refusal = stub::bsp_trace_line(f, m, h, s, o);
+        if refusal == 23 {
+            o[0] = 0x3f80_0000;
+        }
+        refusal
     };
 
     tree: marks_left_behind, tree_check, "bsp_tree_check", |f, m, t, r, marks, o| {

@@ -35,6 +35,7 @@ extern "C" {
     fn bsp_trace_nodes(file: Bytes, file_length: usize, map: Words, map_length: usize, hull: Longs, hull_length: usize, segment: Floats, segment_length: usize, list: WordsOut, list_length: usize, out: LongsOut, out_length: usize) -> u32;
     fn bsp_pvs(file: Bytes, file_length: usize, map: Words, map_length: usize, leaf: u64, leaf_count: u64, list: WordsOut, list_length: usize, out: LongsOut, out_length: usize) -> u32;
     fn bsp_pvs_team(file: Bytes, file_length: usize, map: Words, map_length: usize, leaves: Longs, leaves_length: usize, leaf_count: u64, list: WordsOut, list_length: usize, out: LongsOut, out_length: usize) -> u32;
+    fn bsp_trace_line(file: Bytes, file_length: usize, map: Words, map_length: usize, hull: Longs, hull_length: usize, segment: Floats, segment_length: usize, out: LongsOut, out_length: usize) -> u32;
     fn bsp_contents_box(file: Bytes, file_length: usize, map: Words, map_length: usize, hull: Longs, hull_length: usize, bounds: Floats, bounds_length: usize, marks: BytesOut, marks_length: usize, out: LongsOut, out_length: usize) -> u32;
     fn bsp_accept(file: Bytes, file_length: usize, map: Words, map_length: usize, marks: BytesOut, marks_length: usize) -> u32;
     fn bsp_contents_points(file: Bytes, file_length: usize, map: Words, map_length: usize, hull: Longs, hull_length: usize, points: Floats, points_length: usize, list: BytesOut, list_length: usize, out: LongsOut, out_length: usize) -> u32;
@@ -276,6 +277,32 @@ pub(crate) fn trace(
     // SAFETY: as in `load`.
     let status = unsafe {
         bsp_trace(
+            file.as_ptr(),
+            file.len(),
+            map.as_ptr(),
+            map.len(),
+            hull.as_ptr(),
+            hull.len(),
+            segment.as_ptr(),
+            segment.len(),
+            out.as_mut_ptr(),
+            out.len(),
+        )
+    };
+    answered(status, out)
+}
+
+/// `bsp_trace_line`: the words of a whole-line trace.
+pub(crate) fn trace_line(
+    file: &[u8],
+    map: &MapWords,
+    hull: &HullWords,
+    segment: &Segment,
+) -> Result<[u64; 12], Refusal> {
+    let mut out = [0; 12];
+    // SAFETY: as in `load`.
+    let status = unsafe {
+        bsp_trace_line(
             file.as_ptr(),
             file.len(),
             map.as_ptr(),

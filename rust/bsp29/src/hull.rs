@@ -177,3 +177,40 @@ impl Trace {
         }
     }
 }
+
+/// What a whole shot meets, as [`Map::trace_line`](crate::Map::trace_line) answers it.
+#[derive(Copy, Clone, Debug, PartialEq)]
+pub struct LineTrace {
+    /// Where it ends, from 0 to 1 along the whole line, or a NaN. 1 if nothing was met, and also if the
+    /// line never came out of the solid leaf that it starts in (`all_solid`).
+    pub fraction: f32,
+    /// The point there.
+    pub end: [f32; 3],
+    /// The normal of the plane that was met, to where the line came from; zeros if none was.
+    pub normal: [f32; 3],
+    /// The distance of that plane.
+    pub dist: f32,
+    /// No leaf that is not solid was traced into.
+    pub all_solid: bool,
+    /// A solid leaf was traced into.
+    pub start_solid: bool,
+    /// An empty leaf was traced into.
+    pub in_open: bool,
+    /// A leaf that is neither solid nor empty was traced into.
+    pub in_water: bool,
+}
+
+impl LineTrace {
+    pub(crate) fn of(words: &[u64; 12]) -> LineTrace {
+        LineTrace {
+            fraction: float(words[0]),
+            end: floats(words, 1),
+            normal: floats(words, 4),
+            dist: float(words[7]),
+            all_solid: words[8] != 0,
+            start_solid: words[9] != 0,
+            in_open: words[10] != 0,
+            in_water: words[11] != 0,
+        }
+    }
+}

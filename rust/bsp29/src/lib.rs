@@ -34,7 +34,7 @@
 //!
 //! - [`Map`]: a map, and the questions that it answers
 //! - [`Records`] and the records: planes, leaves, models and the rest, by their index
-//! - [`Hull`], [`Trace`]: what something moves in, and what it meets
+//! - [`Hull`], [`Trace`], [`LineTrace`]: what something moves in, and what it meets
 //! - [`BodySizes`]: a hall's own sizes in place of the built-in ones
 //! - [`Refusal`]: why a call is refused
 
@@ -52,7 +52,7 @@ mod refusal;
 mod sizes;
 mod words;
 
-pub use hull::{Hull, NodeTable, Trace, TraceEnd};
+pub use hull::{Hull, LineTrace, NodeTable, Trace, TraceEnd};
 pub use map::Map;
 pub use records::{ClipChild, ClipNode, Contents, ContentsSet, Direction, Edge, EdgeListEntry, Face, FaceListEntry, Leaf, Model, Plane, PlaneKind, Record, Records, RenderChild, RenderNode, Side, Sounds, TextureInfo, Vertex};
 pub use refusal::Refusal;

@@ -2,7 +2,7 @@
 
 use crate::hull::both;
 use crate::records::*;
-use crate::{ffi, BodySizes, Hull, NodeTable, Refusal, Trace};
+use crate::{BodySizes, Hull, LineTrace, NodeTable, Refusal, Trace, ffi};
 
 /// The sections whose sizes are looked at here.
 const VISIBILITY: u32 = 4;
@@ -462,7 +462,7 @@ impl Map<'_> {
     ///
     /// Tracing on from a terminal end to the same segment's end may stand still, as the last example
     /// shows: a caller who does so in a loop must stop where the end does not move. What a whole shot
-    /// meets is not what this call answers.
+    /// meets is what [`trace_line`](Map::trace_line) answers.
     ///
     /// From a root that passed [`tree_check`](Map::tree_check) it enters no node twice. Over other
     /// nodes it ends too, but it may take long.
@@ -497,6 +497,40 @@ impl Map<'_> {
     pub fn trace(&self, hull: &Hull, start: [f32; 3], end: [f32; 3]) -> Result<Trace, Refusal> {
         ffi::trace(self.file, &self.words, &hull.words(), &both(start, end))
             .map(|words| Trace::of(&words))
+    }
+
+    /// What a whole shot meets: the line from `start` to `end` through a hull, by the published rule of id
+    /// Software's `world.c`. The fraction is along the whole line; an impact lies 0.03125 before its
+    /// plane, on the side that the line came from.
+    ///
+    /// On a map that was loaded, from a root that passed [`tree_check`](Map::tree_check), it is never
+    /// refused. Time: a step a node that the line goes through, and at each plane that it crosses a look
+    /// for contents, at most as many steps as the tree is high.
+    ///
+    /// ```
+    /// # let file = std::fs::read(concat!(env!("CARGO_MANIFEST_DIR"), "/../../maps/rooms.bsp")).unwrap();
+    /// let map = bsp29::Map::load(&file)?;
+    /// let hull = map.hull(0, 1)?;
+    ///
+    /// // against the wall beside the doorway, which `trace` meets at x = -24
+    /// let line = map.trace_line(&hull, [-64.0, 64.0, 0.0], [64.0, 64.0, 0.0])?;
+    /// assert_eq!((line.end, line.fraction), ([-24.03125, 64.0, 0.0], 39.96875 / 128.0));
+    /// assert_eq!((line.normal, line.dist), ([-1.0, 0.0, 0.0], 24.0));
+    ///
+    /// // through the doorway: `trace` ends at x = 24, where it looks no further
+    /// let line = map.trace_line(&hull, [-64.0, 0.0, 0.0], [64.0, 0.0, 0.0])?;
+    /// assert_eq!((line.end, line.fraction), ([64.0, 0.0, 0.0], 1.0));
+    /// assert!(line.in_open && !line.all_solid && !line.start_solid);
+    /// # Ok::<(), bsp29::Refusal>(())
+    /// ```
+    pub fn trace_line(
+        &self,
+        hull: &Hull,
+        start: [f32; 3],
+        end: [f32; 3],
+    ) -> Result<LineTrace, Refusal> {
+        ffi::trace_line(self.file, &self.words, &hull.words(), &both(start, end))
+            .map(|words| LineTrace::of(&words))
     }
 
     /// The nodes that [`contents`](Map::contents) enters, in order.

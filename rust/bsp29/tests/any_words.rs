@@ -80,6 +80,7 @@ fn ask(map: &Map, seed: &mut Seed) -> usize {
         answered += usize::from(map.contents(&hull, a).is_ok());
         answered += usize::from(map.contents_nodes(&hull, a).is_ok());
         answered += usize::from(map.trace(&hull, a, b).is_ok());
+        answered += usize::from(map.trace_line(&hull, a, b).is_ok());
         answered += usize::from(map.trace_nodes(&hull, a, b).is_ok());
         answered += usize::from(map.find_leaf_nodes(hull.root, a).is_ok());
         answered += usize::from(map.tree_check(hull.table, hull.root).is_ok());

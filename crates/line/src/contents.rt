@@ -1,0 +1,89 @@
+// The contents at a point, by the side of its distance at each plane: where the distance is a NaN, the back.
+ghost use mathlib.Core.Path.{_≡_};
+ghost use Rattle.nodes.specs.Fast as Fast;
+ghost use Rattle.nodes.specs.Walks as Walks;
+ghost use Rattle.line.specs.Line as Line;
+ghost use Rattle.line.specs.Answers as Answers;
+use format::refusal::Refusal;
+use math::Vector3;
+use nodes::read::Dists;
+use nodes::read::EndContents;
+use nodes::read::ReadWords;
+use nodes::read::Words;
+use nodes::read::dists_at;
+use nodes::read::end_contents;
+use nodes::read::plane_at;
+use nodes::read::read_words;
+use nodes::table::Tables;
+use nodes::walking::Onward;
+use nodes::walking::SegmentAt;
+use records::plane::PlaneAnswer;
+
+// A node's words, and how far two points are from its plane, with so many calls left. 30: the node is outside its table; 32: no call is left.
+pub fn node_at(s: &[u8], t: Tables, index: usize, left: u32, p: Vector3, q: Vector3) -> SegmentAt
+    ensures { λ r. ⌜ Walks.segmentAnswer (t .table) r ≡ Answers.nodeFor (Walks.nodeAndDists p q) (now (s .entry)) t index left ⌝ }
+{
+    if (t.nodes.count as usize) <= index {
+        return SegmentAt::Refused(Refusal::IndexOutsideTable);
+    }
+    if left == 0 {
+        return SegmentAt::Refused(Refusal::TooDeep);
+    }
+    match read_words(s, t, index) {
+        ReadWords::Refused(e) => SegmentAt::Refused(e),
+        ReadWords::Words(w) => match dists_at(s, t, w.plane as usize, p, q) {
+            Dists::Refused(e) => SegmentAt::Refused(e),
+            Dists::Two(a, b) => SegmentAt::Dists(w, a, b),
+        },
+    }
+}
+
+// The word of a node's child on a point's side of its plane, by the point's distance, with so many calls left. Refused as `node_at`.
+fn look_at(s: &[u8], t: Tables, index: usize, left: u32, point: Vector3) -> Onward
+    ensures { λ r. ⌜ Walks.onwardAnswer (t .table) r ≡ Answers.nodeFor (Answers.childToward point) (now (s .entry)) t index left ⌝ }
+{
+    if (t.nodes.count as usize) <= index {
+        return Onward::Refused(Refusal::IndexOutsideTable);
+    }
+    if left == 0 {
+        return Onward::Refused(Refusal::TooDeep);
+    }
+    match read_words(s, t, index) {
+        ReadWords::Refused(e) => Onward::Refused(e),
+        ReadWords::Words(w) => match plane_at(s, t, w.plane as usize) {
+            PlaneAnswer::Refused(e) => Onward::Refused(e),
+            PlaneAnswer::Value(plane) => Onward::Word(w.on(plane.point_dist(point) >= 0.0)),
+        },
+    }
+}
+
+// The contents at a point from a node on, at most 512 nodes deep.
+pub fn contents_from(s: &[u8], t: Tables, top: usize, point: Vector3) -> EndContents
+    ensures { λ r. ⌜ Fast.endAnswer r ≡ Line.contentsFrom (Fast.table (now (s .entry)) t) 512 top point ⌝ }
+{
+    let mut node = top;
+    let mut left: u32 = 512;
+    loop {
+        match look_at(s, t, node, left, point) {
+            Onward::Refused(e) => return EndContents::Refused(e),
+            Onward::Word(word) => {
+                left -= 1;
+                if 32768 <= word {
+                    return end_contents(s, t, word);
+                }
+                node = word as usize;
+            }
+        }
+    }
+}
+
+// The contents at a point from a node's child on, which is the top of this descent.
+pub fn contents_beside(s: &[u8], t: Tables, w: Words, front: bool, point: Vector3) -> EndContents
+    ensures { λ r. ⌜ Fast.endAnswer r ≡ Answers.contentsBeside (now (s .entry)) t w front point ⌝ }
+{
+    let word = w.on(front);
+    if word < 32768 {
+        return contents_from(s, t, word as usize, point);
+    }
+    end_contents(s, t, word)
+}

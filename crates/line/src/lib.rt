@@ -1,0 +1,4 @@
+// Whole-line traces: a second trace, by the published rule of id Software's world.c.
+mod contents;
+pub mod state;
+pub mod tracing;

@@ -1,0 +1,2 @@
+-- What specs/ says, proved.
+pub mod EveryLine

@@ -1,0 +1,2 @@
+-- What holds of whole-line traces on every file that loads.
+pub mod EveryLine
