@@ -9,7 +9,8 @@
  * numbers, it ends and answers one of these; it reads and writes nothing but the lists it is lent.
  * What it answers goes to the front of a list that the caller lends; entries past the answer are
  * kept. A refusal writes nothing, but for the marks of bsp_tree_check, bsp_hull_check,
- * bsp_contents_box and bsp_accept. The library holds no state: any thread may call it at any time.
+ * bsp_contents_box, bsp_order and bsp_accept. The library holds no state: any thread may call it at
+ * any time.
  *
  * Stack, measured on a chain of 512 nodes, the deepest there can be, and not proved: bsp_trace and
  * bsp_trace_nodes need up to 574,000 bytes, bsp_trace_line 607,000, bsp_contents_box 262,000,
@@ -584,6 +585,54 @@ uint32_t bsp_contents_points(const uint8_t *file, size_t file_length,
                              const float *points, size_t points_length,
                              uint8_t *list, size_t list_length,
                              uint64_t *out, size_t out_length);
+
+/*
+ * Writes the nodes of a root's tree in walking order into list, three numbers a node: its plane's number,
+ * its front child and its back child. A child is its place in the list, counted in nodes from 0, or a
+ * contents code negated (enum bsp_contents). The root has place 0; the front child comes right after its
+ * parent, and the back child after the whole front part. out[0] is the number of nodes.
+ * bsp_order_contents and bsp_order_trace from place 0 then answer what bsp_contents and bsp_trace answer
+ * from that root, for every point and segment, visits and refusals too.
+ *   map: 31 words or more; table: 0, the render nodes, or 1, the clip nodes; marks: as bsp_tree_check;
+ *   list: three numbers a node of the tree, so that three times the table's nodes are always enough;
+ *   out: 1 word or more. The time grows with the nodes of the tree and the marks.
+ *   Refuses: 22, map or out; 20, another table; then as bsp_tree_check, which leaves the marks so; then
+ *   23, a leaf's record; then 22, a list too short for the nodes.
+ */
+uint32_t bsp_order(const uint8_t *file, size_t file_length,
+                   const uint32_t *map, size_t map_length,
+                   uint32_t table, uint64_t root,
+                   uint8_t *marks, size_t marks_length,
+                   int32_t *list, size_t list_length,
+                   uint64_t *out, size_t out_length);
+
+/*
+ * As bsp_contents, by a list of nodes in walking order from the place root on; the planes are the file's.
+ * A caller may make a list by hand: it is counted in whole threes, and numbers past them are not looked at.
+ *   map: 31 words or more; point: 3 floats; out: 2 words. One step a node entered, at most as many as the
+ *   list has.
+ *   Refuses: 22; at each node 30, a place outside the list; 31, as many nodes entered as the list has;
+ *   23, a negative plane's number, or a negative child that is no contents code, in a node read whole;
+ *   30, a plane outside its table; 23, the plane.
+ */
+uint32_t bsp_order_contents(const uint8_t *file, size_t file_length,
+                            const uint32_t *map, size_t map_length,
+                            const int32_t *list, size_t list_length,
+                            uint64_t root,
+                            const float *point, size_t point_length,
+                            uint64_t *out, size_t out_length);
+
+/*
+ * As bsp_trace, in the same way.
+ *   map: 31 words or more; segment: 6 floats; out: 17 words. One step a node entered, at most 512 deep.
+ *   Refuses: as bsp_order_contents, with 32 in place of 31.
+ */
+uint32_t bsp_order_trace(const uint8_t *file, size_t file_length,
+                         const uint32_t *map, size_t map_length,
+                         const int32_t *list, size_t list_length,
+                         uint64_t root,
+                         const float *segment, size_t segment_length,
+                         uint64_t *out, size_t out_length);
 
 /*
  * The leaves that can be seen from a leaf: their number in out[0], and the leaves, lowest first, at

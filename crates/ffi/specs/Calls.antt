@@ -15,3 +15,4 @@ pub use Rattle.ffi_sizes.specs.Calls.{bspBodySizes, bspHullSized}
 pub use Rattle.ffi_accept.specs.Calls.{bspAccept}
 pub use Rattle.ffi_points.specs.Calls.{bspContentsPoints}
 pub use Rattle.ffi_line.specs.Calls.{bspTraceLine}
+pub use Rattle.ffi_order.specs.Calls.{Ordering, ordering, bspOrder, bspOrderContents, bspOrderTrace}

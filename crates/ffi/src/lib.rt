@@ -234,6 +234,52 @@ pub extern "C" fn bsp_contents_points(
     ffi_points::contents_points(file, map, hull, points, list, out)
 }
 
+// The nodes of a root's tree in walking order, in `list`, and their number.
+#[no_mangle]
+pub extern "C" fn bsp_order(
+    file: &[u8],
+    map: &[u32],
+    table: u32,
+    root: u64,
+    marks: &mut [u8],
+    list: &mut [i32],
+    out: &mut [u64],
+) -> u32
+    ensures { λ r. ⌜ Calls.ordering r (now (marks .exit)) (now (list .exit)) (now (out .exit)) ≡ Calls.bspOrder (now (file .entry)) (now (map .entry)) table root (now (marks .entry)) (now (list .entry)) (now (out .entry)) ⌝ }
+{
+    ffi_order::order(file, map, table, root, marks, list, out)
+}
+
+// The contents at a point, by a list of nodes in walking order.
+#[no_mangle]
+pub extern "C" fn bsp_order_contents(
+    file: &[u8],
+    map: &[u32],
+    list: &[i32],
+    root: u64,
+    point: &[f32],
+    out: &mut [u64],
+) -> u32
+    ensures { λ r. ⌜ written r (now (out .exit)) ≡ Calls.bspOrderContents (now (file .entry)) (now (map .entry)) (now (list .entry)) root (now (point .entry)) (now (out .entry)) ⌝ }
+{
+    ffi_order::contents(file, map, list, root, point, out)
+}
+
+// The trace of a segment, by a list of nodes in walking order.
+#[no_mangle]
+pub extern "C" fn bsp_order_trace(
+    file: &[u8],
+    map: &[u32],
+    list: &[i32],
+    root: u64,
+    segment: &[f32],
+    out: &mut [u64],
+) -> u32
+    ensures { λ r. ⌜ written r (now (out .exit)) ≡ Calls.bspOrderTrace (now (file .entry)) (now (map .entry)) (now (list .entry)) root (now (segment .entry)) (now (out .entry)) ⌝ }
+{
+    ffi_order::trace(file, map, list, root, segment, out)
+}
+
 // The leaves that can be seen from a leaf, at the front of `list`, and their count.
 #[no_mangle]
 pub extern "C" fn bsp_pvs(

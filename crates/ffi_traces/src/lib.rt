@@ -41,7 +41,7 @@ fn kind_words(kind: TraceEndKind) -> [u64; 7]
     }
 }
 
-fn trace_words(trace: Trace, visits: u64) -> [u64; 17]
+pub fn trace_words(trace: Trace, visits: u64) -> [u64; 17]
     ensures { λ r. ⌜ r ≡ Layout.traceWords (trace, visits) ⌝ }
 {
     let contents = trace.contents;

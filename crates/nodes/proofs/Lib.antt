@@ -14,3 +14,4 @@ mod Stepping
 pub mod Equal
 pub mod Ends
 mod Handed
+pub mod Numbering

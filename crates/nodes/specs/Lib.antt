@@ -2,3 +2,4 @@
 pub mod Tables
 pub mod Fast
 pub mod Walks
+pub mod Numbered

@@ -3,12 +3,12 @@
 
 use crate::board::{Board, Plan};
 use crate::calls::{self, Calls};
-use crate::{accept, bodies, boxes, coverage, hand_made, joins, leaves, line, loads, points, pvs, records, sky, team, tree, walks};
+use crate::{accept, bodies, boxes, coverage, hand_made, joins, leaves, line, loads, order, points, pvs, records, sky, team, tree, walks};
 
 type Mode = fn(&Calls, &Plan) -> Board;
 
 /// The modes, and the cases of each in a round.
-const MODES: [(Mode, u64); 14] = [
+const MODES: [(Mode, u64); 15] = [
     (records::compare, 500),
     (hand_made::compare, 1_000),
     (walks::compare, 1_000),
@@ -18,6 +18,7 @@ const MODES: [(Mode, u64); 14] = [
     (accept::compare, 500),
     (points::compare, 500),
     (line::compare, 500),
+    (order::compare, 500),
     (pvs::compare, 2_000),
     (team::compare, 500),
     (loads::compare, 2_000),

@@ -30,6 +30,9 @@ const PLAYERS: usize = 64;
 /// A map whose trees are not balanced, beside the generated ones, which are.
 const ROOMS: &[u8] = include_bytes!("../../../maps/rooms.bsp");
 
+/// Points or segments timed together where three sides are compared.
+const PART: usize = 500;
+
 /// Leaves asked for their lists a slice.
 const LISTS: usize = 1_000;
 
@@ -53,9 +56,10 @@ pub fn run(plan: &Plan) -> bool {
         SINGLE * plan.cases
     );
     println!(
-        "{:<9} {:<22} {:>12} {:>12} {:>7} {:>10} {:>10}",
+        "{:<9} {:<26} {:>12} {:>12} {:>7} {:>10} {:>10}",
         "map", "call", "ns a call", "Rust", "ratio", "ns a part", "Rust"
     );
+    println!("team: beside 16 calls of bsp_pvs and a merge by the caller, in the Rust's columns");
     let mut equal = true;
     for (name, world) in worlds() {
         let mut seed = Seed::named(plan.seed, name);
@@ -64,8 +68,21 @@ pub fn run(plan: &Plan) -> bool {
         of_map(&mut table, &mut seed, &file);
         equal &= table.equal;
     }
+    let mut table = Table { name: "rooms", slices: plan.cases, equal: true };
+    of_rooms(&mut table, &mut Seed::named(plan.seed, "rooms"), ROOMS);
+    equal &= table.equal;
     equal &= run_points(plan);
-    for call in ["bsp_load", "bsp_contents", "bsp_contents_points", "bsp_pvs", "bsp_tree_check"] {
+    for call in [
+        "bsp_load",
+        "bsp_contents",
+        "bsp_contents_points",
+        "bsp_pvs",
+        "bsp_pvs_team",
+        "bsp_tree_check",
+        "bsp_order",
+        "bsp_trace_line",
+        "bsp_accept",
+    ] {
         if !calls::is_linked(call) {
             println!("{call} and its group are the stub's");
         }
@@ -101,7 +118,6 @@ pub fn run_points(plan: &Plan) -> bool {
         "{:<9} {:<14} {:>6} {:>7} {:>8} {:>8} {:>8} {:>8} {:>8}",
         "map", "points", "n", "reads", "many", "alone", "Rust", "/ alone", "/ Rust"
     );
-    println!("team: beside 16 calls of bsp_pvs and a merge by the caller, in the Rust's columns");
     let mut equal = true;
     for (name, world) in worlds() {
         let mut seed = Seed::named(plan.seed, name);
@@ -133,7 +149,7 @@ impl Table {
         let has_rust = rust.is_some();
         let rust = rust.unwrap_or(&mut none);
         if has_rust && ours() != rust() {
-            println!("{:<9} {call:<22} the answers differ", self.name);
+            println!("{:<9} {call:<26} the answers differ", self.name);
             self.equal = false;
         }
         for _ in 0..self.slices {
@@ -151,7 +167,7 @@ impl Table {
         let a_part = least.map(|time| time / parts.max(1) as f64);
         let rust = |text: String| if has_rust { text } else { "-".to_string() };
         println!(
-            "{:<9} {call:<22} {:>12.1} {:>12} {:>7} {:>10.2} {:>10}",
+            "{:<9} {call:<26} {:>12.1} {:>12} {:>7} {:>10.2} {:>10}",
             self.name,
             a_call[0],
             rust(format!("{:.1}", a_call[1])),
@@ -228,11 +244,15 @@ fn of_map(table: &mut Table, seed: &mut Seed, file: &[u8]) {
         let words = words::hull(number as u64, &hull);
         contents(table, (file, &map, &words), &hull, nodes, &points);
         contents(table, (file, &map, &words), &hull, &format!("{nodes}, near"), &near);
+        let list = in_order(table, (file, &map), number as u32);
+        order_contents(table, (file, &map, &words), (&list, &hull), nodes, &points);
         for (length, name) in [(100.0, "short"), (4000.0, "long")] {
             let segments: Vec<[f32; 6]> =
                 points.iter().map(|p| segment(seed, *p, length)).collect();
-            traces(table, (file, &map, &words), &hull, &format!("{nodes}, {name}"), &segments);
-            lines(table, (file, &map, &words), &format!("{nodes}, {name}"), &segments);
+            let name = format!("{nodes}, {name}");
+            traces(table, (file, &map, &words), &hull, &name, &segments);
+            order_traces(table, (file, &map, &words), (&list, &hull), &name, &segments);
+            lines(table, (file, &map, &words), &name, &segments);
         }
     }
     find_leaf(table, (file, &map), &rust, "", &points);
@@ -242,6 +262,7 @@ fn of_map(table: &mut Table, seed: &mut Seed, file: &[u8]) {
     for (number, nodes) in [(1, "clip"), (0, "render")] {
         tree_check(table, (file, &map), number, nodes);
     }
+    accept(table, (file, &map));
 }
 
 fn point(seed: &mut Seed) -> [f32; 3] {
@@ -368,6 +389,144 @@ fn lines(table: &mut Table, (file, map, words): Lent, name: &str, segments: &[[f
         }));
     }
     table.row(&format!("*line, {name}"), (segments.len(), segments.len() as u64), least, true);
+}
+
+/// Nodes from node 0 on in walking order; the time of writing them, ours alone.
+fn in_order(table: &mut Table, (file, map): (&[u8], &[u32]), number: u32) -> Vec<i32> {
+    let section = if number == 0 { 5 } else { 9 };
+    let count = map[2 * section + 1] as usize / maps::record::SIZES[section];
+    let (mut marks, mut list, mut out) = (vec![0; count], vec![0; 3 * count], [0; 1]);
+    assert_eq!(calls::order(file, map, number, 0, &mut marks, &mut list, &mut out), 0, "order");
+    let nodes = out[0];
+    let name = ["order, render", "order, clip"][number as usize];
+    let ours = || calls::order(file, map, number, 0, &mut marks, &mut list, &mut out) as u64;
+    table.line(name, (1, nodes), ours, None);
+    list.truncate(3 * nodes as usize);
+    list
+}
+
+/// One side over a part of the inputs: the sum of its answers.
+type Part<'a, T> = &'a mut dyn FnMut(&[T]) -> u64;
+
+/// Three sides over the same inputs, one after the other, each part of them timed by itself: the least
+/// times of the parts count, so that what else the machine does disturbs few of them. Two lines: the
+/// first side beside the second and beside the third.
+fn three_sides<T>(
+    table: &mut Table,
+    names: [&str; 2],
+    inputs: &[T],
+    visits: u64,
+    sides: [Part<T>; 3],
+) {
+    let mut total = [0.0; 3];
+    let mut sums = [0; 3];
+    for (which, side) in sides.into_iter().enumerate() {
+        sums[which] = side(inputs);
+        let mut least = vec![f64::MAX; inputs.len().div_ceil(PART)];
+        for _ in 0..table.slices {
+            for (least, part) in least.iter_mut().zip(inputs.chunks(PART)) {
+                *least = least.min(timed(&mut || side(part)));
+            }
+        }
+        total[which] = least.iter().sum();
+    }
+    if sums[0] != sums[1] || sums[0] != sums[2] {
+        println!("{:<9} {:<26} the answers differ", table.name, names[0]);
+        table.equal = false;
+    }
+    for other in [1, 2] {
+        let parts = (inputs.len(), visits);
+        table.row(names[other - 1], parts, [total[0], total[other]], true);
+    }
+}
+
+/// Contents by nodes in walking order, beside the Rust and beside the same call by the file.
+fn order_contents(
+    table: &mut Table,
+    (file, map, words): Lent,
+    (list, hull): (&[i32], &Hull),
+    nodes: &str,
+    points: &[[f32; 3]],
+) {
+    let (mut out, mut by_file) = ([0; 2], [0; 2]);
+    let mut visits = 0;
+    for p in points {
+        assert_eq!(calls::order_contents(file, map, list, 0, p, &mut out), 0, "contents");
+        calls::contents(file, map, words, p, &mut by_file);
+        table.equal &= out == by_file;
+        visits += out[1];
+    }
+    let mut ours = |points: &[[f32; 3]]| {
+        let mut sum = 0;
+        for p in points {
+            let point = black_box(*p);
+            calls::order_contents(file, map, list, 0, &point, &mut out);
+            sum += out[0];
+        }
+        sum
+    };
+    let mut rust =
+        |points: &[[f32; 3]]| points.iter().map(|p| hull.bare_contents(black_box(*p)) as u64).sum();
+    let mut other = |points: &[[f32; 3]]| {
+        let mut sum = 0;
+        for p in points {
+            let point = black_box(*p);
+            calls::contents(file, map, words, &point, &mut by_file);
+            sum += by_file[0];
+        }
+        sum
+    };
+    let name = format!("order contents, {nodes}");
+    let names = [&name, "  beside the file"];
+    three_sides(table, names, points, visits, [&mut ours, &mut rust, &mut other]);
+}
+
+/// The same of traces.
+fn order_traces(
+    table: &mut Table,
+    (file, map, words): Lent,
+    (list, hull): (&[i32], &Hull),
+    name: &str,
+    segments: &[[f32; 6]],
+) {
+    let (mut out, mut by_file) = ([0; TRACE_WORDS], [0; TRACE_WORDS]);
+    let mut visits = 0;
+    let ends = |s: &[f32; 6]| ([s[0], s[1], s[2]], [s[3], s[4], s[5]]);
+    for s in segments {
+        assert_eq!(calls::order_trace(file, map, list, 0, s, &mut out), 0, "trace");
+        calls::trace(file, map, words, s, &mut by_file);
+        table.equal &= out == by_file;
+        visits += out[0];
+    }
+    let mut ours = |segments: &[[f32; 6]]| {
+        let mut sum = 0;
+        for s in segments {
+            let segment = black_box(*s);
+            calls::order_trace(file, map, list, 0, &segment, &mut out);
+            sum += out[2];
+        }
+        sum
+    };
+    let mut rust = |segments: &[[f32; 6]]| {
+        let mut sum = 0;
+        for s in segments {
+            let (start, end) = ends(black_box(s));
+            sum += black_box(hull.bare_trace(start, end)).start_solid() as u64;
+        }
+        sum
+    };
+    let mut other = |segments: &[[f32; 6]]| {
+        let mut sum = 0;
+        for s in segments {
+            let segment = black_box(*s);
+            calls::trace(file, map, words, &segment, &mut by_file);
+            sum += by_file[2];
+        }
+        sum
+    };
+    let name = format!("order trace, {name}");
+    let names = [&name, "  beside the file"];
+    three_sides(table, names, segments, visits, [&mut ours, &mut rust, &mut other]);
 }
 
 fn find_leaf(
@@ -515,6 +674,17 @@ fn tree_check(table: &mut Table, (file, map): (&[u8], &[u32]), number: u32, node
     table.slices = slices;
 }
 
+/// Acceptance, one call a slice; a part is a record of a face, leaf, model or node.
+fn accept(table: &mut Table, (file, map): (&[u8], &[u32])) {
+    let count = |section: usize| map[2 * section + 1] as u64 / maps::record::SIZES[section] as u64;
+    let (render, clip) = (count(5), count(9));
+    let records = count(7) + count(10) + count(14) + render + clip;
+    let mut marks = vec![0; render.max(clip) as usize];
+    assert_eq!(calls::accept(file, map, &mut marks), 0, "acceptance");
+    let ours = || calls::accept(file, map, &mut marks) as u64;
+    table.line("acceptance", (1, records), ours, None);
+}
+
 /// Many points at once, spread over the map and in rooms of a sixteenth of its side, a room for each
 /// 1,024.
 fn many_points(name: &str, slices: u64, seed: &mut Seed, file: &[u8]) -> bool {
@@ -543,8 +713,8 @@ fn many_points(name: &str, slices: u64, seed: &mut Seed, file: &[u8]) -> bool {
     equal
 }
 
-/// Each side by turns on every 1,024 points; of these the least time of all slices counts, and the
-/// table has their sum.
+/// Each side by turns on every 1,024 points, all of them in a slice; of each 1,024 the least time of all
+/// slices counts, and the table has their sum.
 fn at_once(
     (name, kind): (&str, String),
     (slices, n): (u64, usize),
@@ -557,8 +727,8 @@ fn at_once(
     let mut many = |points: &[[f32; 3]]| {
         let mut sum = 0;
         for some in points.chunks(n) {
-            let some = black_box(some.as_flattened());
-            calls::contents_points(file, map, words, some, &mut list, &mut reads);
+            let floats = some.as_flattened();
+            calls::contents_points(file, map, words, floats, &mut list, &mut reads);
             all_reads += reads[0];
             sum += list.iter().map(|code| *code as u64).sum::<u64>();
         }
@@ -575,23 +745,21 @@ fn at_once(
     };
     let rust =
         |points: &[[f32; 3]]| points.iter().map(|p| hull.bare_contents(black_box(*p)) as u64).sum();
-    let mut sums = [0.0; 3];
-    for some in points.chunks(AT_ONCE[0]) {
-        let one = many(some);
-        if one != alone(some) || one != rust(some) {
-            println!("{name:<9} {kind:<14} {n:>6} the answers differ");
-            return false;
-        }
-        let mut least = [f64::MAX; 3];
-        for _ in 0..slices {
+    let one = many(points);
+    if one != alone(points) || one != rust(points) {
+        println!("{name:<9} {kind:<14} {n:>6} the answers differ");
+        return false;
+    }
+    // all points between two times that the same ones are asked, so that their sides are not remembered
+    let mut least = vec![[f64::MAX; 3]; points.len().div_ceil(AT_ONCE[0])];
+    for _ in 0..slices {
+        for (least, some) in least.iter_mut().zip(points.chunks(AT_ONCE[0])) {
             least[0] = least[0].min(timed(&mut || many(some)));
             least[1] = least[1].min(timed(&mut || alone(some)));
             least[2] = least[2].min(timed(&mut || rust(some)));
         }
-        for (sum, time) in sums.iter_mut().zip(least) {
-            *sum += time;
-        }
     }
+    let sums = [0, 1, 2].map(|side| least.iter().map(|times| times[side]).sum::<f64>());
     let reads = all_reads as f64 / (points.len() as u64 * (slices + 1)) as f64;
     let [many, alone, rust] = sums.map(|time| time / points.len() as f64);
     println!(

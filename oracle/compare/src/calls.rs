@@ -13,6 +13,8 @@ type Floats = *const f32;
 type BytesOut = *mut u8;
 type WordsOut = *mut u32;
 type LongsOut = *mut u64;
+type Ints = *const i32;
+type IntsOut = *mut i32;
 
 #[rustfmt::skip]
 #[allow(dead_code)]
@@ -42,6 +44,9 @@ extern "C" {
     fn bsp_accept(file: Bytes, file_len: usize, map: Words, map_len: usize, marks: BytesOut, marks_len: usize) -> u32;
     fn bsp_contents_points(file: Bytes, file_len: usize, map: Words, map_len: usize, hull: Longs, hull_len: usize, points: Floats, points_len: usize, list: BytesOut, list_len: usize, out: LongsOut, out_len: usize) -> u32;
     fn bsp_trace_line(file: Bytes, file_len: usize, map: Words, map_len: usize, hull: Longs, hull_len: usize, segment: Floats, segment_len: usize, out: LongsOut, out_len: usize) -> u32;
+    fn bsp_order(file: Bytes, file_len: usize, map: Words, map_len: usize, table: u32, root: u64, marks: BytesOut, marks_len: usize, list: IntsOut, list_len: usize, out: LongsOut, out_len: usize) -> u32;
+    fn bsp_order_contents(file: Bytes, file_len: usize, map: Words, map_len: usize, list: Ints, list_len: usize, root: u64, point: Floats, point_len: usize, out: LongsOut, out_len: usize) -> u32;
+    fn bsp_order_trace(file: Bytes, file_len: usize, map: Words, map_len: usize, list: Ints, list_len: usize, root: u64, segment: Floats, segment_len: usize, out: LongsOut, out_len: usize) -> u32;
     fn bsp_hull_check(file: Bytes, file_len: usize, map: Words, map_len: usize, hull: Longs, hull_len: usize, marks: BytesOut, marks_len: usize, out: LongsOut, out_len: usize) -> u32;
 }
 
@@ -81,6 +86,9 @@ pub struct Calls {
     pub accept: fn(&[u8], &[u32], &mut [u8]) -> u32,
     pub contents_points: fn(&[u8], &[u32], &[u64], &[f32], &mut [u8], &mut [u64]) -> u32,
     pub trace_line: fn(&[u8], &[u32], &[u64], &[f32], &mut [u64]) -> u32,
+    pub order: fn(&[u8], &[u32], u32, u64, &mut [u8], &mut [i32], &mut [u64]) -> u32,
+    pub order_contents: fn(&[u8], &[u32], &[i32], u64, &[f32], &mut [u64]) -> u32,
+    pub order_trace: fn(&[u8], &[u32], &[i32], u64, &[f32], &mut [u64]) -> u32,
     pub hull_check: fn(&[u8], &[u32], &[u64], &mut [u8], &mut [u64]) -> u32,
 }
 
@@ -108,6 +116,9 @@ impl Calls {
             accept,
             contents_points,
             trace_line,
+            order,
+            order_contents,
+            order_trace,
             hull_check,
         }
     }
@@ -126,6 +137,7 @@ pub fn is_linked(call: &str) -> bool {
         "bsp_accept" => cfg!(feature = "ffi_accept"),
         "bsp_contents_points" => cfg!(feature = "ffi_points"),
         "bsp_trace_line" => cfg!(feature = "ffi_line"),
+        "bsp_order" | "bsp_order_contents" | "bsp_order_trace" => cfg!(feature = "ffi_order"),
         "bsp_contents_nodes" | "bsp_find_leaf_nodes" | "bsp_trace_nodes" => {
             cfg!(feature = "ffi_nodes")
         }
@@ -559,6 +571,89 @@ pub fn trace_line(file: &[u8], map: &[u32], hull: &[u64], segment: &[f32], out: 
             map.len(),
             hull.as_ptr(),
             hull.len(),
+            segment.as_ptr(),
+            segment.len(),
+            out.as_mut_ptr(),
+            out.len()
+        )
+    )
+}
+
+pub fn order(
+    file: &[u8],
+    map: &[u32],
+    table: u32,
+    root: u64,
+    marks: &mut [u8],
+    list: &mut [i32],
+    out: &mut [u64],
+) -> u32 {
+    either!(
+        "ffi_order",
+        bsp_order(file, map, table, root, marks, list, out),
+        (
+            file.as_ptr(),
+            file.len(),
+            map.as_ptr(),
+            map.len(),
+            table,
+            root,
+            marks.as_mut_ptr(),
+            marks.len(),
+            list.as_mut_ptr(),
+            list.len(),
+            out.as_mut_ptr(),
+            out.len()
+        )
+    )
+}
+
+pub fn order_contents(
+    file: &[u8],
+    map: &[u32],
+    list: &[i32],
+    root: u64,
+    point: &[f32],
+    out: &mut [u64],
+) -> u32 {
+    either!(
+        "ffi_order",
+        bsp_order_contents(file, map, list, root, point, out),
+        (
+            file.as_ptr(),
+            file.len(),
+            map.as_ptr(),
+            map.len(),
+            list.as_ptr(),
+            list.len(),
+            root,
+            point.as_ptr(),
+            point.len(),
+            out.as_mut_ptr(),
+            out.len()
+        )
+    )
+}
+
+pub fn order_trace(
+    file: &[u8],
+    map: &[u32],
+    list: &[i32],
+    root: u64,
+    segment: &[f32],
+    out: &mut [u64],
+) -> u32 {
+    either!(
+        "ffi_order",
+        bsp_order_trace(file, map, list, root, segment, out),
+        (
+            file.as_ptr(),
+            file.len(),
+            map.as_ptr(),
+            map.len(),
+            list.as_ptr(),
+            list.len(),
+            root,
             segment.as_ptr(),
             segment.len(),
             out.as_mut_ptr(),

@@ -6,7 +6,7 @@
 #![allow(dead_code)]
 
 use crate::paper::walk::{self, Hull, Walked};
-use crate::paper::{Answer, MAP_WORDS, Map, SECTIONS, accept, bodies, boxes, line, load, points, team, tree, vis};
+use crate::paper::{Answer, MAP_WORDS, Map, SECTIONS, accept, bodies, boxes, line, load, order, points, team, tree, vis};
 
 /// The words of `bsp_record`'s list, of a trace's, of a whole line's, of a walk's and of a hull, and of a hull that a call
 /// takes, which does not look at the last two.
@@ -309,4 +309,50 @@ pub fn bsp_trace_line(
         line::trace_line(&map, &hull, start, end, usize::MAX)
     });
     put(answer.map(|line| line.words()), out)
+}
+
+pub fn bsp_order(
+    file: &[u8],
+    map: &[u32],
+    table: u32,
+    root: u64,
+    marks: &mut [u8],
+    list: &mut [i32],
+    out: &mut [u64],
+) -> u32 {
+    let nodes = map_of(file, map, !out.is_empty())
+        .and_then(|map| order::order(&map, table, root, marks, list));
+    put(nodes.map(|nodes| vec![nodes]), out)
+}
+
+pub fn bsp_order_contents(
+    file: &[u8],
+    map: &[u32],
+    list: &[i32],
+    root: u64,
+    point: &[f32],
+    out: &mut [u64],
+) -> u32 {
+    let enough = point.len() >= 3 && out.len() >= WALK_WORDS;
+    let walked = map_of(file, map, enough)
+        .and_then(|map| with_visits(order::contents(&map, list, root, three(point))));
+    put(walked, out)
+}
+
+pub fn bsp_order_trace(
+    file: &[u8],
+    map: &[u32],
+    list: &[i32],
+    root: u64,
+    segment: &[f32],
+    out: &mut [u64],
+) -> u32 {
+    let enough = segment.len() >= 6 && out.len() >= TRACE_WORDS;
+    let words = map_of(file, map, enough).and_then(|map| {
+        let ends = [three(segment), three(&segment[3..])];
+        let walked = order::trace(&map, list, root, ends, usize::MAX);
+        let visits = walked.nodes.len() as u64;
+        walked.value.map(|trace| trace.words(visits))
+    });
+    put(words, out)
 }

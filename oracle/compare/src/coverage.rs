@@ -24,7 +24,7 @@ pub const NUMBERS: [u32; 28] =
 /// - 24 is that of many points, 28 that of a box whose contents are asked.
 /// - 35 is acceptance's.
 /// - 33 is visibility's, 34 the tree check's and that of the calls which make it.
-const CAN: [(&str, &[u32]); 22] = [
+const CAN: [(&str, &[u32]); 25] = [
     ("bsp_load", &[1, 2, 3, 4, 5, 6, 7, 8, 9, 10, 11, 12, 22]),
     ("bsp_record", &[20, 22, 23]),
     ("bsp_count", &[20, 22]),
@@ -56,6 +56,11 @@ const CAN: [(&str, &[u32]); 22] = [
     ("bsp_contents_points", &[20, 22, 23, 24, 30, 31]),
     // both its descents; 20 where the hull's words name no table
     ("bsp_trace_line", &[20, 22, 23, 30, 32]),
+    // as the tree check; then 23 for a leaf's record, 22 for the table
+    ("bsp_order", &[20, 22, 23, 30, 32, 34]),
+    // a lent table: no number names it, so 20 is none of theirs
+    ("bsp_order_contents", &[22, 23, 30, 31]),
+    ("bsp_order_trace", &[22, 23, 30, 32]),
 ];
 
 /// What is wrong with the cells of a table.

@@ -21,6 +21,7 @@ mod line;
 mod line_peer;
 mod loads;
 mod notes;
+mod order;
 mod paper;
 mod points;
 mod proved;
@@ -114,6 +115,7 @@ fn run(mode: &str, given: &Arguments) -> bool {
         "line" => line::run(&given.plan(10_000)),
         #[cfg(feature = "peer")]
         "line-peer" => line_peer::run(&given.plan(3_000)),
+        "order" => order::run(&given.plan(10_000)),
         "pvs" => pvs::run(&given.plan(20_000)),
         "team" => team::run(&given.plan(10_000)),
         "loads" => loads::run(&given.plan(5_000)),

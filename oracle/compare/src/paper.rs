@@ -22,6 +22,7 @@
 //! - `accept`: whole-map acceptance (document 02, note 4)
 //! - `points`: the contents of many points (document 02, note 7)
 //! - `line`: whole-line traces (document 02, note 6)
+//! - `order`: nodes in walking order, and walks and traces by them (document 02, note 11)
 
 pub mod bodies;
 pub mod accept;
@@ -30,6 +31,7 @@ pub mod faces;
 pub mod fields;
 pub mod line;
 pub mod load;
+pub mod order;
 pub mod plane;
 pub mod points;
 pub mod records;

@@ -3,7 +3,7 @@
 use crate::board::{Board, Plan};
 use crate::calls::Calls;
 use crate::calls_stub as stub;
-use crate::{accept, all, bodies, boxes, coverage, hand_made, joins, line, loads, points, pvs, records, replay, sample, sky, team, tree, walks};
+use crate::{accept, all, bodies, boxes, coverage, hand_made, joins, line, loads, order, points, pvs, records, replay, sample, sky, team, tree, walks};
 
 const PLAN: Plan = Plan { cases: 250, from: 0, seed: 7, quick: true };
 
@@ -34,10 +34,13 @@ fn right() -> Calls {
         accept: stub::bsp_accept,
         contents_points: stub::bsp_contents_points,
         trace_line: stub::bsp_trace_line,
+        order: stub::bsp_order,
+        order_contents: stub::bsp_order_contents,
+        order_trace: stub::bsp_order_trace,
     }
 }
 
-const MODES: [Compare; 14] = [
+const MODES: [Compare; 15] = [
     records::compare,
     hand_made::compare,
     walks::compare,
@@ -47,6 +50,7 @@ const MODES: [Compare; 14] = [
     accept::compare,
     points::compare,
     line::compare,
+    order::compare,
     pvs::compare,
     team::compare,
     loads::compare,
@@ -546,6 +550,34 @@ wrong! {
             o[0] = 0x3f80_0000;
         }
         refusal
+    };
+
+    order: a_short_table_is_written, order, "bsp_order", |f, m, t, r, marks, list, o| {
+        let refusal = stub::bsp_order(f, m, t, r, marks, list, o);
+        if refusal == 22 && list.len() > 2 && marks.iter().all(|mark| *mark == 0) {
+            list[0] = 0;
+        }
+        refusal
+    };
+    order: back_part_first, order, "bsp_order", |f, m, t, r, marks, list, o| {
+        let refusal = stub::bsp_order(f, m, t, r, marks, list, o);
+        changed(refusal, o, |_| list.swap(1, 2))
+    };
+    order: a_negative_plane_is_zero, order_contents, "bsp_order_contents", |f, m, l, r, p, o| {
+        let planes: Vec<i32> =
+            l.iter().enumerate().map(|(at, w)| if at % 3 == 0 { (*w).max(0) } else { *w }).collect();
+        stub::bsp_order_contents(f, m, &planes, r, p, o)
+    };
+    order: words_past_the_threes_are_read, order_contents, "bsp_order_contents", |f, m, l, r, p, o| {
+        let mut list = l.to_vec();
+        list.resize(l.len().div_ceil(3) * 3, -1);
+        stub::bsp_order_contents(f, m, &list, r, p, o)
+    };
+    order: the_trace_begins_at_0, order_trace, "bsp_order_trace", |f, m, l, _, s, o| {
+        stub::bsp_order_trace(f, m, l, 0, s, o)
+    };
+    order: one_visit_too_few, order_trace, "bsp_order_trace", |f, m, l, r, s, o| {
+        changed(stub::bsp_order_trace(f, m, l, r, s, o), o, |o| o[0] -= 1)
     };
 
     tree: marks_left_behind, tree_check, "bsp_tree_check", |f, m, t, r, marks, o| {

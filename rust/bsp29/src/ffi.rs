@@ -14,6 +14,8 @@ type Floats = *const f32;
 type BytesOut = *mut u8;
 type WordsOut = *mut u32;
 type LongsOut = *mut u64;
+type Ints = *const i32;
+type IntsOut = *mut i32;
 
 // A slice is a pointer and a length.
 #[rustfmt::skip]
@@ -39,6 +41,9 @@ extern "C" {
     fn bsp_contents_box(file: Bytes, file_length: usize, map: Words, map_length: usize, hull: Longs, hull_length: usize, bounds: Floats, bounds_length: usize, marks: BytesOut, marks_length: usize, out: LongsOut, out_length: usize) -> u32;
     fn bsp_accept(file: Bytes, file_length: usize, map: Words, map_length: usize, marks: BytesOut, marks_length: usize) -> u32;
     fn bsp_contents_points(file: Bytes, file_length: usize, map: Words, map_length: usize, hull: Longs, hull_length: usize, points: Floats, points_length: usize, list: BytesOut, list_length: usize, out: LongsOut, out_length: usize) -> u32;
+    fn bsp_order(file: Bytes, file_length: usize, map: Words, map_length: usize, table: u32, root: u64, marks: BytesOut, marks_length: usize, list: IntsOut, list_length: usize, out: LongsOut, out_length: usize) -> u32;
+    fn bsp_order_contents(file: Bytes, file_length: usize, map: Words, map_length: usize, list: Ints, list_length: usize, root: u64, point: Floats, point_length: usize, out: LongsOut, out_length: usize) -> u32;
+    fn bsp_order_trace(file: Bytes, file_length: usize, map: Words, map_length: usize, list: Ints, list_length: usize, root: u64, segment: Floats, segment_length: usize, out: LongsOut, out_length: usize) -> u32;
     fn bsp_tree_check(file: Bytes, file_length: usize, map: Words, map_length: usize, table: u32, root: u64, marks: BytesOut, marks_length: usize, out: LongsOut, out_length: usize) -> u32;
 }
 
@@ -558,4 +563,89 @@ pub(crate) fn contents_points(
         )
     };
     answered(status, out[0])
+}
+
+/// `bsp_order`: the nodes in `list`, and their number.
+pub(crate) fn order(
+    file: &[u8],
+    map: &MapWords,
+    (table, root): (u32, u64),
+    marks: &mut [u8],
+    list: &mut [i32],
+) -> Result<u64, Refusal> {
+    let mut out = [0; 1];
+    // SAFETY: as in `load`.
+    let status = unsafe {
+        bsp_order(
+            file.as_ptr(),
+            file.len(),
+            map.as_ptr(),
+            map.len(),
+            table,
+            root,
+            marks.as_mut_ptr(),
+            marks.len(),
+            list.as_mut_ptr(),
+            list.len(),
+            out.as_mut_ptr(),
+            out.len(),
+        )
+    };
+    answered(status, out[0])
+}
+
+/// `bsp_order_contents`: the contents' code, and visits.
+pub(crate) fn order_contents(
+    file: &[u8],
+    map: &MapWords,
+    list: &[i32],
+    root: u64,
+    point: &[f32; 3],
+) -> Result<[u64; 2], Refusal> {
+    let mut out = [0; 2];
+    // SAFETY: as in `load`.
+    let status = unsafe {
+        bsp_order_contents(
+            file.as_ptr(),
+            file.len(),
+            map.as_ptr(),
+            map.len(),
+            list.as_ptr(),
+            list.len(),
+            root,
+            point.as_ptr(),
+            point.len(),
+            out.as_mut_ptr(),
+            out.len(),
+        )
+    };
+    answered(status, out)
+}
+
+/// `bsp_order_trace`: the trace's words.
+pub(crate) fn order_trace(
+    file: &[u8],
+    map: &MapWords,
+    list: &[i32],
+    root: u64,
+    segment: &Segment,
+) -> Result<[u64; 17], Refusal> {
+    let mut out = [0; 17];
+    // SAFETY: as in `load`.
+    let status = unsafe {
+        bsp_order_trace(
+            file.as_ptr(),
+            file.len(),
+            map.as_ptr(),
+            map.len(),
+            list.as_ptr(),
+            list.len(),
+            root,
+            segment.as_ptr(),
+            segment.len(),
+            out.as_mut_ptr(),
+            out.len(),
+        )
+    };
+    answered(status, out)
 }

@@ -33,6 +33,7 @@
 //! [`tree_check`](Map::tree_check) first.
 //!
 //! - [`Map`]: a map, and the questions that it answers
+//! - [`Ordered`]: the nodes of a tree in walking order, and walks and traces by them
 //! - [`Records`] and the records: planes, leaves, models and the rest, by their index
 //! - [`Hull`], [`Trace`], [`LineTrace`]: what something moves in, and what it meets
 //! - [`BodySizes`]: a hall's own sizes in place of the built-in ones
@@ -53,7 +54,7 @@ mod sizes;
 mod words;
 
 pub use hull::{Hull, LineTrace, NodeTable, Trace, TraceEnd};
-pub use map::Map;
+pub use map::{Map, Ordered};
 pub use records::{ClipChild, ClipNode, Contents, ContentsSet, Direction, Edge, EdgeListEntry, Face, FaceListEntry, Leaf, Model, Plane, PlaneKind, Record, Records, RenderChild, RenderNode, Side, Sounds, TextureInfo, Vertex};
 pub use refusal::Refusal;
 pub use sizes::{BodySizes, Bounds};

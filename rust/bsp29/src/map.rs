@@ -861,4 +861,75 @@ impl Map<'_> {
         ffi::contents_box(self.file, &self.words, &hull.words(), &both(mins, maxs), &mut marks)
             .map(ContentsSet::of)
     }
+
+    /// The nodes of a root's tree in walking order: the front child right after its parent, the back
+    /// child after the whole front part. Contents and traces by them are those by the file.
+    ///
+    /// Refuses as [`tree_check`](Map::tree_check) does; then with 23 for a leaf's record; a box has no
+    /// nodes in the file, and is refused with 20.
+    ///
+    /// ```
+    /// # let file = std::fs::read(concat!(env!("CARGO_MANIFEST_DIR"), "/../../maps/rooms.bsp")).unwrap();
+    /// let map = bsp29::Map::load(&file)?;
+    /// let hull = map.hull(0, 1)?;
+    /// let ordered = map.order(hull.table, hull.root)?;
+    /// assert_eq!(ordered.nodes().len() % 3, 0);
+    /// let (start, end) = ([-64.0, 64.0, 0.0], [64.0, 64.0, 0.0]);
+    /// assert_eq!(ordered.contents(start)?, map.contents(&hull, start)?);
+    /// assert_eq!(ordered.trace(start, end)?, map.trace(&hull, start, end)?);
+    /// # Ok::<(), bsp29::Refusal>(())
+    /// ```
+    pub fn order(&self, table: NodeTable, root: usize) -> Result<Ordered<'_>, Refusal> {
+        let mut marks: Vec<u8> = self.list(table);
+        let mut list = vec![0; 3 * marks.len()];
+        let asked = (table.number(), root as u64);
+        let nodes = ffi::order(self.file, &self.words, asked, &mut marks, &mut list)?;
+        list.truncate(3 * nodes as usize);
+        Ok(self.ordered(list))
+    }
+
+    /// A table of nodes in walking order that a caller made, in threes: a plane's number, the front and
+    /// the back child; a child is a place in nodes from 0, or a contents code negated. Numbers past the
+    /// last whole three are not looked at.
+    ///
+    /// ```
+    /// # let file = std::fs::read(concat!(env!("CARGO_MANIFEST_DIR"), "/../../maps/rooms.bsp")).unwrap();
+    /// use bsp29::{Map, Refusal};
+    ///
+    /// let map = Map::load(&file)?;
+    /// assert_eq!(map.ordered(vec![0, 1, -1]).contents([9999.0; 3]), Err(Refusal::IndexOutsideTable));
+    /// assert_eq!(map.ordered(vec![-1, -1, -2]).contents([0.0; 3]), Err(Refusal::Unreadable));
+    /// # Ok::<(), bsp29::Refusal>(())
+    /// ```
+    pub fn ordered(&self, nodes: Vec<i32>) -> Ordered<'_> {
+        Ordered { map: self, nodes }
+    }
+}
+
+/// Nodes in walking order ([`Map::order`]), and walks and traces by them, with the map's planes.
+#[derive(Clone, Debug)]
+pub struct Ordered<'a> {
+    map: &'a Map<'a>,
+    nodes: Vec<i32>,
+}
+
+impl Ordered<'_> {
+    /// The nodes, in threes: the plane's number, the front and the back child.
+    pub fn nodes(&self) -> &[i32] {
+        &self.nodes
+    }
+
+    /// The contents at a point, from the first node on, and how many nodes were entered. As
+    /// [`Map::contents`]; of nodes that a caller made it refuses with 30, 31 and 23.
+    pub fn contents(&self, point: [f32; 3]) -> Result<(Contents, u64), Refusal> {
+        ffi::order_contents(self.map.file, &self.map.words, &self.nodes, 0, &point)
+            .map(|[code, visits]| (Contents::of(code), visits))
+    }
+
+    /// What a point meets that moves from `start` to `end`, from the first node on. As [`Map::trace`]; of
+    /// nodes that a caller made it refuses with 30, 32 and 23.
+    pub fn trace(&self, start: [f32; 3], end: [f32; 3]) -> Result<Trace, Refusal> {
+        ffi::order_trace(self.map.file, &self.map.words, &self.nodes, 0, &both(start, end))
+            .map(|words| Trace::of(&words))
+    }
 }

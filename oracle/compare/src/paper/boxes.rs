@@ -56,6 +56,6 @@ pub fn contents_box(map: &Map, hull: &Hull, bounds: &[f32], marks: &mut [u8]) ->
             corner[at] = bounds[at + 3 * (which >> at & 1)];
         }
     }
-    let nodes = Nodes { map, table: hull.table, ends_at_leaf: false };
+    let nodes = Nodes { map, table: hull.table, ends_at_leaf: false, rows: None };
     Boxed { nodes, corners }.node(hull.root, DEPTH)
 }

@@ -1,6 +1,6 @@
 //! Hulls, point contents, leaf lookup and traces, with the nodes entered.
 
-use super::fields::float_word;
+use super::fields::{float_word, is_contents};
 use super::plane::{same, Crossing, Plane, Vector};
 use super::records::{plane_words, Child};
 use super::*;
@@ -98,10 +98,31 @@ pub(super) struct Nodes<'a> {
     pub table: Table,
     /// Leaf lookup ends at a leaf's number, everything else at its contents.
     pub ends_at_leaf: bool,
+    /// A lent table of nodes in threes stands in for the file's nodes.
+    pub rows: Option<&'a [i32]>,
+}
+
+/// A row of a lent table, read whole: 23 where its plane's number is negative or a negative child is
+/// no contents code.
+fn row(words: &[i32]) -> Answer<Node> {
+    let child = |word: i32| -> Answer<Child> {
+        match word {
+            0.. => Ok(Child::Node(word as u64)),
+            _ if is_contents(-(word as i64)) => Ok(Child::Contents(-(word as i64) as u64)),
+            _ => Err(23),
+        }
+    };
+    if words[0] < 0 {
+        return Err(23);
+    }
+    Ok(Node { plane: words[0] as u64, children: [child(words[1])?, child(words[2])?] })
 }
 
 impl Nodes<'_> {
     pub fn count(&self) -> u64 {
+        if let Some(rows) = self.rows {
+            return rows.len() as u64 / 3;
+        }
         match self.table {
             Table::Render => self.map.count(RENDER_NODES),
             Table::Clip => self.map.count(CLIP_NODES),
@@ -111,6 +132,9 @@ impl Nodes<'_> {
 
     /// A node in range, read whole (23).
     pub fn node(&self, index: u64) -> Answer<Node> {
+        if let Some(rows) = self.rows {
+            return row(&rows[3 * index as usize..]);
+        }
         match self.table {
             Table::Render => {
                 let node = self.map.render_node(index)?;
@@ -168,7 +192,7 @@ pub struct Walked<T> {
     pub nodes: Vec<u32>,
 }
 
-fn walk(nodes: &Nodes, root: u64, p: Vector) -> Walked<u64> {
+pub(super) fn walk(nodes: &Nodes, root: u64, p: Vector) -> Walked<u64> {
     let mut entered = Vec::new();
     let value = steps(nodes, root, p, &mut entered);
     Walked { value, nodes: entered }
@@ -195,12 +219,12 @@ fn steps(nodes: &Nodes, root: u64, p: Vector, entered: &mut Vec<u32>) -> Answer<
 
 /// `contents_at_point`: the contents code.
 pub fn contents(map: &Map, hull: &Hull, p: Vector) -> Walked<u64> {
-    walk(&Nodes { map, table: hull.table, ends_at_leaf: false }, hull.root, p)
+    walk(&Nodes { map, table: hull.table, ends_at_leaf: false, rows: None }, hull.root, p)
 }
 
 /// `find_leaf` from any root: the leaf.
 pub fn find_leaf(map: &Map, root: u64, p: Vector) -> Walked<u64> {
-    walk(&Nodes { map, table: Table::Render, ends_at_leaf: true }, root, p)
+    walk(&Nodes { map, table: Table::Render, ends_at_leaf: true, rows: None }, root, p)
 }
 
 #[derive(Clone, Debug)]
@@ -319,8 +343,18 @@ impl Tracing<'_> {
 
 /// `trace`, given up after `patience` nodes.
 pub fn trace(map: &Map, hull: &Hull, start: Vector, end: Vector, patience: usize) -> Walked<Trace> {
-    let nodes = Nodes { map, table: hull.table, ends_at_leaf: false };
+    let nodes = Nodes { map, table: hull.table, ends_at_leaf: false, rows: None };
+    trace_in(nodes, hull.root, [start, end], patience)
+}
+
+/// The same of any table.
+pub(super) fn trace_in(
+    nodes: Nodes,
+    root: u64,
+    [start, end]: [Vector; 2],
+    patience: usize,
+) -> Walked<Trace> {
     let mut tracing = Tracing { nodes, entered: Vec::new(), patience };
-    let value = tracing.from(hull.root, DEPTH, start, end);
+    let value = tracing.from(root, DEPTH, start, end);
     Walked { value, nodes: tracing.entered }
 }

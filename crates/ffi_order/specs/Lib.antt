@@ -1,0 +1,3 @@
+-- What the contracts of `ffi_order` cite, and note 11 about the calls for C.
+pub mod Calls
+pub mod SameCalls

@@ -1,0 +1,29 @@
+-- Planes by their number, as the readers of `numbered.rt` go by them: from the bytes of those that can be read. Contracts of `ordered` that
+-- another crate cannot name cite these; the planes are those of Tables.antt (`numbered-is` in proofs/Numbering.antt).
+use Prim.Native.Nat.{ℕ, _+_, _*_, _/_}
+use mathlib.Core.Bool.{cond}
+use mathlib.Core.List.{List}
+use lib.Dec.{ltb, leb}
+use lib.ListN.{length, take, drop}
+use Rattle.format.specs.Answer.{Answer, answer, refused}
+use Rattle.format.specs.declared.section.BspFileSection.{BspFileSection}
+use Rattle.math.specs.declared.Hyperplane.{Hyperplane}
+use Rattle.nodes.specs.Fast.{planeHere}
+
+-- the limit allows all planes or none
+abbrev pub allowed : ℕ → ℕ
+allowed n = cond (ltb 8192 n) 0 n
+
+-- the bytes of the planes that can be read, as far as the file has them
+unfoldable pub readable : List ℕ → BspFileSection → List ℕ
+readable s z = take (allowed (z .size / 20) * 20) (drop (z .offset) s)
+
+-- the plane of a number, of so many, in these bytes
+unfoldable pub planeOf : List ℕ → ℕ → ℕ → Answer Hyperplane
+planeOf bs count i =
+    cond (leb count i) (refused 20)
+    (cond (leb (i * 20 + 20) (length bs)) (answer (planeHere bs (i * 20))) (refused 23))
+
+-- its number (30), then the plane
+unfoldable pub planeNumbered : List ℕ → ℕ → ℕ → Answer Hyperplane
+planeNumbered bs count i = cond (ltb i count) (planeOf bs count i) (refused 30)
