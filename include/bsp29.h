@@ -13,8 +13,9 @@
  * any time.
  *
  * Stack, measured on a chain of 512 nodes, the deepest there can be, and not proved: bsp_trace and
- * bsp_trace_nodes need up to 574,000 bytes, bsp_trace_line 607,000, bsp_contents_box 262,000,
- * bsp_tree_check and bsp_hull_check 164,000. The other calls have no such depth.
+ * bsp_trace_nodes need up to 574,000 bytes, bsp_trace_line 607,000, bsp_order_trace 427,000,
+ * bsp_contents_box 262,000, bsp_tree_check, bsp_hull_check, bsp_order and bsp_accept 165,000. The
+ * other calls have no such depth.
  *
  * A list is two parameters: a pointer to its first entry and the number of its entries.
  *   - The pointer is not null and is aligned for its entries, even where the number is 0.
@@ -55,16 +56,19 @@ enum bsp_refusal {
     BSP_INVALID_FIELD = 10,
     BSP_INVALID_INDEX = 11,
     BSP_BAD_EXTENTS = 12,
+    BSP_TEXTURE_NAME_NOT_ASCII = 13,
+    BSP_INVALID_FRAME = 14,
+    BSP_NO_PRIMARY_FRAMES = 15,
     /* the caller; 19 is a refusal of the core that no call of this file gives */
     BSP_CANNOT_JOIN = 19,
     BSP_NO_SUCH_RECORD = 20,
     BSP_MIN_NOT_BELOW_MAX = 21,
     BSP_LIST_TOO_SHORT = 22,
     BSP_UNREADABLE = 23,
+    BSP_NOT_POINTS = 24,
+    BSP_TOO_MANY_PLAYERS = 25,
     BSP_INVALID_SIZES_FILE = 26,
     BSP_NOT_A_BODY = 27,
-    BSP_TOO_MANY_PLAYERS = 25,
-    BSP_NOT_POINTS = 24,
     BSP_NOT_A_BOX = 28,
     /* the map's shape, met in a query */
     BSP_INDEX_OUTSIDE_TABLE = 30,
@@ -93,23 +97,25 @@ static inline const char *bsp_sentence(uint32_t refusal)
     case BSP_INVALID_FIELD: return "a field of the file has a value that it may not have";
     case BSP_INVALID_INDEX: return "a record of the file names another that is not there";
     case BSP_BAD_EXTENTS: return "a face of the file extends over more than 2,000 units of its texture";
+    case BSP_TEXTURE_NAME_NOT_ASCII: return "the name of a texture of the file is not ASCII";
+    case BSP_INVALID_FRAME: return "the frame letter of an animated texture is missing or wrong";
+    case BSP_NO_PRIMARY_FRAMES: return "an animated texture has alternate frames and no primary ones";
     case BSP_CANNOT_JOIN: return "the two traces do not follow one another";
     case BSP_NO_SUCH_RECORD: return "the number asked for is outside its table";
     case BSP_MIN_NOT_BELOW_MAX: return "a minimum of the box is at or above its maximum";
     case BSP_LIST_TOO_SHORT: return "a list lent to the call is too short";
     case BSP_UNREADABLE: return "the map record leads outside the file or to a record that loading refuses";
+    case BSP_NOT_POINTS: return "there are more than 1,024 points, or their coordinates are not in threes";
+    case BSP_TOO_MANY_PLAYERS: return "more than 16 players are asked about at once";
     case BSP_INVALID_SIZES_FILE: return "the file of body sizes is not two fields of 24 bytes, one of tag 1 and one of tag 2";
     case BSP_NOT_A_BODY: return "a bound of a body is not finite, or a minimum is at or above its maximum";
-    case BSP_TOO_MANY_PLAYERS: return "more than 16 players are asked about at once";
-    case BSP_NOT_POINTS: return "there are more than 1,024 points, or their coordinates are not in threes";
     case BSP_NOT_A_BOX: return "a bound of the box is not finite, or a minimum is above its maximum";
     case BSP_INDEX_OUTSIDE_TABLE: return "a node of the map names a node, plane or leaf that is not there, or the root is not there";
     case BSP_WALK_TOO_LONG: return "the walk entered as many nodes as the map has and did not end";
     case BSP_TOO_DEEP: return "the map's tree is deeper than 512 nodes";
     case BSP_ROW_OUTSIDE_DATA: return "a leaf's visibility row lies outside the visibility data";
     case BSP_REACHED_TWICE: return "a node of the map is reached by two ways, so that its nodes are no tree";
-    case BSP_NOT_ACCEPTABLE:
-        return "a record of the map names another that is not there, or a visibility row is not whole";
+    case BSP_NOT_ACCEPTABLE: return "a record of the map names another that is not there, or a visibility row is not whole";
     default: return "the library answered a number that this header does not know";
     }
 }
@@ -189,7 +195,8 @@ enum bsp_length {
     BSP_SIZES_WORDS = 12,
     BSP_CONTENTS_WORDS = 2,
     BSP_LEAF_WORDS = 2,
-    BSP_TRACE_WORDS = 17
+    BSP_TRACE_WORDS = 17,
+    BSP_TEXTURE_WORDS = 5
 };
 
 /* The word of the map record after those of the sections. */
@@ -222,7 +229,7 @@ enum bsp_texture_info_word {
     BSP_TEXTURE_INFO_S_OFFSET = 3, /* float */
     BSP_TEXTURE_INFO_T = 4,        /* three floats */
     BSP_TEXTURE_INFO_T_OFFSET = 7, /* float */
-    BSP_TEXTURE_INFO_TEXTURE = 8,
+    BSP_TEXTURE_INFO_TEXTURE = 8,  /* the texture's new number: bsp_texture_static, bsp_texture_frame */
     BSP_TEXTURE_INFO_SPECIAL = 9 /* flag */
 };
 
@@ -323,17 +330,28 @@ enum bsp_line_word {
     BSP_LINE_IN_WATER = 11    /* flag: a leaf of other contents was traced into */
 };
 
+enum bsp_texture_word {
+    BSP_TEXTURE_PRESENT = 0, /* flag; the words from here on are zeros for an absent one */
+    BSP_TEXTURE_NAME = 1,    /* two words: 16 bytes, lowered, zeros from the first zero on */
+    BSP_TEXTURE_WIDTH = 3,
+    BSP_TEXTURE_HEIGHT = 4
+};
+
+/* The groups of an animated texture's frames: 0 to 9, and a to j. */
+enum bsp_frame_group { BSP_PRIMARY = 0, BSP_ALTERNATE = 1 };
+
 /* ---- the calls ---- */
 
 /*
  * Loads a file: reads and tests it as far as the other calls rely on it, and writes its map record.
  *   map: 31 words or more.
- *   Refuses: 22; then 1 to 12, the first that is met in the file's order.
+ *   Refuses: 22; then 1 to 15, the first that is met in the file's order.
  * The map record names places in the file and copies nothing: keep the file, unchanged, and lend it
  * to the other calls together with the record.
  * Time: each face's edges are read, and a face may name up to 32,767 of them, which other faces may
  * name too. So the time grows with the faces times their edges, and not with the file's bytes alone
- * (docs/PERFORMANCE.md); limit the size of the files that you load.
+ * (docs/PERFORMANCE.md); limit the size of the files that you load. The names of the textures are read,
+ * at most 2,097,152: once, and once more for every 16,383 stems that alternate frames have.
  */
 uint32_t bsp_load(const uint8_t *file, size_t file_length,
                   uint32_t *map, size_t map_length);
@@ -343,6 +361,8 @@ uint32_t bsp_load(const uint8_t *file, size_t file_length,
  * it above. For a file that loads and an index below bsp_count it never refuses.
  *   map: 31 words or more; out: 20 words or more, whatever the section.
  *   Refuses: 22; 20, a section that has no records or an index outside it; 23.
+ * A texture info has its texture's new number, which the names of all textures decide, so that this
+ * one record takes time as bsp_texture_static does.
  */
 uint32_t bsp_record(const uint8_t *file, size_t file_length,
                     const uint32_t *map, size_t map_length,
@@ -708,6 +728,48 @@ uint32_t bsp_tree_check(const uint8_t *file, size_t file_length,
 uint32_t bsp_accept(const uint8_t *file, size_t file_length,
                     const uint32_t *map, size_t map_length,
                     uint8_t *marks, size_t marks_length);
+
+/*
+ * Textures have new numbers: static ones first, in the file's order, and then one number for each stem
+ * of animated ones (a name that starts with +, a frame letter, and then the stem), by the lowest number
+ * in the file of a texture with it. Texture infos give new numbers.
+ *
+ * The number in the file of a frame: by the new number of an animated texture, a group (enum
+ * bsp_frame_group) and a place in it. Frames of a group stand in the order of their names, equal names
+ * in the file's order.
+ *   map: 31 words or more; out: 1 word or more.
+ *   Refuses: 22; 23, a texture section that loading refuses, its end aside, or more than 2,097,152
+ *   textures; 20, a number, group or place that is none.
+ * Time: the names of all textures are read some fifteen times, and once more for every 16,383 stems.
+ */
+uint32_t bsp_texture_frame(const uint8_t *file, size_t file_length,
+                           const uint32_t *map, size_t map_length,
+                           uint64_t number, uint32_t group, uint64_t place,
+                           uint64_t *out, size_t out_length);
+
+/*
+ * The number in the file of the static texture of a new number.
+ *   map: 31 words or more; out: 1 word or more.
+ *   Refuses: 22; 23 as bsp_texture_frame; 20, a number that no static texture has.
+ * Time: the names of all textures are read a few times, and once more for every 16,383 stems of
+ * alternate frames.
+ */
+uint32_t bsp_texture_static(const uint8_t *file, size_t file_length,
+                            const uint32_t *map, size_t map_length,
+                            uint64_t number,
+                            uint64_t *out, size_t out_length);
+
+/*
+ * The texture of a number in the file: whether it is there, its name, width and height, in the words
+ * of enum bsp_texture_word. It reads this texture's header alone.
+ *   map: 31 words or more; out: 5 words or more.
+ *   Refuses: 22; 20, a number at or past the texture count; 23, more than 2,097,152 textures, or an
+ *   offset or a header that loading refuses.
+ */
+uint32_t bsp_texture(const uint8_t *file, size_t file_length,
+                     const uint32_t *map, size_t map_length,
+                     uint64_t index,
+                     uint64_t *out, size_t out_length);
 
 #ifdef __cplusplus
 }

@@ -332,3 +332,34 @@ pub extern "C" fn bsp_accept(file: &[u8], map: &[u32], marks: &mut [u8]) -> u32
 {
     ffi_accept::accept(file, map, marks)
 }
+
+// The number in the file of the frame at a place of a group of the texture of a new number.
+#[no_mangle]
+pub extern "C" fn bsp_texture_frame(
+    file: &[u8],
+    map: &[u32],
+    number: u64,
+    group: u32,
+    place: u64,
+    out: &mut [u64],
+) -> u32
+    ensures { λ r. ⌜ written r (now (out .exit)) ≡ Calls.bspTextureFrame (now (file .entry)) (now (map .entry)) number group place (now (out .entry)) ⌝ }
+{
+    ffi_textures::frame(file, map, number, group, place, out)
+}
+
+// The number in the file of the static texture of a new number.
+#[no_mangle]
+pub extern "C" fn bsp_texture_static(file: &[u8], map: &[u32], number: u64, out: &mut [u64]) -> u32
+    ensures { λ r. ⌜ written r (now (out .exit)) ≡ Calls.bspTextureStatic (now (file .entry)) (now (map .entry)) number (now (out .entry)) ⌝ }
+{
+    ffi_textures::static_number(file, map, number, out)
+}
+
+// The texture of a number in the file: 5 words.
+#[no_mangle]
+pub extern "C" fn bsp_texture(file: &[u8], map: &[u32], index: u64, out: &mut [u64]) -> u32
+    ensures { λ r. ⌜ written r (now (out .exit)) ≡ Calls.bspTexture (now (file .entry)) (now (map .entry)) index (now (out .entry)) ⌝ }
+{
+    ffi_textures::texture(file, map, index, out)
+}

@@ -8,7 +8,7 @@ use Rattle.format.specs.declared.section.BspData.{BspData}
 use Rattle.words.specs.Words.{Written, given, atLeast, mapOf}
 use Rattle.records.specs.Plane.{planeOf, vertexOf}
 use Rattle.records.specs.Node.{renderNodeOf, collisionNodeOf}
-use Rattle.records.specs.Texinfo.{texinfoOf}
+use Rattle.textures.specs.Access.{textureInfo}
 use Rattle.faces.specs.Extents.{faceOf}
 use Rattle.records.specs.Leaf.{leafOf}
 use Rattle.records.specs.Edge.{facelistOf, edgeOf, edgelistOf}
@@ -21,7 +21,7 @@ recordIn section s m i =
     when (eqb section 1) (mapped planeWords (planeOf s m i))
     (when (eqb section 3) (mapped vectorWords (vertexOf s m i))
     (when (eqb section 5) (mapped renderNodeWords (renderNodeOf s m i))
-    (when (eqb section 6) (mapped texinfoWords (texinfoOf s m i))
+    (when (eqb section 6) (mapped texinfoWords (textureInfo s m i))
     (when (eqb section 7) (mapped faceWords (faceOf s m i))
     (when (eqb section 9) (mapped collisionNodeWords (collisionNodeOf s m i))
     (when (eqb section 10) (mapped leafWords (leafOf s m i))

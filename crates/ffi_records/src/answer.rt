@@ -10,7 +10,7 @@ ghost use Rattle.records.specs.Leaf.{leafOf};
 ghost use Rattle.models.specs.Model.{modelOf};
 ghost use Rattle.records.specs.Node.{renderNodeOf, collisionNodeOf};
 ghost use Rattle.records.specs.Plane.{planeOf, vertexOf};
-ghost use Rattle.records.specs.Texinfo.{texinfoOf};
+ghost use Rattle.textures.specs.Access.{textureInfo};
 ghost use Rattle.record_words.specs.Layout as Layout;
 use faces::face::FaceAnswer;
 use format::section::BspData;
@@ -24,6 +24,7 @@ use records::node::RenderNodeAnswer;
 use records::plane::PlaneAnswer;
 use records::plane::VertexAnswer;
 use records::texinfo::TexInfoAnswer;
+use textures::access::texture_info;
 use words::give;
 
 pub fn give_plane(file: &[u8], map: BspData, index: usize, out: &mut [u64]) -> u32
@@ -58,9 +59,9 @@ pub fn give_render_node(file: &[u8], map: BspData, index: usize, out: &mut [u64]
 
 pub fn give_texinfo(file: &[u8], map: BspData, index: usize, out: &mut [u64]) -> u32
     requires { ⌜ 20 ≤ length (now out) ⌝ }
-    ensures { λ r. ⌜ written r (now (out .exit)) ≡ given (mapped Layout.texinfoWords (texinfoOf (now (file .entry)) map index)) (now (out .entry)) ⌝ }
+    ensures { λ r. ⌜ written r (now (out .exit)) ≡ given (mapped Layout.texinfoWords (textureInfo (now (file .entry)) map index)) (now (out .entry)) ⌝ }
 {
-    match records::texinfo::texinfo(file, map, index) {
+    match texture_info(file, map, index) {
         TexInfoAnswer::Refused(e) => e.number(),
         TexInfoAnswer::Value(value) => give(&record_words::texinfo_words(value), out),
     }

@@ -3,6 +3,7 @@ pub mod Untested
 pub mod Chain
 mod Texts
 pub mod Passed
+mod Textures
 pub mod Sizes
 mod Limits
 pub mod Loads

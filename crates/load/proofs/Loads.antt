@@ -7,7 +7,7 @@ use mathlib.Core.Path.{_≡_, refl, sym, ap, _∙_, subst}
 use mathlib.Core.Bool.{Bool, true, false}
 use mathlib.Core.List.{List}
 use native.Mathlib.Omega.{arith}
-use borrow.Author.Tests.{eqb-true, leb-true}
+use borrow.Author.Tests.{eqb-true, eqb-false, leb-true, lt-leb}
 use lib.Dec.{eqb, leb, ltb}
 use lib.ListN.{length}
 use Rattle.format.specs.Answer as Answer
@@ -44,6 +44,10 @@ use Rattle.load.specs.Tested.{textured, texinfos, faces, outside, refere
 use Rattle.load.proofs.Limits.{left, each-limit}
 use Rattle.load.proofs.Passed.{Ok, passed, first}
 use Rattle.load.proofs.Texts.{long, empty}
+use Rattle.load.proofs.Textures.{section-sound, texture-at-most}
+use Rattle.textures.specs.Access.{soundAt, renumbered, infoAt, textureInfo}
+use Rattle.textures.specs.Group.{numberedBy}
+use Rattle.textures.specs.Section.{namesOf}
 use Rattle.utf8.specs.Unicode.{isUtf8}
 use Rattle.load.proofs.Sizes.{bounded-vector, bounded-plane, bounded-edge, bounded-edge-index, bounded-texinfo, bounded-face, bounded-render-node, bounded-collision-node, bounded-leaf, bounded-file-model}
 
@@ -208,6 +212,24 @@ module _ (s : List ℕ) (m : BspData) (loads : loadOf s ≡ answer m) where
       let n = m .«texture_count» in
       let r = stands TextureInfo (bounded-textured n) s (m .texinfo) (p .texinfo .0) (p .texinfo .1) i h in
       (r .value, readable TextureInfo (texinfoAt n) s m refl i h (record { value = r .value; reads = was-texinfo n s _ (r .value) _ (r .reads) .0; lies = r .lies }))
+
+  -- the texture section reads: no accessor of textures says 23 of it
+  pub texture-section : soundAt s (m .textures .offset) (m .«texture_count») ≡ true
+  texture-section = let p = passed s m loads in section-sound s (m .textures) (m .«texture_count») (p .textures .0) (p .textures .1)
+
+  -- texture infos with the textures' new numbers
+  pub numbered-texture-infos : Answers (textureInfo s m) (recordCount TextureInfo (m .texinfo))
+  unfolding texinfos textureInfo infoAt
+  numbered-texture-infos i h =
+      let p = passed s m loads in
+      let n = m .«texture_count» in
+      let r = stands TextureInfo (bounded-textured n) s (m .texinfo) (p .texinfo .0) (p .texinfo .1) i h in
+      let w = was-texinfo n s _ (r .value) _ (r .reads) in
+      let e : texinfoOf s m i ≡ answer (r .value) = readable TextureInfo (texinfoAt n) s m refl i h (record { value = r .value; reads = w .0; lies = r .lies }) in
+      let z = eqb-false (r .value .«tex_id») n (w .1) in
+      let k : r .value .«tex_id» ≤ n = texture-at-most n s _ (r .value) _ (w .0) in
+      let l : r .value .«tex_id» < n = omega (arith, k, z) in
+      (renumbered (r .value) (numberedBy (namesOf s (m .textures .offset)) n (r .value .«tex_id»)), rw (e, lt-leb n (r .value .«tex_id») l, section-sound s (m .textures) n (p .textures .0) (p .textures .1)) refl)
 
   -- the leaves before a model, and the model
   pub leaf-ids : (i : ℕ) → i ≤ recordCount Models (m .models) → (n : ℕ) × (leafIdOf s m i ≡ answer n)

@@ -13,12 +13,12 @@ use Rattle.records.specs.Edge.{edgeAt, edgeIndexAt}
 use Rattle.records.specs.Leaf.{leafAt}
 use Rattle.models.specs.Model.{fileModelAt}
 use Rattle.records.specs.Node.{renderNodeAt, collisionNodeAt}
-use Rattle.records.specs.Number.{numberAt}
 use Rattle.records.specs.Plane.{planeAt}
 use Rattle.records.specs.Triple.{vectorAt}
 use Rattle.sections.specs.Row.{section, blob}
 use Rattle.sections.specs.Table.{headerAt, limits, limitsFromLeaves, exceeds}
 use Rattle.sections.proofs.Bounded.{not-ok}
+use Rattle.textures.specs.Section as Section
 use Rattle.load.specs.Entities.{entities}
 use Rattle.load.specs.Extents.{faceExtents}
 use Rattle.load.specs.Tested.{texinfos, faces, leafReferences}
@@ -45,12 +45,12 @@ pub first : {A B : Type 0} (x : Step A) (k : A → ℕ → Step B) (w : B) (q : 
 first (ok v p) k w q e = (v, (p, (refl, e)))
 first (refused n) k w q e = not-ok e
 
--- What passed of a map record that loading answers. The texture count was read where the texture section starts.
+-- What passed of a map record that loading answers. The texture count is what the texture section says.
 pub record Passed (s : List ℕ) (m : BspData) : Type 0 where
   pub limited : Ok (limits m)
   pub text : Ok (entities s (m .entities))
   pub planes : Ok (section planeAt Planes s (m .planes))
-  pub textures : (p : ℕ) × (numberAt 2097152 s (m .textures .offset) ≡ ok (m .«texture_count») p)
+  pub textures : (p : ℕ) × (Section.textures s (m .textures) ≡ ok (m .«texture_count») p)
   pub vertices : Ok (section vectorAt Vertices s (m .vertices))
   pub visibility : Ok (blob s (m .visibility))
   pub render-nodes : Ok (section renderNodeAt RenderNodes s (m .«render_nodes»))
@@ -68,7 +68,7 @@ pub record Passed (s : List ℕ) (m : BspData) : Type 0 where
 
 -- the stages from the vertices on
 rest : (s : List ℕ) (m w : BspData) (q : ℕ) → fromVertices s m ≡ ok w q → Ok (limits m) → Ok (entities s (m .entities)) → Ok (section planeAt Planes s (m .planes))
-    → (p : ℕ) × (numberAt 2097152 s (m .textures .offset) ≡ ok (m .«texture_count») p) → Passed s m × (m ≡ w)
+    → (p : ℕ) × (Section.textures s (m .textures) ≡ ok (m .«texture_count») p) → Passed s m × (m ≡ w)
 unfolding fromVertices fromTexinfo fromCollisionNodes fromEdges fromExtents
 rest s m w q e l t p n =
     let a = first (section vectorAt Vertices s (m .vertices)) _ w q e in
@@ -116,7 +116,7 @@ from-start s w q e =
     let b = first (limits (a .0)) _ w q (a .1 .1 .1) in
     let c = first (entities s (a .0 .entities)) _ w q (b .1 .1 .1) in
     let d = first (section planeAt Planes s (a .0 .planes)) _ w q (c .1 .1 .1) in
-    let n = first (numberAt 2097152 s (a .0 .textures .offset)) _ w q (d .1 .1 .1) in
+    let n = first (Section.textures s (a .0 .textures)) _ w q (d .1 .1 .1) in
     let r = rest s (counted (a .0) (n .0)) w q (n .1 .1 .1) (b .1 .0, b .1 .1 .0) (c .1 .0, c .1 .1 .0) (d .1 .0, d .1 .1 .0) (n .1 .0, n .1 .1 .0) in
     subst (λ (m : BspData). Passed s m) (r .1) (r .0)
 

@@ -13,11 +13,11 @@ use Rattle.records.specs.Edge.{edgeAt, edgeIndexAt}
 use Rattle.records.specs.Leaf.{leafAt}
 use Rattle.models.specs.Model.{fileModelAt}
 use Rattle.records.specs.Node.{renderNodeAt, collisionNodeAt}
-use Rattle.records.specs.Number.{numberAt}
 use Rattle.records.specs.Plane.{planeAt}
 use Rattle.records.specs.Triple.{vectorAt}
 use Rattle.sections.specs.Row.{section, blob}
 use Rattle.sections.specs.Table.{headerAt, limits}
+use Rattle.textures.specs.Section as Section
 use Rattle.load.specs.Entities.{entities}
 use Rattle.load.specs.Extents.{faceExtents}
 use Rattle.load.specs.Tested.{texinfos, faces, leafReferences}
@@ -79,11 +79,10 @@ counted m n = record {
   «texture_count» = n;
 }
 
--- of the texture section only the count is read, from 0 to MAX_TEXTURES, and its end is not tested
 unfoldable pub fromPlanes : List ℕ → BspData → Step BspData
 fromPlanes s m =
     andThen (section planeAt Planes s (m .planes)) (λ u p.
-    andThen (numberAt 2097152 s (m .textures .offset)) (λ n p.
+    andThen (Section.textures s (m .textures)) (λ n p.
     fromVertices s (counted m n)))
 
 unfoldable pub loadAt : List ℕ → Step BspData

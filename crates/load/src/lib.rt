@@ -23,12 +23,12 @@ use crate::tested::check_texinfo;
 use format::field::ReadIndex;
 use format::refusal::Refusal;
 use format::section::BspData;
-use records::number::read_number;
 use sections::position::Position;
 use sections::row::check_blob;
 use sections::table::ReadTable;
 use sections::table::check_limits;
 use sections::table::read_header;
+use textures::load::read_texture_section;
 
 // What loading answers.
 pub enum Loaded {
@@ -68,13 +68,13 @@ fn with_texture_count(map: BspData, texture_count: u32) -> BspData
     m
 }
 
-// The planes and the texture count, and what follows. A texture count is at most 2,097,152.
+// The planes and the textures, and what follows.
 fn load_planes(file: &[u8], map: BspData) -> Loaded
     ensures { λ r. ⌜ loadedStep r ≡ fromPlanes (now (file .entry)) map ⌝ }
 {
     match check_planes(file, map.planes) {
         Position::Refused(e) => Loaded::Refused(e),
-        Position::At(_) => match read_number(file, map.textures.offset as usize, 2097152) {
+        Position::At(_) => match read_texture_section(file, map.textures) {
             ReadIndex::Refused(e) => Loaded::Refused(e),
             ReadIndex::Value(n, _) => load_vertices(file, with_texture_count(map, n)),
         },

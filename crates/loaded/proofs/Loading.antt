@@ -41,6 +41,13 @@ use Rattle.load.specs.Entities.{textOf, entities}
 use Rattle.load.specs.Extents.{isBad, withAnswer, extentsAt, faceExtents}
 use Rattle.load.specs.Tested.{outside, textured, texinfos, faces, referencesAt, leafReferences}
 use Rattle.load.specs.Load.{fromExtents, fromEdges, fromCollisionNodes, fromTexinfo, fromVertices, fromPlanes, loadAt, outcome}
+use Rattle.records.specs.declared.number.OptionalOffset.{OptionalOffset}
+use Rattle.records.specs.declared.number.OptionalOffset.the-variants as Opt
+use Rattle.textures.specs.Name.{isAscii, isWrong}
+use Rattle.textures.specs.Count.{any}
+use Rattle.textures.specs.Group.{isAlone, sequenced}
+use Rattle.textures.specs.Section as Textures
+use Rattle.textures.specs.Section.{picturesAt, textureAt, presentAt, listedAt, listed, texturesAt, namesOf}
 use Rattle.loaded.specs.Refusals.{RefusedOnly, OfLoading, LoadingRefuses}
 use Rattle.loaded.proofs.Refusals.{answers, refuses}
 
@@ -319,9 +326,42 @@ module _ (s : List ℕ) where
         then (section vectorAt _ s _) _ (whole vectorAt vector _ _) (λ u p. then (blob s _) _ (bytes _) (λ u p.
         then (section renderNodeAt _ s _) _ (whole renderNodeAt render-node _ _) (λ u p. from-texinfo)))
 
+  -- ---- the texture section
+
+  thirteen : OfLoading 13
+  thirteen = (omega arith, omega arith)
+
+  texture : (at : ℕ) → Known (textureAt s at)
+  unfolding textureAt picturesAt
+  texture at =
+      test (isAscii s at 16) _ _
+      (then (u32At s (at + 16)) _ (u32 _) (λ w p. then (u32At s p) _ (u32 p) (λ h q.
+      then (u32At s q) _ (u32 q) (λ a p. then (u32At s p) _ (u32 p) (λ b q. then (u32At s q) _ (u32 q) (λ c t. then (u32At s t) _ (u32 t) (λ d u. gives _ _)))))))
+      (says 13 thirteen)
+
+  present : (base end : ℕ) (o : OptionalOffset) → Known (presentAt s base end o)
+  present base end Opt.None = gives _ _
+  present base end (Opt.Some o) = texture (base + o)
+
+  list : (base n at end : ℕ) → Known (listed s base n at end)
+  unfolding listed listedAt
+  list base zero at end = gives _ _
+  list base (suc n) at end = then (listedAt s base at end) _ (then (offsetAt s at) _ (offset at) (λ o p. present base end o)) (λ u q. list base n (at + 4) q)
+
+  groups : (names : ℕ → List ℕ) (n : ℕ) → Known (sequenced names n)
+  unfolding sequenced
+  groups names n = test (any (λ i. isWrong (names i)) n) _ _ (says 14 (omega arith, omega arith)) (test (any (isAlone names n) n) _ _ (says 15 (omega arith, omega arith)) (gives _ _))
+
+  texture-section : (z : BspFileSection) → Known (Textures.textures s z)
+  unfolding Textures.textures texturesAt
+  texture-section z =
+      then (numberAt 2097152 s _) _ (number 2097152 _) (λ n p.
+      then (andThen (texturesAt s _ n) _) _ (then (texturesAt s _ n) _ (then (records offsetAt s n _) _ (rows offsetAt offset n _) (λ u p. list _ n _ p)) (λ u q. end z q)) (λ u t.
+      then (sequenced (namesOf s _) n) _ (groups (namesOf s _) n) (λ u v. gives _ _)))
+
   from-planes : (m : BspData) → Known (fromPlanes s m)
   unfolding fromPlanes
-  from-planes m = then (section planeAt Planes s _) _ (whole planeAt plane _ _) (λ u p. then (numberAt 2097152 s _) _ (number 2097152 _) (λ n p. from-vertices _))
+  from-planes m = then (section planeAt Planes s _) _ (whole planeAt plane _ _) (λ u p. then (Textures.textures s _) _ (texture-section _) (λ n p. from-vertices _))
 
   all : Known (loadAt s)
   unfolding loadAt

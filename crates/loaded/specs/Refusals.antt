@@ -64,9 +64,9 @@ NeverPanics = Never CannotJoin
 abbrev pub NeverNoSuchRecord : Type 0
 NeverNoSuchRecord = Never NoSuchRecord
 
--- 1 to 12
+-- 1 to 15
 abbrev pub OfLoading : ℕ → Type 0
-OfLoading n = (1 ≤ n) × (n ≤ 12)
+OfLoading n = (1 ≤ n) × (n ≤ 15)
 
 -- loading has no other refusal
 abbrev pub LoadingRefuses : Type 0

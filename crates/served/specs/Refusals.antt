@@ -14,7 +14,7 @@ use Rattle.served.specs.Cited.{bspLoad, bspTreeCheck, bspContents, bspFi
 abbrev pub ZeroOr : List Refusal → ℕ → Type 0
 ZeroOr es n = (n ≡ 0) ⊎ OneOf es n
 
--- 0, 22, or 1 to 12
+-- 0, 22, or 1 to 15
 abbrev pub OfLoad : ℕ → Type 0
 OfLoad n = ZeroOr (ListTooShort ∷ []) n ⊎ OfLoading n
 

@@ -136,14 +136,15 @@ fn nan_in_box() {
 }
 
 // A map with one face, whose s runs from 0 to a float of these two high bytes. After the 193 bytes: two vertices at 193, a texture info at
-// 217, the face at 257, two edges at 277, and three entries of the edge list at 285.
-fn one_face(high: u8, highest: u8) -> [u8; 297] {
-    let mut file = [0u8; 297];
+// 217, the face at 257, two edges at 277, three entries of the edge list at 285, and an absent texture at 297.
+fn one_face(high: u8, highest: u8) -> [u8; 305] {
+    let mut file = [0u8; 305];
     file[0] = 29;
     file[4] = 124;
     file[8] = 1;
-    file[20] = 125;
-    file[24] = 4;
+    file[20] = 41;
+    file[21] = 1;
+    file[24] = 8;
     file[28] = 193;
     file[32] = 24;
     file[52] = 217;
@@ -160,7 +161,7 @@ fn one_face(high: u8, highest: u8) -> [u8; 297] {
     file[116] = 129;
     file[120] = 64;
     // one texture; the second vertex's x; s is x
-    file[125] = 1;
+    file[297] = 1;
     file[207] = high;
     file[208] = highest;
     file[219] = 128;
@@ -170,6 +171,16 @@ fn one_face(high: u8, highest: u8) -> [u8; 297] {
     file[279] = 1;
     file[281] = 1;
     file[289] = 1;
+    file
+}
+
+// The file with the offset of its texture, -1.
+fn with_offset(made: [u8; 305]) -> [u8; 305] {
+    let mut file = made;
+    file[301] = 255;
+    file[302] = 255;
+    file[303] = 255;
+    file[304] = 255;
     file
 }
 
@@ -184,7 +195,7 @@ fn print_extent(face: FaceAnswer) {
 }
 
 fn print_one_face(high: u8, highest: u8) {
-    let file = one_face(high, highest);
+    let file = with_offset(one_face(high, highest));
     match load(&file) {
         Loaded::Refused(refusal) => print_refusal(refusal),
         Loaded::Map(map) => print_extent(face(&file, map, 0)),

@@ -3,12 +3,15 @@
 
 use crate::board::{Board, Plan};
 use crate::calls::{self, Calls};
-use crate::{accept, bodies, boxes, coverage, hand_made, joins, leaves, line, loads, order, points, pvs, records, sky, team, tree, walks};
+use crate::{
+    accept, bodies, boxes, coverage, hand_made, joins, leaves, line, loads, order, points, pvs,
+    records, sky, team, textures, tree, walks,
+};
 
 type Mode = fn(&Calls, &Plan) -> Board;
 
 /// The modes, and the cases of each in a round.
-const MODES: [(Mode, u64); 15] = [
+const MODES: [(Mode, u64); 16] = [
     (records::compare, 500),
     (hand_made::compare, 1_000),
     (walks::compare, 1_000),
@@ -19,6 +22,7 @@ const MODES: [(Mode, u64); 15] = [
     (points::compare, 500),
     (line::compare, 500),
     (order::compare, 500),
+    (textures::compare, 2_000),
     (pvs::compare, 2_000),
     (team::compare, 500),
     (loads::compare, 2_000),

@@ -47,6 +47,9 @@ extern "C" {
     fn bsp_order(file: Bytes, file_len: usize, map: Words, map_len: usize, table: u32, root: u64, marks: BytesOut, marks_len: usize, list: IntsOut, list_len: usize, out: LongsOut, out_len: usize) -> u32;
     fn bsp_order_contents(file: Bytes, file_len: usize, map: Words, map_len: usize, list: Ints, list_len: usize, root: u64, point: Floats, point_len: usize, out: LongsOut, out_len: usize) -> u32;
     fn bsp_order_trace(file: Bytes, file_len: usize, map: Words, map_len: usize, list: Ints, list_len: usize, root: u64, segment: Floats, segment_len: usize, out: LongsOut, out_len: usize) -> u32;
+    fn bsp_texture_frame(file: Bytes, file_len: usize, map: Words, map_len: usize, number: u64, group: u32, place: u64, out: LongsOut, out_len: usize) -> u32;
+    fn bsp_texture_static(file: Bytes, file_len: usize, map: Words, map_len: usize, number: u64, out: LongsOut, out_len: usize) -> u32;
+    fn bsp_texture(file: Bytes, file_len: usize, map: Words, map_len: usize, index: u64, out: LongsOut, out_len: usize) -> u32;
     fn bsp_hull_check(file: Bytes, file_len: usize, map: Words, map_len: usize, hull: Longs, hull_len: usize, marks: BytesOut, marks_len: usize, out: LongsOut, out_len: usize) -> u32;
 }
 
@@ -89,6 +92,9 @@ pub struct Calls {
     pub order: fn(&[u8], &[u32], u32, u64, &mut [u8], &mut [i32], &mut [u64]) -> u32,
     pub order_contents: fn(&[u8], &[u32], &[i32], u64, &[f32], &mut [u64]) -> u32,
     pub order_trace: fn(&[u8], &[u32], &[i32], u64, &[f32], &mut [u64]) -> u32,
+    pub texture_frame: fn(&[u8], &[u32], u64, u32, u64, &mut [u64]) -> u32,
+    pub texture_static: fn(&[u8], &[u32], u64, &mut [u64]) -> u32,
+    pub texture: fn(&[u8], &[u32], u64, &mut [u64]) -> u32,
     pub hull_check: fn(&[u8], &[u32], &[u64], &mut [u8], &mut [u64]) -> u32,
 }
 
@@ -119,6 +125,9 @@ impl Calls {
             order,
             order_contents,
             order_trace,
+            texture_frame,
+            texture_static,
+            texture,
             hull_check,
         }
     }
@@ -138,6 +147,9 @@ pub fn is_linked(call: &str) -> bool {
         "bsp_contents_points" => cfg!(feature = "ffi_points"),
         "bsp_trace_line" => cfg!(feature = "ffi_line"),
         "bsp_order" | "bsp_order_contents" | "bsp_order_trace" => cfg!(feature = "ffi_order"),
+        "bsp_texture_frame" | "bsp_texture_static" | "bsp_texture" => {
+            cfg!(feature = "ffi_textures")
+        }
         "bsp_contents_nodes" | "bsp_find_leaf_nodes" | "bsp_trace_nodes" => {
             cfg!(feature = "ffi_nodes")
         }
@@ -521,14 +533,7 @@ pub fn accept(file: &[u8], map: &[u32], marks: &mut [u8]) -> u32 {
     either!(
         "ffi_accept",
         bsp_accept(file, map, marks),
-        (
-            file.as_ptr(),
-            file.len(),
-            map.as_ptr(),
-            map.len(),
-            marks.as_mut_ptr(),
-            marks.len()
-        )
+        (file.as_ptr(), file.len(), map.as_ptr(), map.len(), marks.as_mut_ptr(), marks.len())
     )
 }
 
@@ -659,5 +664,46 @@ pub fn order_trace(
             out.as_mut_ptr(),
             out.len()
         )
+    )
+}
+
+pub fn texture_frame(
+    file: &[u8],
+    map: &[u32],
+    number: u64,
+    group: u32,
+    place: u64,
+    out: &mut [u64],
+) -> u32 {
+    either!(
+        "ffi_textures",
+        bsp_texture_frame(file, map, number, group, place, out),
+        (
+            file.as_ptr(),
+            file.len(),
+            map.as_ptr(),
+            map.len(),
+            number,
+            group,
+            place,
+            out.as_mut_ptr(),
+            out.len()
+        )
+    )
+}
+
+pub fn texture_static(file: &[u8], map: &[u32], number: u64, out: &mut [u64]) -> u32 {
+    either!(
+        "ffi_textures",
+        bsp_texture_static(file, map, number, out),
+        (file.as_ptr(), file.len(), map.as_ptr(), map.len(), number, out.as_mut_ptr(), out.len())
+    )
+}
+
+pub fn texture(file: &[u8], map: &[u32], index: u64, out: &mut [u64]) -> u32 {
+    either!(
+        "ffi_textures",
+        bsp_texture(file, map, index, out),
+        (file.as_ptr(), file.len(), map.as_ptr(), map.len(), index, out.as_mut_ptr(), out.len())
     )
 }

@@ -6,7 +6,10 @@
 #![allow(dead_code)]
 
 use crate::paper::walk::{self, Hull, Walked};
-use crate::paper::{Answer, MAP_WORDS, Map, SECTIONS, accept, bodies, boxes, line, load, order, points, team, tree, vis};
+use crate::paper::{
+    accept, bodies, boxes, line, load, order, points, team, textures, tree, vis, Answer, Map,
+    MAP_WORDS, SECTIONS,
+};
 
 /// The words of `bsp_record`'s list, of a trace's, of a whole line's, of a walk's and of a hull, and of a hull that a call
 /// takes, which does not look at the last two.
@@ -355,4 +358,27 @@ pub fn bsp_order_trace(
         walked.value.map(|trace| trace.words(visits))
     });
     put(words, out)
+}
+
+pub fn bsp_texture_frame(
+    file: &[u8],
+    map: &[u32],
+    number: u64,
+    group: u32,
+    place: u64,
+    out: &mut [u64],
+) -> u32 {
+    let found =
+        map_of(file, map, !out.is_empty()).and_then(|map| map.texture_frame(number, group, place));
+    put(found.map(|texture| vec![texture]), out)
+}
+
+pub fn bsp_texture_static(file: &[u8], map: &[u32], number: u64, out: &mut [u64]) -> u32 {
+    let found = map_of(file, map, !out.is_empty()).and_then(|map| map.texture_static(number));
+    put(found.map(|texture| vec![texture]), out)
+}
+
+pub fn bsp_texture(file: &[u8], map: &[u32], index: u64, out: &mut [u64]) -> u32 {
+    let enough = out.len() >= textures::TEXTURE_WORDS;
+    put(map_of(file, map, enough).and_then(|map| map.texture_words(index)), out)
 }

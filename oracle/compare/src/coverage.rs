@@ -5,11 +5,13 @@ use crate::board::{Agreed, Board, Line};
 use crate::calls;
 
 /// The numbers of document 01 and of the requests of document 02.
-pub const NUMBERS: [u32; 28] =
-    [1, 2, 3, 4, 5, 6, 7, 8, 9, 10, 11, 12, 19, 20, 21, 22, 23, 24, 25, 26, 27, 28, 30, 31, 32, 33, 34, 35];
+pub const NUMBERS: [u32; 31] = [
+    1, 2, 3, 4, 5, 6, 7, 8, 9, 10, 11, 12, 13, 14, 15, 19, 20, 21, 22, 23, 24, 25, 26, 27, 28, 30,
+    31, 32, 33, 34, 35,
+];
 
 /// A call and the numbers that it can give. Those that it cannot:
-/// - 1 to 12 are refusals of loading. A record read later that would be 1 or 10, or in a face's
+/// - 1 to 15 are refusals of loading. A record read later that would be 1 or 10, or in a face's
 ///   extents 11, is 23; 12 is not tested again.
 /// - 19 is join's, which is no call.
 /// - 20 needs a number that the caller names: none in loading, entities, a box, body sizes, a leaf
@@ -24,8 +26,8 @@ pub const NUMBERS: [u32; 28] =
 /// - 24 is that of many points, 28 that of a box whose contents are asked.
 /// - 35 is acceptance's.
 /// - 33 is visibility's, 34 the tree check's and that of the calls which make it.
-const CAN: [(&str, &[u32]); 25] = [
-    ("bsp_load", &[1, 2, 3, 4, 5, 6, 7, 8, 9, 10, 11, 12, 22]),
+const CAN: [(&str, &[u32]); 28] = [
+    ("bsp_load", &[1, 2, 3, 4, 5, 6, 7, 8, 9, 10, 11, 12, 13, 14, 15, 22]),
     ("bsp_record", &[20, 22, 23]),
     ("bsp_count", &[20, 22]),
     ("bsp_entities", &[22, 23]),
@@ -61,6 +63,9 @@ const CAN: [(&str, &[u32]); 25] = [
     // a lent table: no number names it, so 20 is none of theirs
     ("bsp_order_contents", &[22, 23, 30, 31]),
     ("bsp_order_trace", &[22, 23, 30, 32]),
+    ("bsp_texture_frame", &[20, 22, 23]),
+    ("bsp_texture_static", &[20, 22, 23]),
+    ("bsp_texture", &[20, 22, 23]),
 ];
 
 /// What is wrong with the cells of a table.

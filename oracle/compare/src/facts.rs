@@ -355,7 +355,7 @@ fn loading(t: &mut Trials) {
     t.check("", "texture count -1", "refused 10", loads(&textures((-1i32).to_le_bytes().to_vec())));
     let above = 2_097_153i32.to_le_bytes().to_vec();
     t.check("", "texture count 2097153", "refused 10", loads(&textures(above)));
-    t.check("", "no textures and a section of 5 bytes", "textures", loads(&textures(vec![0; 5])));
+    t.check("", "no textures and a section of 5 bytes", "refused 7", loads(&textures(vec![0; 5])));
 
     let sounds = Tables { leaves: vec![leaf(-1)], ..Tables::smallest() };
     let mut layout = Layout::plain();

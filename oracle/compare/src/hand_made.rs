@@ -240,12 +240,12 @@ pub fn one(board: &mut Board, asked: &Asked, seed: &mut Seed) {
 /// The tables that the Rust has: of the whole map, or of one section alone.
 fn rust_tables(map: &paper::Map, whole: Option<&richter::Map>) -> Vec<(u32, Vec<Vec<u64>>)> {
     if let Some(rust) = whole {
-        return words::tables(rust);
+        return words::tables(rust, map);
     }
     let mut found = Vec::new();
     for section in [1, 3, 5, 6, 9, 10, 11, 12, 13] {
         if let Some(rust) = repacked(map, &[section]) {
-            found.extend(words::tables(&rust).into_iter().filter(|t| t.0 == section as u32));
+            found.extend(words::tables(&rust, map).into_iter().filter(|t| t.0 == section as u32));
         }
     }
     found

@@ -3,8 +3,9 @@
 //! each limit at and one past it, sections in odd places, entity texts of every kind, and large
 //! files. Of each file that loads every record and query is asked (`queries`).
 //!
-//! The Rust fails in the texture section, or behind it in the texture groups, where loading here
-//! goes on; there its verdict, and what it is asked, is with that section passed over.
+//! Of two kinds of texture sections the Rust is not asked, and the program on paper says what is
+//! expected of them: those with a name that is not ASCII, which the Rust takes where it is UTF-8, and
+//! those of more textures than are given to it.
 
 use maps::damage;
 use maps::record::{self, Tables, SIZES};
@@ -55,19 +56,19 @@ struct Loads<'a> {
 /// several times over.
 const TEXTURES_READ: u32 = 64;
 
-/// The Rust's verdict, and whether its texture section was passed over.
+/// The Rust's verdict, and whether the program on paper spoke for its texture section.
 pub fn rust_verdict(file: &[u8]) -> (Result<richter::Map, u32>, bool) {
-    let whole = match texture_count(file) {
-        Some(count) if count > TEXTURES_READ => Err(Refusal::Textures),
+    let many = texture_count(file).is_some_and(|count| count > TEXTURES_READ);
+    let on_paper = paper::load::textures(file);
+    let over = on_paper.is_some() && (many || on_paper == Some(Err(13)));
+    let verdict = match on_paper {
+        Some(Err(number)) if over => return (Err(number), true),
+        Some(Ok(())) if over => richter::load_without_textures(file),
         _ => richter::load(file),
-    };
-    let (verdict, over) = match whole {
-        Err(Refusal::Textures) => (richter::load_without_textures(file), true),
-        whole => (whole, false),
     };
     let verdict = verdict.map_err(|refusal| match refusal {
         Refusal::Number(number) => number,
-        other => panic!("loading without its textures says {other}"),
+        other => panic!("loading says {other}"),
     });
     (verdict, over)
 }
@@ -81,13 +82,7 @@ fn texture_count(file: &[u8]) -> Option<u32> {
 }
 
 /// One file beside the Rust, and every query of it if it loads.
-pub fn one(
-    board: &mut Board,
-    calls: &Calls,
-    seed: &Seed,
-    name: impl Fn() -> String,
-    file: &[u8],
-) {
+pub fn one(board: &mut Board, calls: &Calls, seed: &Seed, name: impl Fn() -> String, file: &[u8]) {
     let mut loads = Loads { board: std::mem::take(board), calls, seed: seed.clone() };
     loads.one(name, file);
     *board = loads.board;
@@ -106,11 +101,11 @@ impl Loads<'_> {
         if over {
             let number = *expected.as_ref().err().unwrap_or(&0);
             let met = (number, Side::Rust);
-            self.board.count("Rust, textures passed over", met, None, input);
+            self.board.count("textures on paper", met, None, input);
         }
         self.call(MAP_WORDS, file, &expected, input);
         if let (Ok(rust), Ok(map)) = (verdict, expected) {
-            let line = if over { "files asked, textures passed over" } else { "files asked" };
+            let line = if over { "files asked, textures on paper" } else { "files asked" };
             self.board.count(line, (0, Side::Rust), None, input);
             let asked = Asked { calls: self.calls, name: &name, file, map: &map };
             queries::all(&mut self.board, &asked, &mut self.seed, &rust);
@@ -326,7 +321,7 @@ fn of_zeros(section: usize, count: usize) -> Vec<u8> {
 }
 
 /// Sections one after the other, the one named last.
-fn packed(sections: &[Vec<u8>; 15], last: usize) -> Vec<u8> {
+pub fn packed(sections: &[Vec<u8>; 15], last: usize) -> Vec<u8> {
     let mut file = vec![0; 124];
     file[0] = 29;
     let order = (0..15).filter(|section| *section != last).chain([last]);

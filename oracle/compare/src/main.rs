@@ -37,6 +37,8 @@ mod stub;
 mod tables;
 mod tally;
 mod team;
+mod texture_times;
+mod textures;
 mod tree;
 mod walks;
 mod words;
@@ -116,6 +118,8 @@ fn run(mode: &str, given: &Arguments) -> bool {
         #[cfg(feature = "peer")]
         "line-peer" => line_peer::run(&given.plan(3_000)),
         "order" => order::run(&given.plan(10_000)),
+        "texture-times" => texture_times::run(),
+        "textures" => textures::run(&given.plan(20_000)),
         "pvs" => pvs::run(&given.plan(20_000)),
         "team" => team::run(&given.plan(10_000)),
         "loads" => loads::run(&given.plan(5_000)),

@@ -16,6 +16,7 @@
 //! - `tree`: the tree check
 //! - `vis`: visibility lists
 //! - `load`: loading
+//! - `textures`: the texture section, its groups and numbers (document 02, note 2)
 //! - `boxes`: the contents that a box may meet (document 02, note 12)
 //! - `bodies`: the hall's own body sizes (document 02, note 10)
 //! - `team`: what a team can see (document 02, note 9)
@@ -24,8 +25,8 @@
 //! - `line`: whole-line traces (document 02, note 6)
 //! - `order`: nodes in walking order, and walks and traces by them (document 02, note 11)
 
-pub mod bodies;
 pub mod accept;
+pub mod bodies;
 pub mod boxes;
 pub mod faces;
 pub mod fields;
@@ -36,6 +37,7 @@ pub mod plane;
 pub mod points;
 pub mod records;
 pub mod team;
+pub mod textures;
 pub mod tree;
 pub mod vis;
 pub mod walk;

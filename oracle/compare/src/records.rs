@@ -58,7 +58,7 @@ pub fn tables_of(
     rust: &richter::Map,
     most: u64,
 ) {
-    for (section, records) in words::tables(rust) {
+    for (section, records) in words::tables(rust, &asked.paper()) {
         let count = records.len() as u64;
         for index in chosen(seed, count, most) {
             one_record(board, asked, seed, (section, index), Ok(records[index as usize].clone()));

@@ -151,7 +151,7 @@ impl Sample {
         *self.met.entry((kind, refusal)).or_default() += 1;
     }
 
-    /// A file, unless it is long or the Rust fails in its textures; the map if it loads.
+    /// A file, unless it is long or its textures were not the Rust's to say; the map if it loads.
     fn load(&mut self, file: &[u8]) -> Option<Map> {
         let (verdict, over) = loads::rust_verdict(file);
         if over || file.len() > FILE_BYTES {
@@ -197,7 +197,9 @@ impl Sample {
         let bytes = [(0, rust.entities()), (4, rust.visibility()), (8, rust.lightmaps())];
         let (section, list) = bytes[seed.below(3) as usize];
         self.case(COUNT, &[section], &Ok(vec![list.len() as u64]));
-        for (section, records) in words::tables(rust) {
+        let map = map_of_header(file);
+        let page = crate::paper::Map::new(file, &map).expect("enough words");
+        for (section, records) in words::tables(rust, &page) {
             let (section, count) = (section as u64, records.len() as u64);
             if seed.once_in(3) {
                 self.case(COUNT, &[section], &Ok(vec![count]));

@@ -3,7 +3,7 @@
 use richter::map::{Map, RenderChild};
 use richter::{Answer, Child, Hull, Plane, Refusal, Trace};
 
-use crate::paper::walk::UNKNOWN_SIZE;
+use crate::paper::{self, walk::UNKNOWN_SIZE};
 use crate::tally::bits;
 
 /// Words, or the number of a refusal.
@@ -106,19 +106,32 @@ fn models(map: &Map) -> Vec<Vec<u64>> {
     map.models().iter().map(words).collect()
 }
 
-/// Every record of every section that has records.
-pub fn tables(map: &Map) -> Vec<(u32, Vec<Vec<u64>>)> {
+/// The same with the textures' new numbers, which the program on paper works out of the names; none
+/// where it cannot.
+fn renumbered(map: &Map, page: &paper::Map) -> Option<Vec<Vec<u64>>> {
+    let mut rows = texinfos(map);
+    if rows.is_empty() {
+        return Some(rows);
+    }
+    let numbers = paper::textures::numbers(&page.sound_names().ok()?).0;
+    for row in &mut rows {
+        row[8] = *numbers.get(row[8] as usize)?;
+    }
+    Some(rows)
+}
+
+/// Every record of every section that has records; texture infos with new numbers.
+pub fn tables(map: &Map, page: &paper::Map) -> Vec<(u32, Vec<Vec<u64>>)> {
     let planes = map.planes().into_iter().map(|p| {
         let mut out = Vec::new();
         plane(&mut out, &p);
         out
     });
     let vertices = map.vertices().into_iter().map(|v| v.map(|x| bits(x) as u64).to_vec());
-    vec![
+    let mut found = vec![
         (1, planes.collect()),
         (3, vertices.collect()),
         (5, render_nodes(map)),
-        (6, texinfos(map)),
         (7, faces(map)),
         (9, clip_nodes(map)),
         (10, leaves(map)),
@@ -126,7 +139,11 @@ pub fn tables(map: &Map) -> Vec<(u32, Vec<Vec<u64>>)> {
         (12, map.edges().iter().map(|e| e.map(u64::from).to_vec()).collect()),
         (13, map.edgelist().iter().map(|e| vec![e.direction as u64, e.index as u64]).collect()),
         (14, models(map)),
-    ]
+    ];
+    if let Some(rows) = renumbered(map, page) {
+        found.insert(3, (6, rows));
+    }
+    found
 }
 
 /// The words of a hull over a table: those that the Rust has, and zeros for the size of its tree.
@@ -158,7 +175,6 @@ pub fn number(refusal: Refusal) -> Option<u32> {
     match refusal {
         Refusal::Number(number) => Some(number),
         Refusal::GaveUp => None,
-        Refusal::Textures => panic!("textures outside loading"),
     }
 }
 

@@ -3,7 +3,10 @@
 use crate::board::{Board, Plan};
 use crate::calls::Calls;
 use crate::calls_stub as stub;
-use crate::{accept, all, bodies, boxes, coverage, hand_made, joins, line, loads, order, points, pvs, records, replay, sample, sky, team, tree, walks};
+use crate::{
+    accept, all, bodies, boxes, coverage, hand_made, joins, line, loads, order, points, pvs,
+    records, replay, sample, sky, team, textures, tree, walks,
+};
 
 const PLAN: Plan = Plan { cases: 250, from: 0, seed: 7, quick: true };
 
@@ -37,10 +40,13 @@ fn right() -> Calls {
         order: stub::bsp_order,
         order_contents: stub::bsp_order_contents,
         order_trace: stub::bsp_order_trace,
+        texture_frame: stub::bsp_texture_frame,
+        texture_static: stub::bsp_texture_static,
+        texture: stub::bsp_texture,
     }
 }
 
-const MODES: [Compare; 15] = [
+const MODES: [Compare; 16] = [
     records::compare,
     hand_made::compare,
     walks::compare,
@@ -51,6 +57,7 @@ const MODES: [Compare; 15] = [
     points::compare,
     line::compare,
     order::compare,
+    textures::compare,
     pvs::compare,
     team::compare,
     loads::compare,
@@ -434,20 +441,22 @@ wrong! {
 
     accept: a_range_may_go_one_further, accept, "bsp_accept", |f, m, marks| {
         let mut longer = m.to_vec();
-        longer[2 * 11 + 1] += 2;
         match stub::bsp_accept(f, m, marks) {
-            35 if m.len() == 31 => stub::bsp_accept(f, &longer, marks),
+            35 => {
+                longer[2 * 11 + 1] += 2;
+                stub::bsp_accept(f, &longer, marks)
+            }
             refusal => refusal,
         }
     };
-    accept: trees_before_rows, accept, "bsp_accept", |f, m, marks| {
-        let mut without = m.to_vec();
-        if m.len() == 31 {
-            (without[21], without[15]) = (0, 0);
-        }
-        match (stub::bsp_accept(f, m, marks), stub::bsp_accept(f, &without, marks)) {
-            (35, 34) => 34,
-            (refusal, _) => refusal,
+    accept: tree_of_node_0_first, accept, "bsp_accept", |f, m, marks| {
+        let tree = match m.len() {
+            31 => stub::bsp_tree_check(f, m, 0, 0, &mut marks.to_vec(), &mut [0]),
+            _ => 0,
+        };
+        match stub::bsp_accept(f, m, marks) {
+            35 if tree == 34 => 34,
+            refusal => refusal,
         }
     };
     accept: node_0_not_checked, accept, "bsp_accept", |f, m, marks| {
@@ -578,6 +587,30 @@ wrong! {
     };
     order: one_visit_too_few, order_trace, "bsp_order_trace", |f, m, l, r, s, o| {
         changed(stub::bsp_order_trace(f, m, l, r, s, o), o, |o| o[0] -= 1)
+    };
+
+    textures: static_one_further, texture_static, "bsp_texture_static", |f, m, n, o| {
+        let refusal = stub::bsp_texture_static(f, m, n, o);
+        changed(refusal, o, |o| o[0] += 1)
+    };
+    textures: groups_exchanged, texture_frame, "bsp_texture_frame", |f, m, n, g, p, o| {
+        stub::bsp_texture_frame(f, m, n, if g < 2 { 1 - g } else { g }, p, o)
+    };
+    textures: equal_names_last_first, texture_frame, "bsp_texture_frame", |f, m, n, g, p, o| {
+        let refusal = stub::bsp_texture_frame(f, m, n, g, p, o);
+        let mut next = [0];
+        let further = stub::bsp_texture_frame(f, m, n, g, p.wrapping_add(1), &mut next);
+        changed(refusal, o, |o| o[0] = if further == 0 { next[0] } else { o[0] })
+    };
+    textures: name_as_in_the_file, texture, "bsp_texture", |f, m, i, o| {
+        let refusal = stub::bsp_texture(f, m, i, o);
+        changed(refusal, o, |o| o[1] &= !0x20)
+    };
+    textures: groups_not_tested, load, "bsp_load", |f, m| {
+        match stub::bsp_load(f, m) {
+            15 => 0,
+            refusal => refusal,
+        }
     };
 
     tree: marks_left_behind, tree_check, "bsp_tree_check", |f, m, t, r, marks, o| {

@@ -4,7 +4,10 @@ use std::{io::Cursor, rc::Rc};
 
 use crate::{
     common::{
-        bsp::{self, access, BspData, BspModel, BspRenderNode, BspRenderNodeChild},
+        bsp::{
+            self, access, BspData, BspModel, BspRenderNode, BspRenderNodeChild, BspTextureFrame,
+            BspTextureKind, BspTextureMipmap,
+        },
         model::ModelKind,
     },
     hull::{Answer, Hull, Node},
@@ -128,7 +131,32 @@ pub fn load_without_textures(file: &[u8]) -> Result<Map, Refusal> {
     loaded
 }
 
+/// The frames of a texture, each by its first picture.
+#[derive(Clone, Debug, Eq, PartialEq)]
+pub enum Frames {
+    Static(Vec<u8>),
+    Animated { primary: Vec<Vec<u8>>, alternate: Vec<Vec<u8>> },
+}
+
 impl Map {
+    /// The textures by the published code's own numbers: the name or the stem, and the frames.
+    pub fn textures(&self) -> Vec<(String, Frames)> {
+        let picture = |frame: &BspTextureFrame| frame.mipmap(BspTextureMipmap::Full).to_vec();
+        let frames = |kind: &BspTextureKind| match kind {
+            BspTextureKind::Static(frame) => Frames::Static(picture(frame)),
+            BspTextureKind::Animated { primary, alternate } => Frames::Animated {
+                primary: primary.iter().map(picture).collect(),
+                alternate: alternate.iter().flatten().map(picture).collect(),
+            },
+        };
+        self.data.textures().iter().map(|t| (t.name().to_string(), frames(t.kind()))).collect()
+    }
+
+    /// The published code's own texture number of each texture info.
+    pub fn own_texture_numbers(&self) -> Vec<usize> {
+        self.data.texinfo().iter().map(|t| t.tex_id).collect()
+    }
+
     /// The entity text with its zero byte.
     pub fn entities(&self) -> &[u8] {
         self.entities.as_bytes()

@@ -15,9 +15,6 @@ use crate::{common::bsp::BspFileError, probe};
 pub enum Refusal {
     /// One of document 01's numbers.
     Number(u32),
-    /// Loading failed in the texture section behind its count, or in the texture groups. Document
-    /// 01 leaves this out.
-    Textures,
     /// A trace was longer than the comparison waits for.
     GaveUp,
 }
@@ -26,7 +23,6 @@ impl fmt::Display for Refusal {
     fn fmt(&self, f: &mut fmt::Formatter) -> fmt::Result {
         match self {
             Refusal::Number(n) => write!(f, "{}", n),
-            Refusal::Textures => write!(f, "textures"),
             Refusal::GaveUp => write!(f, "gave up"),
         }
     }
@@ -144,8 +140,9 @@ impl Caught {
 
     /// In `load`: texture number, texture info, edge-list range, edge, vertex or leaf.
     pub fn of_load(self) -> Refusal {
+        // a frame letter that is missing
         if probe::is_in_textures() {
-            return Refusal::Textures;
+            return Refusal::Number(14);
         }
         if (self.is_index() || self.is_range()) && self.is_in("common/bsp/load.rs") {
             return Refusal::Number(11);
@@ -156,9 +153,6 @@ impl Caught {
 
 /// An error of `load`.
 pub fn of_error(error: failure::Error) -> Refusal {
-    if probe::is_in_textures() {
-        return Refusal::Textures;
-    }
     if let Some(error) = error.downcast_ref::<BspFileError>() {
         return Refusal::Number(match error {
             BspFileError::Io(error) => of_io(error),
@@ -166,11 +160,15 @@ pub fn of_error(error: failure::Error) -> Refusal {
             BspFileError::NegativeSectionOffset(_) => 3,
             BspFileError::NegativeSectionSize(_) => 4,
             BspFileError::InvalidSectionSize { .. } => 5,
-            other => panic!("a texture error outside the textures: {}", other),
+            BspFileError::InvalidTextureFrameSpecifier(_) => 14,
+            BspFileError::EmptyPrimaryAnimation(_) => 15,
         });
     }
     if let Some(error) = error.downcast_ref::<std::io::Error>() {
         return Refusal::Number(of_io(error));
+    }
+    if error.downcast_ref::<std::string::FromUtf8Error>().is_some() {
+        return Refusal::Number(13);
     }
     let message = error.to_string();
     Refusal::Number(match message.as_str() {
@@ -188,7 +186,7 @@ pub fn of_error(error: failure::Error) -> Refusal {
         "Entity data exceeds MAX_ENTSTRING" => 8,
         "Failed to create string from entity data" => 9,
         _ if message.starts_with("Bad face extents") => 12,
-        _ if message.starts_with("Invalid ") => 10,
+        _ if message.starts_with("Invalid ") || message.starts_with("negative texture") => 10,
         _ => panic!("an error without a number: {}", message),
     })
 }

@@ -44,6 +44,9 @@ extern "C" {
     fn bsp_order(file: Bytes, file_length: usize, map: Words, map_length: usize, table: u32, root: u64, marks: BytesOut, marks_length: usize, list: IntsOut, list_length: usize, out: LongsOut, out_length: usize) -> u32;
     fn bsp_order_contents(file: Bytes, file_length: usize, map: Words, map_length: usize, list: Ints, list_length: usize, root: u64, point: Floats, point_length: usize, out: LongsOut, out_length: usize) -> u32;
     fn bsp_order_trace(file: Bytes, file_length: usize, map: Words, map_length: usize, list: Ints, list_length: usize, root: u64, segment: Floats, segment_length: usize, out: LongsOut, out_length: usize) -> u32;
+    fn bsp_texture_frame(file: Bytes, file_length: usize, map: Words, map_length: usize, number: u64, group: u32, place: u64, out: LongsOut, out_length: usize) -> u32;
+    fn bsp_texture_static(file: Bytes, file_length: usize, map: Words, map_length: usize, number: u64, out: LongsOut, out_length: usize) -> u32;
+    fn bsp_texture(file: Bytes, file_length: usize, map: Words, map_length: usize, index: u64, out: LongsOut, out_length: usize) -> u32;
     fn bsp_tree_check(file: Bytes, file_length: usize, map: Words, map_length: usize, table: u32, root: u64, marks: BytesOut, marks_length: usize, out: LongsOut, out_length: usize) -> u32;
 }
 
@@ -92,6 +95,68 @@ pub(crate) fn record(
             map.as_ptr(),
             map.len(),
             section,
+            index,
+            out.as_mut_ptr(),
+            out.len(),
+        )
+    };
+    answered(status, out)
+}
+
+/// `bsp_texture_frame`: the number in the file of a frame.
+pub(crate) fn texture_frame(
+    file: &[u8],
+    map: &MapWords,
+    number: u64,
+    group: u32,
+    place: u64,
+) -> Result<u64, Refusal> {
+    let mut out = [0; 1];
+    // SAFETY: as in `load`.
+    let status = unsafe {
+        bsp_texture_frame(
+            file.as_ptr(),
+            file.len(),
+            map.as_ptr(),
+            map.len(),
+            number,
+            group,
+            place,
+            out.as_mut_ptr(),
+            out.len(),
+        )
+    };
+    answered(status, out[0])
+}
+
+/// `bsp_texture_static`: the number in the file of a static texture.
+pub(crate) fn texture_static(file: &[u8], map: &MapWords, number: u64) -> Result<u64, Refusal> {
+    let mut out = [0; 1];
+    // SAFETY: as in `load`.
+    let status = unsafe {
+        bsp_texture_static(
+            file.as_ptr(),
+            file.len(),
+            map.as_ptr(),
+            map.len(),
+            number,
+            out.as_mut_ptr(),
+            out.len(),
+        )
+    };
+    answered(status, out[0])
+}
+
+/// `bsp_texture`: the words of a texture.
+pub(crate) fn texture(file: &[u8], map: &MapWords, index: u64) -> Result<[u64; 5], Refusal> {
+    let mut out = [0; 5];
+    // SAFETY: as in `load`.
+    let status = unsafe {
+        bsp_texture(
+            file.as_ptr(),
+            file.len(),
+            map.as_ptr(),
+            map.len(),
             index,
             out.as_mut_ptr(),
             out.len(),

@@ -55,6 +55,10 @@ mod words;
 
 pub use hull::{Hull, LineTrace, NodeTable, Trace, TraceEnd};
 pub use map::{Map, Ordered};
-pub use records::{ClipChild, ClipNode, Contents, ContentsSet, Direction, Edge, EdgeListEntry, Face, FaceListEntry, Leaf, Model, Plane, PlaneKind, Record, Records, RenderChild, RenderNode, Side, Sounds, TextureInfo, Vertex};
+pub use records::{
+    ClipChild, ClipNode, Contents, ContentsSet, Direction, Edge, EdgeListEntry, Face,
+    FaceListEntry, FrameGroup, Leaf, Model, Plane, PlaneKind, Record, Records, RenderChild,
+    RenderNode, Side, Sounds, Texture, TextureInfo, Vertex,
+};
 pub use refusal::Refusal;
 pub use sizes::{BodySizes, Bounds};

@@ -2,7 +2,7 @@
 
 use crate::hull::both;
 use crate::records::*;
-use crate::{BodySizes, Hull, LineTrace, NodeTable, Refusal, Trace, ffi};
+use crate::{ffi, BodySizes, Hull, LineTrace, NodeTable, Refusal, Trace};
 
 /// The sections whose sizes are looked at here.
 const VISIBILITY: u32 = 4;
@@ -46,7 +46,7 @@ pub struct Map<'a> {
 }
 
 impl<'a> Map<'a> {
-    /// Loads a file: reads and tests all that the other calls rely on. Refuses with 1 to 12, the first
+    /// Loads a file: reads and tests all that the other calls rely on. Refuses with 1 to 15, the first
     /// that is met in the file's order.
     ///
     /// Each face's edges are read, and a face may name up to 32,767 of them, which other faces may name
@@ -111,7 +111,7 @@ impl<'a> Map<'a> {
         self.file
     }
 
-    /// How many textures the file says it has. Their names and pixels are not read.
+    /// How many textures the file says it has, absent ones counted.
     ///
     /// ```
     /// # let file = std::fs::read(concat!(env!("CARGO_MANIFEST_DIR"), "/../../maps/rooms.bsp")).unwrap();
@@ -179,6 +179,67 @@ impl Map<'_> {
     /// ```
     pub fn render_nodes(&self) -> Records<'_, RenderNode> {
         Records::new(self)
+    }
+
+    /// The number in the file of the frame at a place of a group, by the new number of an animated
+    /// texture. New numbers: static textures first, in the file's order, and then one for each stem of
+    /// animated ones, by the lowest number in the file of a texture with it. Frames of a group stand in
+    /// the order of their names, equal names in the file's order. Refuses with 23, a texture section that
+    /// loading refuses; then 20, a number or place that is none.
+    ///
+    /// The names of all textures are read some fifteen times, and once more for every 16,383 stems.
+    ///
+    /// ```
+    /// # let file = std::fs::read(concat!(env!("CARGO_MANIFEST_DIR"), "/../../maps/rooms.bsp")).unwrap();
+    /// use bsp29::{FrameGroup, Map, Refusal};
+    ///
+    /// let map = Map::load(&file)?;
+    /// // its one texture is static
+    /// assert_eq!(map.texture_frame(0, FrameGroup::Primary, 0), Err(Refusal::NoSuchRecord));
+    /// # Ok::<(), Refusal>(())
+    /// ```
+    pub fn texture_frame(
+        &self,
+        number: usize,
+        group: FrameGroup,
+        place: usize,
+    ) -> Result<usize, Refusal> {
+        let group = match group {
+            FrameGroup::Primary => 0,
+            FrameGroup::Alternate => 1,
+        };
+        ffi::texture_frame(self.file, &self.words, number as u64, group, place as u64)
+            .map(|n| n as usize)
+    }
+
+    /// The number in the file of the static texture of a new number. Refuses with 23, a texture section
+    /// that loading refuses; then 20, a number that no static texture has.
+    ///
+    /// ```
+    /// # let file = std::fs::read(concat!(env!("CARGO_MANIFEST_DIR"), "/../../maps/rooms.bsp")).unwrap();
+    /// let map = bsp29::Map::load(&file)?;
+    /// let number = map.texture_infos().get(0)?.texture;
+    /// assert_eq!(map.texture_static(number)?, 0);
+    /// # Ok::<(), bsp29::Refusal>(())
+    /// ```
+    pub fn texture_static(&self, number: usize) -> Result<usize, Refusal> {
+        ffi::texture_static(self.file, &self.words, number as u64).map(|n| n as usize)
+    }
+
+    /// The texture of a number in the file, none where it is absent. Refuses with 20, a number at or
+    /// past [`texture_count`](Map::texture_count); then 23, an offset or header that loading refuses.
+    ///
+    /// ```
+    /// # let file = std::fs::read(concat!(env!("CARGO_MANIFEST_DIR"), "/../../maps/rooms.bsp")).unwrap();
+    /// use bsp29::{Map, Refusal};
+    ///
+    /// let map = Map::load(&file)?;
+    /// map.texture(0)?;
+    /// assert_eq!(map.texture(1), Err(Refusal::NoSuchRecord));
+    /// # Ok::<(), Refusal>(())
+    /// ```
+    pub fn texture(&self, index: usize) -> Result<Option<Texture>, Refusal> {
+        ffi::texture(self.file, &self.words, index as u64).map(|words| Texture::of(&words))
     }
 
     /// The texture infos.
@@ -418,9 +479,9 @@ impl Map<'_> {
         points: &[[f32; 3]],
     ) -> Result<(Vec<Contents>, u64), Refusal> {
         let mut codes = vec![0; points.len().min(MOST_POINTS)];
-        let floats = points.as_flattened();
+        let floats = points.concat();
         let reads =
-            ffi::contents_points(self.file, &self.words, &hull.words(), floats, &mut codes)?;
+            ffi::contents_points(self.file, &self.words, &hull.words(), &floats, &mut codes)?;
         Ok((codes.into_iter().map(|code| Contents::of(code as u64)).collect(), reads))
     }
 

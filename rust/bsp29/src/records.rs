@@ -198,6 +198,36 @@ pub struct RenderNode {
     pub face_count: usize,
 }
 
+/// A texture by its number in the file.
+#[derive(Copy, Clone, Debug, PartialEq, Eq, Hash)]
+pub struct Texture {
+    /// Its name of 16 bytes, lowered, with zeros from the first zero on.
+    pub name: [u8; 16],
+    /// Its width.
+    pub width: u32,
+    /// Its height.
+    pub height: u32,
+}
+
+impl Texture {
+    /// The texture of five words; none for an absent one.
+    pub(crate) fn of(words: &[u64; 5]) -> Option<Texture> {
+        let mut name = [0; 16];
+        name[..8].copy_from_slice(&words[1].to_le_bytes());
+        name[8..].copy_from_slice(&words[2].to_le_bytes());
+        (words[0] != 0).then_some(Texture { name, width: words[3] as u32, height: words[4] as u32 })
+    }
+}
+
+/// A group of an animated texture's frames.
+#[derive(Copy, Clone, Debug, PartialEq, Eq, Hash)]
+pub enum FrameGroup {
+    /// Frames 0 to 9.
+    Primary,
+    /// Frames a to j.
+    Alternate,
+}
+
 /// How a texture lies on faces.
 #[derive(Copy, Clone, Debug, PartialEq)]
 pub struct TextureInfo {
@@ -209,7 +239,8 @@ pub struct TextureInfo {
     pub t: [f32; 3],
     /// What is added to t.
     pub t_offset: f32,
-    /// The number of the texture in the file.
+    /// The new number of the texture: [`Map::texture_static`](crate::Map::texture_static),
+    /// [`Map::texture_frame`](crate::Map::texture_frame).
     pub texture: usize,
     /// Whether the faces may extend over more than 2,000 units: sky and water.
     pub special: bool,

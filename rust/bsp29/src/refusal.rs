@@ -31,7 +31,7 @@ macro_rules! refusals {
             /// use bsp29::Refusal;
             ///
             /// assert_eq!(Refusal::from_number(34), Refusal::ReachedTwice);
-            /// assert_eq!(Refusal::from_number(13), Refusal::Unknown(13));
+            /// assert_eq!(Refusal::from_number(16), Refusal::Unknown(16));
             /// ```
             pub fn from_number(number: u32) -> Refusal {
                 match number {
@@ -93,6 +93,12 @@ refusals! {
     InvalidIndex = 11, "a record of the file names another that is not there";
     /// 12, on loading: a face extends over more than 2,000 units of its texture.
     BadExtents = 12, "a face of the file extends over more than 2,000 units of its texture";
+    /// 13, on loading: a texture's name is not ASCII.
+    TextureNameNotAscii = 13, "the name of a texture of the file is not ASCII";
+    /// 14, on loading: the frame letter of an animated texture is missing or wrong.
+    InvalidFrame = 14, "the frame letter of an animated texture is missing or wrong";
+    /// 15, on loading: an animated texture has alternate frames and no primary ones.
+    NoPrimaryFrames = 15, "an animated texture has alternate frames and no primary ones";
     /// 19: two traces do not follow one another. No call of this crate gives it.
     CannotJoin = 19, "the two traces do not follow one another";
     /// 20: a model, hull, leaf or record number outside its table.
@@ -103,14 +109,14 @@ refusals! {
     ListTooShort = 22, "a list lent to the call is too short";
     /// 23: a map record made by hand leads outside the bytes, or to a record that loading refuses.
     Unreadable = 23, "the map record leads outside the file or to a record that loading refuses";
+    /// 24: more than 1,024 points, or coordinates not in threes.
+    NotPoints = 24, "there are more than 1,024 points, or their coordinates are not in threes";
+    /// 25: more than 16 players.
+    TooManyPlayers = 25, "more than 16 players are asked about at once";
     /// 26: a file of body sizes has a field cut short, a wrong length, or an unknown, missing or repeated tag.
     InvalidSizesFile = 26, "the file of body sizes is not two fields of 24 bytes, one of tag 1 and one of tag 2";
     /// 27: a bound in a file of body sizes is not finite, or a minimum is at or above its maximum.
     NotABody = 27, "a bound of a body is not finite, or a minimum is at or above its maximum";
-    /// 25: more than 16 players.
-    TooManyPlayers = 25, "more than 16 players are asked about at once";
-    /// 24: more than 1,024 points, or coordinates not in threes.
-    NotPoints = 24, "there are more than 1,024 points, or their coordinates are not in threes";
     /// 28: a bound of a box is not finite, or a minimum is above its maximum.
     NotABox = 28, "a bound of the box is not finite, or a minimum is above its maximum";
     /// 30: a root, child, plane or leaf index outside its table.

@@ -14,8 +14,9 @@ pub fn load(file: &[u8]) -> Answer<[u32; MAP_WORDS]> {
     limits(&map)?;
     entities(&map)?;
     section(&map, PLANES, |r| records::plane(r).map(drop))?;
-    map.texture_count = textures(&map)?;
+    map.texture_count = texture_count(&map)?;
     words[MAP_WORDS - 1] = map.texture_count as u32;
+    map.textures()?;
     let counts = map.counts();
     section(&map, VERTICES, |r| r.three_f32().map(drop))?;
     bytes(&map, VISIBILITY)?;
@@ -89,8 +90,19 @@ fn entities(map: &Map) -> Answer<()> {
     Ok(())
 }
 
-/// The texture count, and nothing else of its section.
-fn textures(map: &Map) -> Answer<u64> {
+/// What the texture section says, where loading comes to it.
+pub fn textures(file: &[u8]) -> Option<Answer<()>> {
+    let words = header(file).ok()?;
+    let mut map = Map::new(file, &words).expect("enough words");
+    limits(&map).ok()?;
+    entities(&map).ok()?;
+    section(&map, PLANES, |r| records::plane(r).map(drop)).ok()?;
+    map.texture_count = texture_count(&map).ok()?;
+    Some(map.textures())
+}
+
+/// The texture count.
+fn texture_count(map: &Map) -> Answer<u64> {
     let count = Reader::new(map.file, map.offset(TEXTURES)).i32()?;
     if !(0..=2_097_152).contains(&count) {
         return Err(10);

@@ -287,7 +287,11 @@ impl Map<'_> {
             PLANES => plane_words(&mut out, &self.plane(index)?),
             VERTICES => floats(&mut out, &self.vertex(index)?),
             RENDER_NODES => render_node_words(&mut out, &self.render_node(index)?),
-            TEXINFOS => texinfo_words(&mut out, &self.texinfo(index)?),
+            TEXINFOS => {
+                let info = self.texinfo(index)?;
+                let texture = self.texture_number(info.texture)?;
+                texinfo_words(&mut out, &TexInfo { texture, ..info });
+            }
             FACES => {
                 let face = self.face(index)?;
                 let extents = self.extents(&face)?;

@@ -8,8 +8,8 @@ use Rattle.record_words.specs.Layout.{texinfoWords}
 use Rattle.ffi_records.proofs.answer.give_texinfo.Statement.{statement}
 use Rattle.ffi_records.proofs.answer.give_texinfo.Tie as tie
 
-texinfo-requires : tie.Need-texinfo-requires
-texinfo-requires c κs = search needs
+texture-info-requires : tie.Need-texture-info-requires
+texture-info-requires c κs = search needs
 
 enum-known-e : tie.Need-enum-known-e
 enum-known-e c = search needs
@@ -30,19 +30,19 @@ give-requires : tie.Need-give-requires
 give-requires c κs = search needs
 
 returns : tie.Need-returns
-returns c = refuses texinfoAnswer texinfoWords (c .before .before .before .before .texinfo .ensures) (c .before .before .e .given .1) refl (c .number .ensures)
+returns c = refuses texinfoAnswer texinfoWords (c .before .before .before .before .texture-info .ensures) (c .before .before .e .given .1) refl (c .number .ensures)
 
 same-length : tie.Need-same-length
 same-length c = search needs
 
 returns-2 : tie.Need-returns-2
-returns-2 c = gives texinfoAnswer texinfoWords (c .before .before .before .before .before .before .before .before .before .before .before .before .args .out .now) (c .before .before .before .before .before .before .before .before .before .texinfo .ensures) (c .before .before .before .before .before .before .before .value .given .1) refl (c .before .before .before .before .before .texinfo-words .ensures) (omega (arith, c .before .before .before .before .before .before .before .before .before .before .before .before .pre)) (c .before .before .give .ensures)
+returns-2 c = gives texinfoAnswer texinfoWords (c .before .before .before .before .before .before .before .before .before .before .before .before .args .out .now) (c .before .before .before .before .before .before .before .before .before .texture-info .ensures) (c .before .before .before .before .before .before .before .value .given .1) refl (c .before .before .before .before .before .texinfo-words .ensures) (omega (arith, c .before .before .before .before .before .before .before .before .before .before .before .before .pre)) (c .before .before .give .ensures)
 
 pub give-texinfo-spec : {M : Type 1} → statement M
 give-texinfo-spec =
     tie.close
     (tie.spec
-    texinfo-requires
+    texture-info-requires
     enum-known-e
     number-requires
     enum-known-value

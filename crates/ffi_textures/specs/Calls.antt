@@ -1,0 +1,24 @@
+-- What the calls about textures say, and what they leave in the lent list.
+use Prim.Native.Nat.{ℕ}
+use mathlib.Core.List.{List, [], _∷_}
+use Rattle.format.specs.Answer.{mapped}
+use Rattle.words.specs.Words.{Written, given, atLeast, mapOf, numberWords, flagWord}
+use Rattle.textures.specs.Access.{frameTexture, staticTexture, textureOf}
+use Rattle.textures.specs.declared.answer.BspTexture.{BspTexture}
+
+-- a frame's number in the file, by new number, group and place
+unfoldable pub bspTextureFrame : List ℕ → List ℕ → ℕ → ℕ → ℕ → List ℕ → Written
+bspTextureFrame s map number group place out =
+    atLeast 31 map out (atLeast 1 out out (given (mapped numberWords (frameTexture s (mapOf map) number group place)) out))
+
+-- a static texture's number in the file, by new number
+unfoldable pub bspTextureStatic : List ℕ → List ℕ → ℕ → List ℕ → Written
+bspTextureStatic s map number out = atLeast 31 map out (atLeast 1 out out (given (mapped numberWords (staticTexture s (mapOf map) number)) out))
+
+-- present or not, the name's 16 bytes in two words, width, height
+abbrev pub textureWords : BspTexture → List ℕ
+textureWords x = flagWord (x .present) ∷ x .«name_start» ∷ x .«name_end» ∷ x .width ∷ x .height ∷ []
+
+-- a texture by its number in the file
+unfoldable pub bspTexture : List ℕ → List ℕ → ℕ → List ℕ → Written
+bspTexture s map i out = atLeast 31 map out (atLeast 5 out out (given (mapped textureWords (textureOf s (mapOf map) i)) out))

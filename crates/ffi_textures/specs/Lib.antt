@@ -1,0 +1,2 @@
+-- What the contracts of `ffi_textures` cite.
+pub mod Calls

@@ -1,0 +1,265 @@
+-- The ways through the accessors of textures.
+-- Assumes nothing.
+use Prim.Native.Nat.{ℕ, zero, suc, _+_, _*_, _-_, _%_, _<_, _≤_}
+use mathlib.Core.Path.{_≡_, refl, sym, ap, _∙_, subst}
+use mathlib.Core.Bool.{Bool, true, false, not, _&&_, _||_}
+use mathlib.Core.List.{List, [], _∷_}
+use native.Mathlib.Nat.{add-assoc}
+use native.Mathlib.Omega.{arith}
+use borrow.Author.Tests.{eqb-true, eq-eqb, ne-eqb, ltb-true, ltb-false, lt-ltb, le-ltb, leb-true, le-leb, lt-leb}
+use lib.Dec.{eqb, ltb, leb}
+use lib.ListN.{getD, take, drop}
+use Rattle.format.specs.Answer as Answer
+use Rattle.format.specs.Answer.{Answer, answer, refused, thenAnswer}
+use Rattle.format.specs.Field.{u32At, u32Step}
+use Rattle.format.specs.Refusal.{numberOf}
+use Rattle.format.specs.Step.{Step, ok, andThen, when}
+use Rattle.format.specs.declared.field.ReadU32.{ReadU32}
+use Rattle.format.specs.declared.field.ReadU32.the-variants as U32
+use Rattle.format.specs.declared.refusal.Refusal.{Refusal}
+use Rattle.format.specs.declared.section.BspData.{BspData}
+use Rattle.records.specs.Access.{reading}
+use Rattle.records.specs.Number.{offsetAt, offsetStep}
+use Rattle.records.specs.Texinfo.{texinfoOf, texinfoAnswer}
+use Rattle.records.specs.declared.number.OptionalOffset.{OptionalOffset}
+use Rattle.records.specs.declared.number.OptionalOffset.the-variants.{None, Some}
+use Rattle.records.specs.declared.number.ReadOffset.{ReadOffset}
+use Rattle.records.specs.declared.number.ReadOffset.the-variants as Off
+use Rattle.records.specs.declared.texinfo.BspTexInfo.{BspTexInfo}
+use Rattle.records.specs.declared.texinfo.TexInfoAnswer.{TexInfoAnswer}
+use Rattle.records.specs.declared.texinfo.TexInfoAnswer.the-variants as Inf
+use Rattle.sections.specs.Position.{positionStep}
+use Rattle.sections.specs.declared.position.Position.{Position}
+use Rattle.sections.specs.declared.position.Position.the-variants as Pos
+use Rattle.textures.specs.Name.{charAt, chars, nameAt, isPrimary, isAlternate}
+use Rattle.textures.specs.Key.{sevenAt, eightAt}
+use Rattle.textures.specs.Kind.{lettered}
+use Rattle.textures.specs.Count.{any, count, lowest, nth}
+use Rattle.textures.specs.Group.{isStatic, isFirst, alike, precedes, placeOf, within, sequenced, numberedBy, staticBy, frameBy}
+use Rattle.textures.specs.Section.{textureAt, texturesAt, namesOf}
+use Rattle.textures.specs.Access.{soundAt, isSound, infoAt, listedTexture, namesIn, frameTexture, staticTexture, renumbered, textureInfo, littleEndian, absentTexture, headerAt, textureOf}
+use Rattle.textures.specs.declared.name.Seven.{Seven}
+use Rattle.textures.proofs.Keys.{seven-small}
+use Rattle.textures.proofs.Marks.{any-none, and-left, and-right}
+use Rattle.textures.proofs.Firsts.{count-below, lowest-none}
+
+-- ---- `is_sound`
+
+module _ (s : List ℕ) (base n : ℕ) where
+  pub above-limit : 2097152 < n → false ≡ soundAt s base n
+  unfolding soundAt
+  above-limit h = rw (lt-leb (n) 2097152 h) refl
+
+  module _ (h : n ≤ 2097152) (r : Position) (er : positionStep r ≡ texturesAt s base (n)) where
+    pub unread : (e : Refusal) → r ≡ Pos.Refused e → false ≡ soundAt s base n
+    unfolding soundAt
+    unread e q = rw (le-leb n 2097152 h, ← er, q) refl
+
+    module _ (p : ℕ) (at : r ≡ Pos.At p) (g : Position) (eg : positionStep g ≡ sequenced (namesOf s base) (n)) where
+      pub wrong-groups : (e : Refusal) → g ≡ Pos.Refused e → false ≡ soundAt s base n
+      unfolding soundAt
+      wrong-groups e q = rw (le-leb n 2097152 h, ← er, at, ← eg, q) refl
+
+      pub sound : (q : ℕ) → g ≡ Pos.At q → true ≡ soundAt s base n
+      unfolding soundAt
+      sound k q = rw (le-leb n 2097152 h, ← er, at, ← eg, q) refl
+
+pub few-textures : (s : List ℕ) (base n : ℕ) (x : Bool) → x ≡ soundAt s base n → x ≡ true → n ≤ 2097152
+unfolding soundAt
+few-textures s base n x is e = leb-true _ _ (and-left _ _ (sym is ∙ e))
+
+-- ---- numbers past all
+
+nth-past : (p : ℕ → Bool) (k n : ℕ) → n ≤ k → nth p k n ≡ n
+nth-past p k n h = lowest-none _ n (any-none _ n one)
+  where
+    one : (i : ℕ) → i < n → (p i && eqb (count p i) k) ≡ false
+    one i g = by (p i)
+      where
+        by : (x : Bool) → (x && eqb (count p i) k) ≡ false
+        by true = ne-eqb (count p i) k (λ q. absurd (omega (arith, q, g, h, count-below p i)))
+        by false = refl
+
+within-past : (n i : ℕ) → n ≤ i → within n i ≡ refused 20
+within-past n i h = rw (le-ltb i n h) refl
+
+static-past : (name : ℕ → List ℕ) (n k : ℕ) → n ≤ k → staticBy name n k ≡ refused 20
+unfolding staticBy
+static-past name n k h = rw (nth-past (isStatic name) k n h) (within-past n n (omega arith))
+
+module _ (kind : List ℕ → Bool) (name : ℕ → List ℕ) (n : ℕ) (few : n ≤ 2097152) where
+  pub number-past : (number place : ℕ) → 4294967295 < number → refused 20 ≡ frameBy kind name n number place
+  unfolding frameBy
+  number-past number place h =
+      let c = count-below (isStatic name) n in
+      rw (le-ltb number (count (isStatic name) n) (omega (arith, c, few, h)), nth-past (isFirst name) (number - count (isStatic name) n) n (omega (arith, c, few, h)), le-ltb n n (omega arith)) refl
+
+  no-such-place : (place i : ℕ) → 4294967295 < place → lowest (λ j. alike kind name i j && eqb (placeOf kind name n j) place) n ≡ n
+  unfolding placeOf
+  no-such-place place i h = lowest-none _ n (any-none _ n one)
+    where
+      one : (j : ℕ) → j < n → (alike kind name i j && eqb (placeOf kind name n j) place) ≡ false
+      one j g = by (alike kind name i j)
+        where
+          by : (x : Bool) → (x && eqb (placeOf kind name n j) place) ≡ false
+          by true = ne-eqb (placeOf kind name n j) place (λ q. absurd (omega (arith, q, few, h, count-below (λ l. alike kind name j l && precedes name j l) n)))
+          by false = refl
+
+  pub place-past : (number place : ℕ) → 4294967295 < place → refused 20 ≡ frameBy kind name n number place
+  unfolding frameBy
+  place-past number place h = by (ltb number (count (isStatic name) n)) (ltb (nth (isFirst name) (number - count (isStatic name) n) n) n)
+    where
+      i : ℕ
+      i = nth (isFirst name) (number - count (isStatic name) n) n
+
+      by : (x y : Bool) → refused 20 ≡ when x (refused 20) (thenAnswer (when y (answer i) (refused 20)) (λ i. within n (lowest (λ j. alike kind name i j && eqb (placeOf kind name n j) place) n)))
+      by true y = refl
+      by false false = refl
+      by false true = rw (no-such-place place i h) (sym (within-past n n (omega arith)))
+
+-- ---- the accessors by number
+
+module _ (s : List ℕ) (m : BspData) (x : Bool) (is : x ≡ isSound s m) where
+  pub static-unsound : (k : ℕ) → x ≡ false → refused 23 ≡ staticTexture s m k
+  unfolding staticTexture
+  static-unsound k e = rw (← is, e) refl
+
+  pub static-outside : (k : ℕ) → x ≡ true → 4294967295 < k → refused 20 ≡ staticTexture s m k
+  unfolding staticTexture
+  static-outside k e h = rw (← is, e) (sym (static-past (namesIn s m) (m .«texture_count») k (omega (arith, few-textures s (m .textures .offset) (m .«texture_count») x is e, h))))
+
+  pub static-by : (k : ℕ) (r : Answer ℕ) → x ≡ true → r ≡ staticBy (namesOf s (m .textures .offset)) (m .«texture_count») k → r ≡ staticTexture s m k
+  unfolding staticTexture
+  static-by k r e h = rw (← is, e) h
+
+  module _ (number group place : ℕ) where
+    pub frame-unsound : x ≡ false → refused 23 ≡ frameTexture s m number group place
+    unfolding frameTexture
+    frame-unsound e = rw (← is, e) refl
+
+    module _ (e : x ≡ true) where
+      pub frame-primary : (r : Answer ℕ) → group ≡ 0 → r ≡ frameBy (lettered 48) (namesOf s (m .textures .offset)) (m .«texture_count») number place → r ≡ frameTexture s m number group place
+      unfolding frameTexture
+      frame-primary r g h = rw (← is, e, g) h
+
+      pub frame-alternate : (r : Answer ℕ) → group ≡ 1 → r ≡ frameBy (lettered 97) (namesOf s (m .textures .offset)) (m .«texture_count») number place → r ≡ frameTexture s m number group place
+      unfolding frameTexture
+      frame-alternate r g h = rw (← is, e, g) h
+
+      pub frame-no-group : (group ≡ 0 → ⊥) → (group ≡ 1 → ⊥) → refused 20 ≡ frameTexture s m number group place
+      unfolding frameTexture
+      frame-no-group g h = rw (← is, e, ne-eqb group 0 g, ne-eqb group 1 h) refl
+
+-- ---- texture infos
+
+module _ (s : List ℕ) (m : BspData) (i : ℕ) (r : TexInfoAnswer) (er : texinfoAnswer r ≡ texinfoOf s m i) where
+  pub info-refused : (e : Refusal) → r ≡ Inf.Refused e → refused (numberOf e) ≡ textureInfo s m i
+  unfolding textureInfo
+  info-refused e q = rw (← er, q) refl
+
+  pub info-read : (info : BspTexInfo) (y : Answer BspTexInfo) → r ≡ Inf.Value info → y ≡ infoAt s (m .textures .offset) (m .«texture_count») info → y ≡ textureInfo s m i
+  unfolding textureInfo
+  info-read info y v h = rw (← er, v) h
+
+module _ (s : List ℕ) (base n : ℕ) (info : BspTexInfo) where
+  pub info-outside : n ≤ info .«tex_id» → refused 23 ≡ infoAt s base n info
+  unfolding infoAt
+  info-outside h = rw (le-leb n (info .«tex_id») h) refl
+
+  module _ (inside : info .«tex_id» < n) (x : Bool) (is : x ≡ soundAt s base n) where
+    pub info-unsound : x ≡ false → refused 23 ≡ infoAt s base n info
+    unfolding infoAt
+    info-unsound e = rw (lt-leb n (info .«tex_id») inside, ← is, e) refl
+
+    pub info-numbered : (k : ℕ) (y : BspTexInfo) → x ≡ true → k ≡ numberedBy (namesOf s base) n (info .«tex_id») → y ≡ renumbered info k → answer y ≡ infoAt s base n info
+    unfolding infoAt
+    info-numbered k y e f g = rw (lt-leb n (info .«tex_id») inside, ← is, e, g, f) refl
+
+-- ---- a texture by its number in the file
+
+module _ (s : List ℕ) (base n i : ℕ) where
+  pub texture-outside : n ≤ i → refused 20 ≡ listedTexture s base n i
+  unfolding listedTexture
+  texture-outside h = rw (le-leb n i h) refl
+
+  module _ (inside : i < n) where
+    pub texture-above : 2097152 < n → refused 23 ≡ listedTexture s base n i
+    unfolding listedTexture
+    texture-above h = rw (lt-leb n i inside, lt-ltb 2097152 n h) refl
+
+    module _ (few : n ≤ 2097152) (r : ReadOffset) (er : offsetStep r ≡ offsetAt s (base + 4 + 4 * i)) where
+      pub texture-unread : (e : Refusal) → r ≡ Off.Refused e → refused 23 ≡ listedTexture s base n i
+      unfolding listedTexture
+      texture-unread e q = rw (lt-leb n i inside, le-ltb 2097152 n few, ← er, q) refl
+
+      module _ (o : OptionalOffset) (p : ℕ) (v : r ≡ Off.Value o p) where
+        pub texture-absent : o ≡ None → answer absentTexture ≡ listedTexture s base n i
+        unfolding listedTexture
+        texture-absent e = rw (lt-leb n i inside, le-ltb 2097152 n few, ← er, v, e) refl
+
+        pub texture-present : (x : ℕ) (y : Answer _) → o ≡ Some x → y ≡ reading (headerAt s (base + x)) → y ≡ listedTexture s base n i
+        unfolding listedTexture
+        texture-present x y e h = rw (lt-leb n i inside, le-ltb 2097152 n few, ← er, v, e) h
+
+-- eight bytes of a name
+
+module _ (s : List ℕ) where
+  eight-word : (p l : ℕ) → littleEndian (chars s p l 8) ≡ eightAt s p l .word
+  unfolding chars sevenAt eightAt littleEndian
+  eight-word p l = simp (two, three, four, five, six, seven) (omega arith)
+    where
+      two : (q : ℕ) → q + 1 + 1 ≡ q + 2
+      two q = omega arith
+
+      three : (q : ℕ) → q + 2 + 1 ≡ q + 3
+      three q = omega arith
+
+      four : (q : ℕ) → q + 3 + 1 ≡ q + 4
+      four q = omega arith
+
+      five : (q : ℕ) → q + 4 + 1 ≡ q + 5
+      five q = omega arith
+
+      six : (q : ℕ) → q + 5 + 1 ≡ q + 6
+      six q = omega arith
+
+      seven : (q : ℕ) → q + 6 + 1 ≡ q + 7
+      seven q = omega arith
+
+  front-eight : (p l : ℕ) → take 8 (chars s p l 16) ≡ chars s p l 8
+  unfolding chars
+  front-eight p l = refl
+
+  back-eight : (p l : ℕ) → drop 8 (chars s p l 16) ≡ chars s (p + 8) (eightAt s p l .last) 8
+  unfolding chars sevenAt eightAt
+  back-eight p l = simp add-assoc
+
+  pub eight-is : (bytes : (i : ℕ) → getD s i 0 < 256) (p l : ℕ) (x : Seven) (h w : ℕ) → x ≡ sevenAt s p l → h ≡ charAt s (p + 7) (x .last) → w ≡ x .word % 72057594037927936 + 72057594037927936 * h → record { word = w; last = h } ≡ eightAt s p l
+  unfolding eightAt
+  eight-is bytes p l x h w ex eh ew =
+      let z : x .word < 72057594037927936 = subst (λ (y : Seven). y .word < 72057594037927936) (sym ex) (seven-small s bytes p l) in
+      let e : w ≡ x .word + 72057594037927936 * h = omega (arith, ew, z) in
+      rw (e, eh, ex) refl
+
+  -- ---- the header of a texture
+  module _ (at : ℕ) (r : Position) (er : positionStep r ≡ textureAt s at) where
+    pub header-refused : (e : Refusal) → r ≡ Pos.Refused e → refused 23 ≡ reading (headerAt s at)
+    unfolding headerAt
+    header-refused e q = rw (← er, q) refl
+
+    module _ (q : ℕ) (v : r ≡ Pos.At q) (w : ReadU32) (ew : u32Step w ≡ u32At s (at + 16)) where
+      pub header-no-width : w ≡ U32.EndOfFile → refused 23 ≡ reading (headerAt s at)
+      unfolding headerAt
+      header-no-width e = rw (← er, v, ← ew, e) refl
+
+      module _ (width p : ℕ) (vw : w ≡ U32.Value width p) (h : ReadU32) (eh : u32Step h ≡ u32At s p) where
+        pub header-no-height : h ≡ U32.EndOfFile → refused 23 ≡ reading (headerAt s at)
+        unfolding headerAt
+        header-no-height e = rw (← er, v, ← ew, vw, ← eh, e) refl
+
+        pub header-read : (height t : ℕ) (x y : Seven) → h ≡ U32.Value height t → x ≡ eightAt s at 1 → y ≡ eightAt s (at + 8) (x .last)
+            → answer (record { present = true; «name_start» = x .word; «name_end» = y .word; width = width; height = height }) ≡ reading (headerAt s at)
+        unfolding headerAt
+        header-read height t x y e ex ey =
+            rw (← er, v, ← ew, vw, ← eh, e)
+            (rw (front-eight at 1, back-eight at 1, eight-word at 1, eight-word (at + 8) (eightAt s at 1 .last), ey, ex) refl)

@@ -1,0 +1,126 @@
+-- The accessors of textures on a map record, loaded or made by hand (Note 2). The section's offset and the number of textures are the record's; the
+-- count in the file and the section's size are not looked at.
+use Prim.Native.Nat.{ℕ, _+_, _*_}
+use mathlib.Core.Bool.{Bool, true, false, _&&_}
+use mathlib.Core.List.{List, [], _∷_}
+use lib.Dec.{eqb, leb, ltb}
+use lib.ListN.{take, drop}
+use Rattle.format.specs.Answer as Answer
+use Rattle.format.specs.Answer.{Answer, answer, refused, thenAnswer}
+use Rattle.format.specs.Step as Step
+use Rattle.format.specs.Step.{Step, ok, andThen, when}
+use Rattle.format.specs.Field.{u32At}
+use Rattle.format.specs.Refusal.{numberOf}
+use Rattle.format.specs.declared.section.BspData.{BspData}
+use Rattle.records.specs.Access.{reading}
+use Rattle.records.specs.Number.{offsetAt}
+use Rattle.records.specs.Texinfo.{texinfoOf}
+use Rattle.records.specs.declared.number.OptionalOffset.{OptionalOffset}
+use Rattle.records.specs.declared.number.OptionalOffset.the-variants.{None, Some}
+use Rattle.records.specs.declared.texinfo.BspTexInfo.{BspTexInfo}
+use Rattle.textures.specs.Name.{nameAt, isPrimary, isAlternate}
+use Rattle.textures.specs.Group.{sequenced, numberedBy, staticBy, frameBy}
+use Rattle.textures.specs.Section.{textureAt, texturesAt, namesOf}
+use Rattle.textures.specs.declared.answer.BspTexture.{BspTexture}
+use Rattle.textures.specs.declared.answer.TextureAnswer.{TextureAnswer}
+use Rattle.textures.specs.declared.answer.TextureAnswer.the-variants as Tex
+
+-- the names of the map record's textures, by their numbers in the file
+abbrev pub namesIn : List ℕ → BspData → ℕ → List ℕ
+namesIn s m = namesOf s (m .textures .offset)
+
+abbrev pub passes : Step (Unit {0}) → Bool
+passes (Step.ok u p) = true
+passes (Step.refused n) = false
+
+-- A section of n textures reads as it does on loading, its end position aside: the count is within its limit, and no offset, header, frame
+-- letter or group is refused.
+unfoldable pub soundAt : List ℕ → ℕ → ℕ → Bool
+soundAt s base n = leb n 2097152 && passes (andThen (texturesAt s base n) (λ u p. sequenced (namesOf s base) n))
+
+abbrev pub isSound : List ℕ → BspData → Bool
+isSound s m = soundAt s (m .textures .offset) (m .«texture_count»)
+
+-- what is asked of a section that reads, else 23
+abbrev pub ofSound : {A : Type 0} → List ℕ → BspData → Answer A → Answer A
+ofSound s m a = when (isSound s m) a (refused 23)
+
+-- the number in the file of the frame at a place of a group of the texture of a new number: group 0 is the primary one, 1 the alternate one
+unfoldable pub frameTexture : List ℕ → BspData → ℕ → ℕ → ℕ → Answer ℕ
+frameTexture s m number group place =
+    ofSound s m
+    (when (eqb group 0) (frameBy isPrimary (namesIn s m) (m .«texture_count») number place)
+    (when (eqb group 1) (frameBy isAlternate (namesIn s m) (m .«texture_count») number place)
+    (refused 20)))
+
+-- the number in the file of the static texture of a new number
+unfoldable pub staticTexture : List ℕ → BspData → ℕ → Answer ℕ
+staticTexture s m number = ofSound s m (staticBy (namesIn s m) (m .«texture_count») number)
+
+-- ---- texture infos
+
+abbrev pub renumbered : BspTexInfo → ℕ → BspTexInfo
+renumbered info n = record {
+  «s_vector» = info .«s_vector»;
+  «s_offset» = info .«s_offset»;
+  «t_vector» = info .«t_vector»;
+  «t_offset» = info .«t_offset»;
+  «tex_id» = n;
+  special = info .special;
+}
+
+-- a texture info with its texture's new number; 23 where its texture is none of the section's n
+unfoldable pub infoAt : List ℕ → ℕ → ℕ → BspTexInfo → Answer BspTexInfo
+infoAt s base n info =
+    when (leb n (info .«tex_id»)) (refused 23)
+    (when (soundAt s base n) (answer (renumbered info (numberedBy (namesOf s base) n (info .«tex_id»))))
+    (refused 23))
+
+-- by index
+unfoldable pub textureInfo : List ℕ → BspData → ℕ → Answer BspTexInfo
+textureInfo s m i = thenAnswer (texinfoOf s m i) (λ info. infoAt s (m .textures .offset) (m .«texture_count») info)
+
+-- ---- a texture by its number in the file
+
+-- bytes as a number, the lowest first
+unfoldable pub littleEndian : List ℕ → ℕ
+littleEndian [] = 0
+littleEndian (b ∷ bs) = b + 256 * littleEndian bs
+
+abbrev pub absentTexture : BspTexture
+absentTexture = record { present = false; «name_start» = 0; «name_end» = 0; width = 0; height = 0 }
+
+abbrev pub presentTexture : List ℕ → ℕ → ℕ → ℕ → BspTexture
+presentTexture s at width height = record {
+  present = true;
+  «name_start» = littleEndian (take 8 (nameAt s at));
+  «name_end» = littleEndian (drop 8 (nameAt s at));
+  width = width;
+  height = height;
+}
+
+-- a header that reads as on loading: its name, width and height
+unfoldable pub headerAt : List ℕ → ℕ → Step BspTexture
+headerAt s at =
+    andThen (textureAt s at) (λ u q.
+    andThen (u32At s (at + 16)) (λ width p.
+    andThen (u32At s p) (λ height next.
+    ok (presentTexture s at width height) next)))
+
+abbrev pub textureBy : List ℕ → ℕ → OptionalOffset → ℕ → Step BspTexture
+textureBy s base None p = ok absentTexture p
+textureBy s base (Some offset) p = headerAt s (base + offset)
+
+-- texture i of a section of n textures
+unfoldable pub listedTexture : List ℕ → ℕ → ℕ → ℕ → Answer BspTexture
+listedTexture s base n i =
+    when (leb n i) (refused 20)
+    (when (ltb 2097152 n) (refused 23)
+    (reading (andThen (offsetAt s (base + 4 + 4 * i)) (λ offset p. textureBy s base offset p))))
+
+abbrev pub textureOf : List ℕ → BspData → ℕ → Answer BspTexture
+textureOf s m i = listedTexture s (m .textures .offset) (m .«texture_count») i
+
+abbrev pub textureAnswer : TextureAnswer → Answer BspTexture
+textureAnswer (Tex.Value x) = answer x
+textureAnswer (Tex.Refused e) = refused (numberOf e)

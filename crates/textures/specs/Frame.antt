@@ -1,0 +1,10 @@
+-- What the accessors of texture numbers answer: a number in the file, or a refusal.
+use Prim.Native.Nat.{ℕ}
+use Rattle.format.specs.Answer.{Answer, answer, refused}
+use Rattle.format.specs.Refusal.{numberOf}
+use Rattle.textures.specs.declared.answer.FileNumber.{FileNumber}
+use Rattle.textures.specs.declared.answer.FileNumber.the-variants.{Value, Refused}
+
+abbrev pub fileNumber : FileNumber → Answer ℕ
+fileNumber (Value n) = answer n
+fileNumber (Refused e) = refused (numberOf e)

@@ -1,0 +1,11 @@
+// The texture section: its names, its groups of frames, and the numbers that textures get.
+pub mod access;
+pub mod answer;
+mod frame;
+mod group;
+mod kind;
+pub mod load;
+mod name;
+mod number;
+mod section;
+mod table;
