@@ -60,6 +60,7 @@ pub fn run(plan: &Plan) -> bool {
         "map", "call", "ns a call", "Rust", "ratio", "ns a part", "Rust"
     );
     println!("team: beside 16 calls of bsp_pvs and a merge by the caller, in the Rust's columns");
+    println!("*line: bsp_trace_line, beside bsp_trace in the place of the Rust; a part is a call");
     let mut equal = true;
     for (name, world) in worlds() {
         let mut seed = Seed::named(plan.seed, name);
