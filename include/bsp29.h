@@ -71,6 +71,7 @@ enum bsp_refusal {
     BSP_INVALID_SIZES_FILE = 26,
     BSP_NOT_A_BODY = 27,
     BSP_NOT_A_BOX = 28,
+    BSP_NODE_COUNT_OUTSIDE = 29,
     /* the map's shape, met in a query */
     BSP_INDEX_OUTSIDE_TABLE = 30,
     BSP_WALK_TOO_LONG = 31,
@@ -111,6 +112,7 @@ static inline const char *bsp_sentence(uint32_t refusal)
     case BSP_INVALID_SIZES_FILE: return "the file of body sizes is not two fields of 24 bytes, one of tag 1 and one of tag 2";
     case BSP_NOT_A_BODY: return "a bound of a body is not finite, or a minimum is at or above its maximum";
     case BSP_NOT_A_BOX: return "a bound of the box is not finite, or a minimum is above its maximum";
+    case BSP_NODE_COUNT_OUTSIDE: return "a made-up map has 1 to 500 nodes";
     case BSP_INDEX_OUTSIDE_TABLE: return "a node of the map names a node, plane or leaf that is not there, or the root is not there";
     case BSP_WALK_TOO_LONG: return "the walk entered as many nodes as the map has and did not end";
     case BSP_TOO_DEEP: return "the map's tree is deeper than 512 nodes";
@@ -770,6 +772,19 @@ uint32_t bsp_texture_static(const uint8_t *file, size_t file_length,
 uint32_t bsp_texture(const uint8_t *file, size_t file_length,
                      const uint32_t *map, size_t map_length,
                      uint64_t index,
+                     uint64_t *out, size_t out_length);
+
+/*
+ * The file of a made-up map, for load tests on maps that nobody drew: at the front of buffer, and its
+ * length, 249 + 52 * nodes, in out[0]. The same seed and number of nodes give the same bytes. The map
+ * is a chain of 1 to 500 nodes with a plane each, as render nodes and as clip nodes; docs/SCOPE.md says
+ * what the numbers drawn from the seed fix. Every such file loads and is accepted (bsp_load and
+ * bsp_accept answer 0), so bsp_contents, bsp_find_leaf, bsp_trace and bsp_pvs are answered on it.
+ *   buffer: 249 + 52 * nodes bytes or more, at most 26,249; out: 1 word or more.
+ *   Refuses: 29, a number of nodes outside 1 to 500, before anything else; 22, out or buffer too short.
+ */
+uint32_t bsp_made_up(uint32_t seed, uint64_t nodes,
+                     uint8_t *buffer, size_t buffer_length,
                      uint64_t *out, size_t out_length);
 
 #ifdef __cplusplus

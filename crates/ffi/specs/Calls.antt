@@ -17,3 +17,4 @@ pub use Rattle.ffi_points.specs.Calls.{bspContentsPoints}
 pub use Rattle.ffi_line.specs.Calls.{bspTraceLine}
 pub use Rattle.ffi_order.specs.Calls.{Ordering, ordering, bspOrder, bspOrderContents, bspOrderTrace}
 pub use Rattle.ffi_textures.specs.Calls.{bspTextureFrame, bspTextureStatic, bspTexture}
+pub use Rattle.ffi_made.specs.Calls.{bspMadeUp}

@@ -363,3 +363,11 @@ pub extern "C" fn bsp_texture(file: &[u8], map: &[u32], index: u64, out: &mut [u
 {
     ffi_textures::texture(file, map, index, out)
 }
+
+// The file of a made-up map from a seed and a node count, at the front of `buffer`, and its length.
+#[no_mangle]
+pub extern "C" fn bsp_made_up(seed: u32, nodes: u64, buffer: &mut [u8], out: &mut [u64]) -> u32
+    ensures { λ r. ⌜ left r (now (buffer .exit)) (now (out .exit)) ≡ Calls.bspMadeUp seed nodes (now (buffer .entry)) (now (out .entry)) ⌝ }
+{
+    ffi_made::made_up(seed, nodes, buffer, out)
+}

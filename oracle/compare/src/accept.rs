@@ -224,7 +224,7 @@ fn by_hand(board: &mut Board, calls: &Calls, seed: &mut Seed, case: u64) {
 
 /// The call beside the program on paper, and beside the Rust where it passed; what the program says,
 /// with marks enough.
-fn one(
+pub fn one(
     board: &mut Board,
     calls: &Calls,
     seed: &mut Seed,

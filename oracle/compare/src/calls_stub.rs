@@ -7,7 +7,7 @@
 
 use crate::paper::walk::{self, Hull, Walked};
 use crate::paper::{
-    accept, bodies, boxes, line, load, order, points, team, textures, tree, vis, Answer, Map,
+    accept, bodies, boxes, line, load, made, order, points, team, textures, tree, vis, Answer, Map,
     MAP_WORDS, SECTIONS,
 };
 
@@ -381,4 +381,16 @@ pub fn bsp_texture_static(file: &[u8], map: &[u32], number: u64, out: &mut [u64]
 pub fn bsp_texture(file: &[u8], map: &[u32], index: u64, out: &mut [u64]) -> u32 {
     let enough = out.len() >= textures::TEXTURE_WORDS;
     put(map_of(file, map, enough).and_then(|map| map.texture_words(index)), out)
+}
+
+pub fn bsp_made_up(seed: u32, nodes: u64, buffer: &mut [u8], out: &mut [u64]) -> u32 {
+    match made::made_up(seed, nodes) {
+        Err(refusal) => refusal,
+        Ok(file) if out.is_empty() || file.len() > buffer.len() => 22,
+        Ok(file) => {
+            buffer[..file.len()].copy_from_slice(&file);
+            out[0] = file.len() as u64;
+            0
+        }
+    }
 }

@@ -5,9 +5,9 @@ use crate::board::{Agreed, Board, Line};
 use crate::calls;
 
 /// The numbers of document 01 and of the requests of document 02.
-pub const NUMBERS: [u32; 31] = [
-    1, 2, 3, 4, 5, 6, 7, 8, 9, 10, 11, 12, 13, 14, 15, 19, 20, 21, 22, 23, 24, 25, 26, 27, 28, 30,
-    31, 32, 33, 34, 35,
+pub const NUMBERS: [u32; 32] = [
+    1, 2, 3, 4, 5, 6, 7, 8, 9, 10, 11, 12, 13, 14, 15, 19, 20, 21, 22, 23, 24, 25, 26, 27, 28, 29,
+    30, 31, 32, 33, 34, 35,
 ];
 
 /// A call and the numbers that it can give. Those that it cannot:
@@ -24,9 +24,10 @@ pub const NUMBERS: [u32; 31] = [
 /// - 26 and 27 are those of a file of body sizes.
 /// - 25 is a team's.
 /// - 24 is that of many points, 28 that of a box whose contents are asked.
+/// - 29 is that of a made-up map.
 /// - 35 is acceptance's.
 /// - 33 is visibility's, 34 the tree check's and that of the calls which make it.
-const CAN: [(&str, &[u32]); 28] = [
+const CAN: [(&str, &[u32]); 29] = [
     ("bsp_load", &[1, 2, 3, 4, 5, 6, 7, 8, 9, 10, 11, 12, 13, 14, 15, 22]),
     ("bsp_record", &[20, 22, 23]),
     ("bsp_count", &[20, 22]),
@@ -66,6 +67,8 @@ const CAN: [(&str, &[u32]); 28] = [
     ("bsp_texture_frame", &[20, 22, 23]),
     ("bsp_texture_static", &[20, 22, 23]),
     ("bsp_texture", &[20, 22, 23]),
+    // 29 first of all
+    ("bsp_made_up", &[22, 29]),
 ];
 
 /// What is wrong with the cells of a table.

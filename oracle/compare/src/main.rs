@@ -20,6 +20,7 @@ mod line;
 #[cfg(feature = "peer")]
 mod line_peer;
 mod loads;
+mod made;
 mod notes;
 mod order;
 mod paper;
@@ -123,6 +124,7 @@ fn run(mode: &str, given: &Arguments) -> bool {
         "pvs" => pvs::run(&given.plan(20_000)),
         "team" => team::run(&given.plan(10_000)),
         "loads" => loads::run(&given.plan(5_000)),
+        "made" => made::run(&given.plan(10_000)),
         "sky" => sky::run(&given.plan(5_000)),
         "sample" => sample::run(given.path(), given.number("--seed", 1), !given.has("--no-nodes")),
         "bench" => bench::run(&given.plan(30)),

@@ -24,6 +24,7 @@
 //! - `points`: the contents of many points (document 02, note 7)
 //! - `line`: whole-line traces (document 02, note 6)
 //! - `order`: nodes in walking order, and walks and traces by them (document 02, note 11)
+//! - `made`: made-up maps (document 02, note 14)
 
 pub mod accept;
 pub mod bodies;
@@ -32,6 +33,7 @@ pub mod faces;
 pub mod fields;
 pub mod line;
 pub mod load;
+pub mod made;
 pub mod order;
 pub mod plane;
 pub mod points;

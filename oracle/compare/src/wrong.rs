@@ -4,7 +4,7 @@ use crate::board::{Board, Plan};
 use crate::calls::Calls;
 use crate::calls_stub as stub;
 use crate::{
-    accept, all, bodies, boxes, coverage, hand_made, joins, line, loads, order, points, pvs,
+    accept, all, bodies, boxes, coverage, hand_made, joins, line, loads, made, order, points, pvs,
     records, replay, sample, sky, team, textures, tree, walks,
 };
 
@@ -43,10 +43,11 @@ fn right() -> Calls {
         texture_frame: stub::bsp_texture_frame,
         texture_static: stub::bsp_texture_static,
         texture: stub::bsp_texture,
+        made_up: stub::bsp_made_up,
     }
 }
 
-const MODES: [Compare; 16] = [
+const MODES: [Compare; 17] = [
     records::compare,
     hand_made::compare,
     walks::compare,
@@ -61,6 +62,7 @@ const MODES: [Compare; 16] = [
     pvs::compare,
     team::compare,
     loads::compare,
+    made::compare,
     sky::compare,
     joins::compare,
 ];
@@ -126,8 +128,8 @@ macro_rules! wrong {
     };
 }
 
-/// The words of an answer changed where `change` says; refusals stay.
-fn changed(refusal: u32, out: &mut [u64], change: impl FnOnce(&mut [u64])) -> u32 {
+/// The words or bytes of an answer changed where `change` says; refusals stay.
+fn changed<T>(refusal: u32, out: &mut [T], change: impl FnOnce(&mut [T])) -> u32 {
     if refusal == 0 {
         change(out);
     }
@@ -808,6 +810,26 @@ wrong! {
     loads: surrogates_taken, load, "bsp_load", |f, m| match stub::bsp_load(f, m) {
         9 if f.ends_with(&[0xed, 0xa0, 0x80, 0]) => 7,
         refusal => refusal,
+    };
+
+    made: less_127, made_up, "bsp_made_up", |s, n, b, o| {
+        changed(stub::bsp_made_up(s, n, b, o), b, |b| {
+            // the distance of the first plane
+            let near = f32::from_le_bytes(b[137..141].try_into().unwrap()) + 1.0;
+            b[137..141].copy_from_slice(&near.to_le_bytes());
+        })
+    };
+    made: last_back_child_is_solid, made_up, "bsp_made_up", |s, n, b, o| {
+        changed(stub::bsp_made_up(s, n, b, o), b, |b| b[127 + 52 * n as usize] = 0xfe)
+    };
+    made: short_before_the_count, made_up, "bsp_made_up", |s, n, b, o| {
+        match stub::bsp_made_up(s, n, b, o) {
+            29 if o.is_empty() => 22,
+            refusal => refusal,
+        }
+    };
+    made: the_count_in_32_bits, made_up, "bsp_made_up", |s, n, b, o| {
+        stub::bsp_made_up(s, n % (1 << 32), b, o)
     };
 
     sky: sky_is_refused, load, "bsp_load", |f, m| match stub::bsp_load(f, m) {

@@ -48,6 +48,7 @@ extern "C" {
     fn bsp_texture_static(file: Bytes, file_length: usize, map: Words, map_length: usize, number: u64, out: LongsOut, out_length: usize) -> u32;
     fn bsp_texture(file: Bytes, file_length: usize, map: Words, map_length: usize, index: u64, out: LongsOut, out_length: usize) -> u32;
     fn bsp_tree_check(file: Bytes, file_length: usize, map: Words, map_length: usize, table: u32, root: u64, marks: BytesOut, marks_length: usize, out: LongsOut, out_length: usize) -> u32;
+    fn bsp_made_up(seed: u32, nodes: u64, buffer: BytesOut, buffer_length: usize, out: LongsOut, out_length: usize) -> u32;
 }
 
 /// The words of a map record.
@@ -713,4 +714,14 @@ pub(crate) fn order_trace(
         )
     };
     answered(status, out)
+}
+
+/// `bsp_made_up`: the file of a made-up map at the front of `buffer`, and its length.
+pub(crate) fn made_up(seed: u32, nodes: u64, buffer: &mut [u8]) -> Result<u64, Refusal> {
+    let mut out = [0; 1];
+    // SAFETY: as in `load`.
+    let status = unsafe {
+        bsp_made_up(seed, nodes, buffer.as_mut_ptr(), buffer.len(), out.as_mut_ptr(), out.len())
+    };
+    answered(status, out[0])
 }

@@ -37,6 +37,7 @@
 //! - [`Records`] and the records: planes, leaves, models and the rest, by their index
 //! - [`Hull`], [`Trace`], [`LineTrace`]: what something moves in, and what it meets
 //! - [`BodySizes`]: a hall's own sizes in place of the built-in ones
+//! - [`made_up`]: maps that nobody drew, for load tests
 //! - [`Refusal`]: why a call is refused
 
 #![deny(unsafe_code, missing_docs)]
@@ -47,6 +48,7 @@ compile_error!("the library is for x86-64");
 
 mod ffi;
 mod hull;
+mod made;
 mod map;
 mod records;
 mod refusal;
@@ -54,6 +56,7 @@ mod sizes;
 mod words;
 
 pub use hull::{Hull, LineTrace, NodeTable, Trace, TraceEnd};
+pub use made::{made_up, made_up_into};
 pub use map::{Map, Ordered};
 pub use records::{
     ClipChild, ClipNode, Contents, ContentsSet, Direction, Edge, EdgeListEntry, Face,

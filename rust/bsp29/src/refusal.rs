@@ -119,6 +119,8 @@ refusals! {
     NotABody = 27, "a bound of a body is not finite, or a minimum is at or above its maximum";
     /// 28: a bound of a box is not finite, or a minimum is above its maximum.
     NotABox = 28, "a bound of the box is not finite, or a minimum is above its maximum";
+    /// 29: a made-up map with a number of nodes outside 1 to 500.
+    NodeCountOutside = 29, "a made-up map has 1 to 500 nodes";
     /// 30: a root, child, plane or leaf index outside its table.
     IndexOutsideTable = 30, "a node of the map names a node, plane or leaf that is not there, or the root is not there";
     /// 31: a walk has entered as many nodes as the table holds, and a further one is there.

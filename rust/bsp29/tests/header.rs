@@ -24,7 +24,7 @@ fn constants(header: &str, name: &str) -> Vec<(String, u32)> {
 fn numbers_and_sentences() {
     let header = header();
     let refusals = constants(&header, "bsp_refusal");
-    assert_eq!(refusals.len(), 32);
+    assert_eq!(refusals.len(), 33);
     for (name, number) in refusals {
         let start = header.find(&format!("case {name}: return \"")).expect(&name);
         let sentence = header[start..].split('"').nth(1).unwrap();

@@ -1,0 +1,2 @@
+-- What the contract of `ffi_made` cites.
+pub mod Calls

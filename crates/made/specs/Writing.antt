@@ -1,0 +1,48 @@
+-- What an answer of `made_up` stands for; and what its parts leave in the buffer, for private contracts.
+use Prim.Native.Nat.{ℕ, _+_}
+use mathlib.Core.List.{List, [], _∷_, _++_}
+use lib.ListN.{length, take, drop}
+use Rattle.format.specs.Answer.{Answer, answer, refused}
+use Rattle.format.specs.Refusal as Refusal
+use Rattle.written.specs.Bytes.{u32}
+use Rattle.made.specs.Map.{numberOf, Side, node, solid, empty}
+use Rattle.made.specs.File.{plane, renderNode, clipNode}
+use Rattle.made.specs.declared.MadeUp.{MadeUp}
+use Rattle.made.specs.declared.MadeUp.the-variants.{Length, Refused}
+use Rattle.made.specs.declared.Part.{Part}
+use Rattle.made.specs.declared.Part.the-variants.{Planes, RenderNodes, ClipNodes}
+
+abbrev pub lengthOf : MadeUp → Answer ℕ
+lengthOf (Length n) = answer n
+lengthOf (Refused e) = refused (Refusal.numberOf e)
+
+-- ---- for private contracts
+
+-- the list with xs in it from a place on
+abbrev pub written : ℕ → List ℕ → List ℕ → List ℕ
+written at xs l = take at l ++ (xs ++ drop (at + length xs) l)
+
+-- numbers of four bytes each
+abbrev pub wordsOf : List ℕ → List ℕ
+wordsOf [] = []
+wordsOf (w ∷ ws) = u32 w ++ wordsOf ws
+
+-- a child's 16 bits, where those of the leaves are given
+abbrev pub sideWord : ℕ → ℕ → Side → ℕ
+sideWord s e (node k) = k
+sideWord s e solid = s
+sideWord s e empty = e
+
+abbrev pub sizeOf : Part → ℕ
+sizeOf Planes = 20
+sizeOf RenderNodes = 24
+sizeOf ClipNodes = 8
+
+-- the record of node i of n, by its number
+abbrev pub recordOf : Part → ℕ → ℕ → ℕ → List ℕ
+recordOf Planes n i number = plane number
+recordOf RenderNodes n i number = renderNode n i number
+recordOf ClipNodes n i number = clipNode n i number
+
+abbrev pub recordOfNode : Part → ℕ → ℕ → ℕ → List ℕ
+recordOfNode part seed n i = recordOf part n i (numberOf seed i)

@@ -1,0 +1,2 @@
+-- Fields as bytes.
+pub mod Bytes
