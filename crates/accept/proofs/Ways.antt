@@ -1,21 +1,23 @@
 -- The ways through acceptance's code, over plain values: one law for each way through two checks, a record that must be read, and a loop over records.
 -- Assumes nothing.
-use Prim.Native.Nat.{ℕ, zero, suc, _+_, _-_, _<_, _≤_, _^_, max}
+use Prim.Native.Nat.{ℕ, zero, suc, _+_, _-_, _<_, _≤_, _^_}
 use mathlib.Core.Path.{_≡_, refl, sym, ap, subst, _∙_}
-use mathlib.Core.Bool.{Bool, true, false}
-use mathlib.Core.List.{List, [], _++_}
+use mathlib.Core.List.{List, _++_}
+use native.Mathlib.Decide.{ℕ-discrete}
 use native.Mathlib.Omega.{arith}
-use borrow.Author.Tests.{eq-eqb, ne-eqb, lt-ltb, le-ltb}
-use lib.Dec.{ltb, eqb}
-use lib.ListN.{length, drop, replicate, length-replicate}
-use Rattle.format.specs.Answer.{Answer, answer, refused, mapped, thenAnswer}
-use Rattle.format.specs.Step.{when}
+use borrow.Author.Tests.{lt-ltb, le-ltb}
+use lib.ListN.{length, getD, set, drop, replicate, length-replicate}
+use lib.Seq.{getD-set-other}
+use Rattle.format.specs.Answer.{Answer, answer, refused, thenAnswer}
 use Rattle.format.specs.Refusal.{numberOf}
 use Rattle.format.specs.Section.{recordCount}
 use Rattle.format.specs.declared.refusal.Refusal.{Refusal}
 use Rattle.format.specs.declared.section.BspData.{BspData}
-use Rattle.format.specs.declared.section.BspFileSectionId.the-variants.{RenderNodes, CollisionNodes, EdgeList}
+use Rattle.format.specs.declared.section.BspFileSectionId.the-variants.{RenderNodes, CollisionNodes, Leaves}
+use Rattle.models.specs.Model.{fileModelOf, leafIdOf, withRest, modelOf}
+use Rattle.models.specs.declared.model.BspFileModel.{BspFileModel}
 use Rattle.models.specs.declared.model.LeafRange.{LeafRange}
+use Rattle.models.proofs.Models.{no-wrap}
 use Rattle.walk.specs.TreeCheck.{Checked, checked, treeCheck}
 use Rattle.walk.proofs.Check.{answer-is}
 use Rattle.nodes.specs.Tables.{nodesOf}
@@ -23,7 +25,8 @@ use Rattle.nodes.specs.declared.table.HullTable.{HullTable}
 use Rattle.tree.specs.Check.{heightAnswer}
 use Rattle.tree.specs.declared.TreeChecked.{TreeChecked}
 use Rattle.tree.specs.declared.TreeChecked.the-variants as Tc
-use Rattle.accept.specs.Accept.{Check, passes, also, each, inside, within, treeFrom, marksFor, acceptOf, accept, judged, Judged, acceptanceAnswer, rowRefused}
+use Rattle.accept.specs.Accept.{Check, passes, also, each, inside, within, modelLeaves, treeFrom, marksFor, acceptOf, accept, judged, Judged, acceptanceAnswer}
+use Rattle.accept.specs.Fast.{Remembered}
 use Rattle.accept.specs.declared.Acceptance.{Acceptance}
 use Rattle.accept.specs.declared.Acceptance.the-variants as A
 use Rattle.accept.proofs.Checks as Checks
@@ -49,9 +52,6 @@ wasRead k e f = rw e f
 pub of-count : {a : Check} (i : ℕ) {n k : ℕ} → n ≡ k → a ≡ inside i n → a ≡ inside i k
 of-count i q e = e ∙ ap (inside i) q
 
-pub of-last : {a : Check} {x y : LeafRange} {n k : ℕ} → x ≡ y → n ≡ k → a ≡ inside (x .last) n → a ≡ inside (y .last) k
-of-last {x = x} {k = k} p q e = e ∙ ap (inside (x .last)) q ∙ ap (λ (r : LeafRange). inside (r .last) k) p
-
 pub of-size : {a : Check} (i j : ℕ) {n k : ℕ} → n ≡ k → a ≡ within i j n → a ≡ within i j k
 of-size i j q e = e ∙ ap (within i j) q
 
@@ -74,19 +74,44 @@ module _ (one : ℕ → Check) where
   pub is-done : (n i : ℕ) {all : Check} → n ≤ i → each one (n - i) i ≡ all → passes ≡ all
   is-done n i h v = sym (Checks.done one n i h) ∙ v
 
--- ---- a row's refusal
+-- ---- the leaves of a model, where those of the models before it are added up
 
-pub row-short : (n k : ℕ) → n ≡ k → n ≡ 22 → passes ≡ rowRefused k
-unfolding rowRefused
-row-short n k q e = rw (← q, e)
+module _ (s : List ℕ) (m : BspData) (i first : ℕ) (own : BspFileModel) (before : leafIdOf s m i ≡ answer first) (read : fileModelOf s m i ≡ answer own) where
+  made : modelOf s m i ≡ answer (withRest (recordCount CollisionNodes (m .«collision_nodes»)) first own)
+  unfolding modelOf
+  made = rw (read, before)
 
-pub row-outside : (n k : ℕ) → n ≡ k → (n ≡ 22 → ⊥) → n ≡ 33 → refused 35 ≡ rowRefused k
-unfolding rowRefused
-row-outside n k q f e = rw (← q, e)
+  pub last-leaf : {a : Check} {n : ℕ} → n ≡ recordCount Leaves (m .leaves) → a ≡ inside (first + own .«leaf_count») n → a ≡ modelLeaves s m i
+  unfolding modelLeaves
+  last-leaf q e = rw made (e ∙ ap (inside (first + own .«leaf_count»)) q ∙ sym (ap (λ (r : LeafRange). inside (r .last) (recordCount Leaves (m .leaves))) (no-wrap s m i _ made)))
 
-pub row-other : (n k : ℕ) → n ≡ k → (n ≡ 22 → ⊥) → (n ≡ 33 → ⊥) → refused k ≡ rowRefused k
-unfolding rowRefused
-row-other n k q f g = rw (← q, ne-eqb n 22 f, ne-eqb n 33 g)
+pub no-model : (s : List ℕ) (m : BspData) (i n : ℕ) → fileModelOf s m i ≡ refused n → modelLeaves s m i ≡ refused n
+unfolding modelLeaves modelOf
+no-model s m i n e = rw e
+
+-- the last leaf is one, so the sum is small
+pub sum-small : {r : Acceptance} (last n : ℕ) → r ≡ A.Passed → acceptanceAnswer r ≡ inside last n → n < 2 ^ 32 → last < 2 ^ 32
+sum-small last n q e h = let l : last < n = Checks.inside-only last n (sym e ∙ ap acceptanceAnswer q) in omega arith
+
+-- ---- roots that are remembered
+
+zeros-there : (n i : ℕ) → getD {A = ℕ} (replicate n 0) i 0 ≡ 0
+zeros-there zero i = refl
+zeros-there (suc n) zero = refl
+zeros-there (suc n) (suc i) = zeros-there n i
+
+module _ (s : List ℕ) (m : BspData) (table : HullTable) where
+  -- zeros remember none
+  pub none-yet : (n : ℕ) → Remembered s m table (replicate n 0)
+  none-yet n root f = absurd (f (zeros-there n root))
+
+  -- a root that passed is remembered with the others
+  pub one-more : (bytes : List ℕ) (root : ℕ) → treeFrom s m table root ≡ passes → Remembered s m table bytes → Remembered s m table (set bytes root 1)
+  one-more bytes root e known k f = by (ℕ-discrete k root)
+    where
+      by : Dec (k ≡ root) → treeFrom s m table k ≡ passes
+      by (yes q) = rw q e
+      by (no d) = known k (λ z. f (getD-set-other bytes root k 1 0 d ∙ z))
 
 -- ---- trees and marks
 

@@ -56,6 +56,11 @@ inside i n = when (ltb i n) passes (refused 35)
 unfoldable pub within : ℕ → ℕ → ℕ → Check
 within first count n = when (ltb n (first + count)) (refused 35) passes
 
+-- "a row that gets 33" is 35
+abbrev pub wholeRow : Answer (List ℕ) → Check
+wholeRow (answer leaves) = passes
+wholeRow (refused n) = when (eqb n 33) (refused 35) (refused n)
+
 module _ (s : List ℕ) (m : BspData) where
   -- "each edge with its two vertices": the vertices, the edge of a number, and entry i of the list of edges
   abbrev pub verticesCheck : BspEdge → Check
@@ -97,11 +102,6 @@ module _ (s : List ℕ) (m : BspData) where
   modelLeaves i =
       thenAnswer (modelOf s m i) (λ model.
       inside (leafRange model .last) (recordCount Leaves (m .leaves)))
-
-  -- "a row that gets 33" is 35
-  abbrev pub wholeRow : Answer (List ℕ) → Check
-  wholeRow (answer leaves) = passes
-  wholeRow (refused n) = when (eqb n 33) (refused 35) (refused n)
 
   -- the visibility row of leaf i, with the count of all leaves
   unfoldable pub rowCheck : ℕ → Check
@@ -161,9 +161,3 @@ accept s m ms =
 abbrev pub acceptanceAnswer : Acceptance → Check
 acceptanceAnswer A.Passed = passes
 acceptanceAnswer (A.Refused e) = refused (numberOf e)
-
--- ---- for private contracts
-
--- what a refusal of `get_pvs` with an empty list says of the row: 22 comes last, so the row is whole
-unfoldable pub rowRefused : ℕ → Check
-rowRefused n = when (eqb n 22) passes (when (eqb n 33) (refused 35) (refused n))

@@ -10,6 +10,7 @@ use tree::clear;
 
 mod check;
 mod references;
+mod row;
 mod trees;
 
 pub enum Acceptance {

@@ -1,7 +1,6 @@
-// The references of faces, leaves and models, and the visibility rows.
+// The references of faces, leaves and models; the visibility rows come after them.
 ghost use mathlib.Core.Path.{_≡_};
-ghost use Prim.Native.Nat.{_+_, _-_, _<_, _^_};
-ghost use Rattle.format.specs.Refusal.{numberOf};
+ghost use Prim.Native.Nat.{_+_, _<_, _^_};
 ghost use Rattle.format.specs.Section.{recordCount};
 ghost use Rattle.format.specs.declared.section.BspFileSectionId.the-variants as Id;
 ghost use Rattle.accept.specs.Accept as Acc;
@@ -9,16 +8,14 @@ ghost use Rattle.accept.specs.Accept.{acceptanceAnswer};
 use crate::Acceptance;
 use crate::check::inside;
 use crate::check::within;
+use crate::row::check_rows;
 use faces::face::BspFace;
 use faces::face::FaceAnswer;
 use faces::face::file_face;
-use format::refusal::Refusal;
 use format::section::BspData;
 use format::section::BspFileSectionId;
 use models::model::FileModelAnswer;
-use models::model::ModelAnswer;
 use models::model::file_model;
-use models::model::model;
 use records::edge::BspEdge;
 use records::edge::EdgeAnswer;
 use records::edge::EdgeIndexAnswer;
@@ -26,8 +23,6 @@ use records::edge::edge;
 use records::edge::edgelist;
 use records::leaf::LeafAnswer;
 use records::leaf::leaf;
-use vis::Pvs;
-use vis::get_pvs;
 
 // An edge's two vertices.
 fn check_vertices(map: BspData, edge: BspEdge) -> Acceptance
@@ -190,73 +185,25 @@ fn check_models_faces(file: &[u8], map: BspData) -> Acceptance
     Acceptance::Passed
 }
 
-// A model's inclusive leaf range.
-fn check_model_leaves(file: &[u8], map: BspData, index: usize) -> Acceptance
-    ensures { λ r. ⌜ acceptanceAnswer r ≡ Acc.modelLeaves (now (file .entry)) map index ⌝ }
-{
-    match model(file, map, index) {
-        ModelAnswer::Refused(e) => Acceptance::Refused(e),
-        ModelAnswer::Value(b) => {
-            let range = b.leaves();
-            inside(
-                range.last,
-                map.leaves.record_count(BspFileSectionId::Leaves),
-            )
-        }
-    }
-}
-
+// Every model's inclusive leaf range. The leaf counts of the models before are added up along the way.
 fn check_models_leaves(file: &[u8], map: BspData) -> Acceptance
     ensures { λ r. ⌜ acceptanceAnswer r ≡ Acc.each (Acc.modelLeaves (now (file .entry)) map) (recordCount Id.Models (map .models)) 0 ⌝ }
 {
     let count = map.models.record_count(BspFileSectionId::Models) as usize;
+    let leaves = map.leaves.record_count(BspFileSectionId::Leaves);
+    let mut first = 0;
     let mut i = 0;
     while i < count {
-        let r = check_model_leaves(file, map, i);
+        let own = match file_model(file, map, i) {
+            FileModelAnswer::Refused(e) => return Acceptance::Refused(e),
+            FileModelAnswer::Value(f) => f,
+        };
+        let last = first + (own.leaf_count as usize);
+        let r = inside(last, leaves);
         let Acceptance::Passed = r else {
             return r;
         };
-        i += 1;
-    }
-    Acceptance::Passed
-}
-
-// A row's refusal, met with an empty list: a list too short comes after all that is asked here.
-fn row_refused(e: Refusal) -> Acceptance
-    ensures { λ r. ⌜ acceptanceAnswer r ≡ Acc.rowRefused (numberOf e) ⌝ }
-{
-    let number = e.number();
-    if number == 22 {
-        return Acceptance::Passed;
-    }
-    if number == 33 {
-        return Acceptance::Refused(Refusal::NotAcceptable);
-    }
-    Acceptance::Refused(e)
-}
-
-// The visibility row of a leaf, with the count of all leaves.
-fn check_row(file: &[u8], map: BspData, index: usize) -> Acceptance
-    ensures { λ r. ⌜ acceptanceAnswer r ≡ Acc.rowCheck (now (file .entry)) map index ⌝ }
-{
-    let count = map.leaves.record_count(BspFileSectionId::Leaves) as usize;
-    let mut list = [0u32; 1];
-    match get_pvs(file, map, index, count, &mut list[..0]) {
-        Pvs::Length(_) => Acceptance::Passed,
-        Pvs::Refused(e) => row_refused(e),
-    }
-}
-
-fn check_rows(file: &[u8], map: BspData) -> Acceptance
-    ensures { λ r. ⌜ acceptanceAnswer r ≡ Acc.each (Acc.rowCheck (now (file .entry)) map) (recordCount Id.Leaves (map .leaves) - 1) 1 ⌝ }
-{
-    let count = map.leaves.record_count(BspFileSectionId::Leaves) as usize;
-    let mut i = 1;
-    while i < count {
-        let r = check_row(file, map, i);
-        let Acceptance::Passed = r else {
-            return r;
-        };
+        first = last;
         i += 1;
     }
     Acceptance::Passed
