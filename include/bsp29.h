@@ -1,8 +1,9 @@
 /*
  * bsp29.h: BSP29 maps that strangers send. C99 and C++11, x86-64 Linux.
  *
- * Link the static library that `rt staticlib ffi` writes: target/staticlib/libffi.a. Name the file
- * by its path, since systems have another library called ffi.
+ * Link the static library libbsp29.a (README.md says how it is installed). `rt staticlib ffi` writes it
+ * as target/staticlib/libffi.a; link that file by its path, since systems have another library called
+ * ffi. bsp29_easy.h has small structs and wrappers over these calls.
  *
  * Each call answers 0 (BSP_OK), or the number of a refusal (enum bsp_refusal; docs/SCOPE.md says who
  * causes each, and in which order they come). Whatever the bytes, the map record, the hull or the
@@ -39,6 +40,16 @@
 #ifdef __cplusplus
 extern "C" {
 #endif
+
+/*
+ * The version of this header: that of the library that it was written for. A change of the first two
+ * numbers may change or take away what is here; a change of the third does not. BSP29_VERSION is the three
+ * in one number, 65,536 major + 256 minor + patch.
+ */
+#define BSP29_VERSION_MAJOR 0
+#define BSP29_VERSION_MINOR 2
+#define BSP29_VERSION_PATCH 0
+#define BSP29_VERSION (BSP29_VERSION_MAJOR * 65536 + BSP29_VERSION_MINOR * 256 + BSP29_VERSION_PATCH)
 
 /* ---- refusals ---- */
 
@@ -199,6 +210,7 @@ enum bsp_length {
     BSP_CONTENTS_WORDS = 2,
     BSP_LEAF_WORDS = 2,
     BSP_TRACE_WORDS = 17,
+    BSP_LINE_WORDS = 12,
     BSP_TEXTURE_WORDS = 5
 };
 

@@ -47,9 +47,9 @@ fn run(file: &[u8], hull: usize, start: [f32; 3], end: [f32; 3]) -> Result<(), R
 
     // from a root that passed, every walk and trace is answered
     let hull = map.hull(0, hull)?;
-    let height = map.tree_check(hull.table, hull.root)?;
-    let nodes = map.hull_check(&hull)?.nodes;
-    println!("hull: table {:?} root {} nodes {nodes} height {height}", hull.table, hull.root);
+    let height = map.tree_check(hull.table(), hull.root())?;
+    let nodes = map.hull_check(&hull)?.nodes();
+    println!("hull: table {:?} root {} nodes {nodes} height {height}", hull.table(), hull.root());
 
     let (contents, visits) = map.contents(&hull, start)?;
     let (leaf, leaf_visits) = map.find_leaf(start)?;

@@ -1,64 +1,19 @@
-//! The calls of the static library, each behind a safe function. The only module with unsafe code.
+//! The calls of the static library, each behind a safe function. The only module with unsafe code; the
+//! crate `bsp29-sys` declares the calls and links the library.
 //!
 //! `include/bsp29.h` says what each call answers. Each answers 0 or the number of a refusal.
 
 #![allow(unsafe_code)]
-#![allow(clippy::too_many_arguments)]
 
 use crate::Refusal;
-
-type Bytes = *const u8;
-type Words = *const u32;
-type Longs = *const u64;
-type Floats = *const f32;
-type BytesOut = *mut u8;
-type WordsOut = *mut u32;
-type LongsOut = *mut u64;
-type Ints = *const i32;
-type IntsOut = *mut i32;
-
-// A slice is a pointer and a length.
-#[rustfmt::skip]
-extern "C" {
-    fn bsp_load(file: Bytes, file_length: usize, map: WordsOut, map_length: usize) -> u32;
-    fn bsp_record(file: Bytes, file_length: usize, map: Words, map_length: usize, section: u32, index: u64, out: LongsOut, out_length: usize) -> u32;
-    fn bsp_count(map: Words, map_length: usize, section: u32, out: LongsOut, out_length: usize) -> u32;
-    fn bsp_entities(file: Bytes, file_length: usize, map: Words, map_length: usize, out: LongsOut, out_length: usize) -> u32;
-    fn bsp_hull(file: Bytes, file_length: usize, map: Words, map_length: usize, model: u64, index: u64, hull: LongsOut, hull_length: usize) -> u32;
-    fn bsp_body_sizes(bytes: Bytes, bytes_length: usize, sizes: LongsOut, sizes_length: usize) -> u32;
-    fn bsp_hull_sized(file: Bytes, file_length: usize, map: Words, map_length: usize, sizes: Longs, sizes_length: usize, model: u64, index: u64, hull: LongsOut, hull_length: usize) -> u32;
-    fn bsp_box(bounds: Floats, bounds_length: usize, hull: LongsOut, hull_length: usize) -> u32;
-    fn bsp_hull_check(file: Bytes, file_length: usize, map: Words, map_length: usize, hull: Longs, hull_length: usize, marks: BytesOut, marks_length: usize, out: LongsOut, out_length: usize) -> u32;
-    fn bsp_contents(file: Bytes, file_length: usize, map: Words, map_length: usize, hull: Longs, hull_length: usize, point: Floats, point_length: usize, out: LongsOut, out_length: usize) -> u32;
-    fn bsp_find_leaf(file: Bytes, file_length: usize, map: Words, map_length: usize, root: u64, point: Floats, point_length: usize, out: LongsOut, out_length: usize) -> u32;
-    fn bsp_trace(file: Bytes, file_length: usize, map: Words, map_length: usize, hull: Longs, hull_length: usize, segment: Floats, segment_length: usize, out: LongsOut, out_length: usize) -> u32;
-    fn bsp_contents_nodes(file: Bytes, file_length: usize, map: Words, map_length: usize, hull: Longs, hull_length: usize, point: Floats, point_length: usize, list: WordsOut, list_length: usize, out: LongsOut, out_length: usize) -> u32;
-    fn bsp_find_leaf_nodes(file: Bytes, file_length: usize, map: Words, map_length: usize, root: u64, point: Floats, point_length: usize, list: WordsOut, list_length: usize, out: LongsOut, out_length: usize) -> u32;
-    fn bsp_trace_nodes(file: Bytes, file_length: usize, map: Words, map_length: usize, hull: Longs, hull_length: usize, segment: Floats, segment_length: usize, list: WordsOut, list_length: usize, out: LongsOut, out_length: usize) -> u32;
-    fn bsp_pvs(file: Bytes, file_length: usize, map: Words, map_length: usize, leaf: u64, leaf_count: u64, list: WordsOut, list_length: usize, out: LongsOut, out_length: usize) -> u32;
-    fn bsp_pvs_team(file: Bytes, file_length: usize, map: Words, map_length: usize, leaves: Longs, leaves_length: usize, leaf_count: u64, list: WordsOut, list_length: usize, out: LongsOut, out_length: usize) -> u32;
-    fn bsp_trace_line(file: Bytes, file_length: usize, map: Words, map_length: usize, hull: Longs, hull_length: usize, segment: Floats, segment_length: usize, out: LongsOut, out_length: usize) -> u32;
-    fn bsp_contents_box(file: Bytes, file_length: usize, map: Words, map_length: usize, hull: Longs, hull_length: usize, bounds: Floats, bounds_length: usize, marks: BytesOut, marks_length: usize, out: LongsOut, out_length: usize) -> u32;
-    fn bsp_accept(file: Bytes, file_length: usize, map: Words, map_length: usize, marks: BytesOut, marks_length: usize) -> u32;
-    fn bsp_contents_points(file: Bytes, file_length: usize, map: Words, map_length: usize, hull: Longs, hull_length: usize, points: Floats, points_length: usize, list: BytesOut, list_length: usize, out: LongsOut, out_length: usize) -> u32;
-    fn bsp_order(file: Bytes, file_length: usize, map: Words, map_length: usize, table: u32, root: u64, marks: BytesOut, marks_length: usize, list: IntsOut, list_length: usize, out: LongsOut, out_length: usize) -> u32;
-    fn bsp_order_contents(file: Bytes, file_length: usize, map: Words, map_length: usize, list: Ints, list_length: usize, root: u64, point: Floats, point_length: usize, out: LongsOut, out_length: usize) -> u32;
-    fn bsp_order_trace(file: Bytes, file_length: usize, map: Words, map_length: usize, list: Ints, list_length: usize, root: u64, segment: Floats, segment_length: usize, out: LongsOut, out_length: usize) -> u32;
-    fn bsp_texture_frame(file: Bytes, file_length: usize, map: Words, map_length: usize, number: u64, group: u32, place: u64, out: LongsOut, out_length: usize) -> u32;
-    fn bsp_texture_static(file: Bytes, file_length: usize, map: Words, map_length: usize, number: u64, out: LongsOut, out_length: usize) -> u32;
-    fn bsp_texture(file: Bytes, file_length: usize, map: Words, map_length: usize, index: u64, out: LongsOut, out_length: usize) -> u32;
-    fn bsp_tree_check(file: Bytes, file_length: usize, map: Words, map_length: usize, table: u32, root: u64, marks: BytesOut, marks_length: usize, out: LongsOut, out_length: usize) -> u32;
-    fn bsp_made_up(seed: u32, nodes: u64, buffer: BytesOut, buffer_length: usize, out: LongsOut, out_length: usize) -> u32;
-}
+use bsp29_sys::*;
 
 /// The words of a map record.
-pub(crate) type MapWords = [u32; 31];
+pub(crate) type MapWords = [u32; MAP_WORDS];
 /// The words of a hull.
 pub(crate) type HullWords = [u64; HULL_WORDS];
-/// How many they are.
-const HULL_WORDS: usize = 11;
 /// The words of body sizes.
-pub(crate) type SizesWords = [u64; 12];
+pub(crate) type SizesWords = [u64; SIZES_WORDS];
 /// Two points, one after the other.
 pub(crate) type Segment = [f32; 6];
 
@@ -73,7 +28,7 @@ fn answered<T>(status: u32, value: T) -> Result<T, Refusal> {
 
 /// `bsp_load`: the map record.
 pub(crate) fn load(file: &[u8]) -> Result<MapWords, Refusal> {
-    let mut map = [0; 31];
+    let mut map = [0; MAP_WORDS];
     // SAFETY: each pointer goes with the length of its slice, and what is written is borrowed by this
     // call alone; the library is proved to stay within the slices, whatever they hold.
     let status = unsafe { bsp_load(file.as_ptr(), file.len(), map.as_mut_ptr(), map.len()) };
@@ -86,8 +41,8 @@ pub(crate) fn record(
     map: &MapWords,
     section: u32,
     index: u64,
-) -> Result<[u64; 20], Refusal> {
-    let mut out = [0; 20];
+) -> Result<[u64; RECORD_WORDS], Refusal> {
+    let mut out = [0; RECORD_WORDS];
     // SAFETY: as in `load`.
     let status = unsafe {
         bsp_record(
@@ -149,8 +104,12 @@ pub(crate) fn texture_static(file: &[u8], map: &MapWords, number: u64) -> Result
 }
 
 /// `bsp_texture`: the words of a texture.
-pub(crate) fn texture(file: &[u8], map: &MapWords, index: u64) -> Result<[u64; 5], Refusal> {
-    let mut out = [0; 5];
+pub(crate) fn texture(
+    file: &[u8],
+    map: &MapWords,
+    index: u64,
+) -> Result<[u64; TEXTURE_WORDS], Refusal> {
+    let mut out = [0; TEXTURE_WORDS];
     // SAFETY: as in `load`.
     let status = unsafe {
         bsp_texture(
@@ -218,7 +177,7 @@ pub(crate) fn hull(
 
 /// `bsp_body_sizes`: the body sizes of a file.
 pub(crate) fn body_sizes(bytes: &[u8]) -> Result<SizesWords, Refusal> {
-    let mut sizes = [0; 12];
+    let mut sizes = [0; SIZES_WORDS];
     // SAFETY: as in `load`.
     let status =
         unsafe { bsp_body_sizes(bytes.as_ptr(), bytes.len(), sizes.as_mut_ptr(), sizes.len()) };
@@ -343,8 +302,8 @@ pub(crate) fn trace(
     map: &MapWords,
     hull: &HullWords,
     segment: &Segment,
-) -> Result<[u64; 17], Refusal> {
-    let mut out = [0; 17];
+) -> Result<[u64; TRACE_WORDS], Refusal> {
+    let mut out = [0; TRACE_WORDS];
     // SAFETY: as in `load`.
     let status = unsafe {
         bsp_trace(
@@ -369,8 +328,8 @@ pub(crate) fn trace_line(
     map: &MapWords,
     hull: &HullWords,
     segment: &Segment,
-) -> Result<[u64; 12], Refusal> {
-    let mut out = [0; 12];
+) -> Result<[u64; LINE_WORDS], Refusal> {
+    let mut out = [0; LINE_WORDS];
     // SAFETY: as in `load`.
     let status = unsafe {
         bsp_trace_line(
@@ -695,8 +654,8 @@ pub(crate) fn order_trace(
     list: &[i32],
     root: u64,
     segment: &Segment,
-) -> Result<[u64; 17], Refusal> {
-    let mut out = [0; 17];
+) -> Result<[u64; TRACE_WORDS], Refusal> {
+    let mut out = [0; TRACE_WORDS];
     // SAFETY: as in `load`.
     let status = unsafe {
         bsp_order_trace(

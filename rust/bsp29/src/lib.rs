@@ -3,8 +3,8 @@
 //!
 //! A safe crate over the static library of this repository, whose code is proved: whatever the bytes,
 //! the numbers or the floats, each call answers or refuses ([`Refusal`]); none crashes, hangs or reads
-//! outside the file. `cargo build` makes the library by `rt staticlib ffi`, or takes the file that the
-//! environment variable `BSP29_LIBRARY` names.
+//! outside the file. The crate `bsp29-sys` below this one finds the library: the one that
+//! `rt staticlib ffi` has made, or the file that the environment variable `BSP29_LIBRARY` names.
 //!
 //! Every NaN that a call answers is the same one, 0x7fc00000.
 //!
@@ -27,10 +27,10 @@
 //! # Ok::<(), Box<dyn std::error::Error>>(())
 //! ```
 //!
-//! Where [`accept`](Map::accept) passes on a map that was loaded, contents and traces in every hull of every
+//! Where [`accept`](MapOf::accept) passes on a map that was loaded, contents and traces in every hull of every
 //! model, leaf lookups and the visibility of every leaf are answered, whatever the floats, with a leaf count
 //! up to the number of leaves. A hull made by hand with another root wants
-//! [`tree_check`](Map::tree_check) first.
+//! [`tree_check`](MapOf::tree_check) first.
 //!
 //! - [`Map`]: a map, and the questions that it answers
 //! - [`Ordered`]: the nodes of a tree in walking order, and walks and traces by them
@@ -52,16 +52,18 @@ mod made;
 mod map;
 mod records;
 mod refusal;
+mod section;
 mod sizes;
 mod words;
 
-pub use hull::{Hull, LineTrace, NodeTable, Trace, TraceEnd};
+pub use hull::{BoxHull, Hull, LineTrace, NodeTable, Trace, TraceEnd};
 pub use made::{made_up, made_up_into};
-pub use map::{Map, Ordered};
+pub use map::{Map, MapOf, Ordered};
 pub use records::{
     ClipChild, ClipNode, Contents, ContentsSet, Direction, Edge, EdgeListEntry, Face,
-    FaceListEntry, FrameGroup, Leaf, Model, Plane, PlaneKind, Record, Records, RenderChild,
-    RenderNode, Side, Sounds, Texture, TextureInfo, Vertex,
+    FaceListEntry, FrameGroup, Leaf, Model, Plane, PlaneKind, Record, RecordIter, RecordValues,
+    Records, RenderChild, RenderNode, Side, Sounds, Texture, TextureInfo, Vertex,
 };
 pub use refusal::Refusal;
+pub use section::Section;
 pub use sizes::{BodySizes, Bounds};

@@ -2,12 +2,8 @@
 
 use crate::hull::both;
 use crate::records::*;
-use crate::{ffi, BodySizes, Hull, LineTrace, NodeTable, Refusal, Trace};
-
-/// The sections whose sizes are looked at here.
-const VISIBILITY: u32 = 4;
-const RENDER_NODES: u32 = 5;
-const CLIP_NODES: u32 = 9;
+use crate::{ffi, BodySizes, Hull, LineTrace, NodeTable, Refusal, Section, Trace};
+use std::fmt;
 
 /// The most bytes that visibility data may have.
 const MOST_VISIBILITY: usize = 1_048_576;
@@ -22,12 +18,17 @@ const MOST_NODES: usize = 32_767;
 /// The most points that are asked at once.
 const MOST_POINTS: usize = 1_024;
 
-/// A map over the bytes of its file, which it borrows and never copies.
+/// A map over bytes that someone else holds: what [`Map::load`](MapOf::load) of a slice gives. It can be
+/// copied, and it asks for no memory.
+pub type Map<'a> = MapOf<&'a [u8]>;
+
+/// A map over the bytes of its file, in whatever holds them: a slice ([`Map`]), `Vec<u8>`, `Box<[u8]>`,
+/// `Arc<[u8]>`, a file that is mapped into memory. It never copies them.
 ///
 /// Whatever the bytes are, no call crashes, hangs or reads outside them. Ask whether a map from a
-/// stranger may be played ([`accept`](Map::accept)) before it is: then every question to it is answered.
+/// stranger may be played ([`accept`](MapOf::accept)) before it is: then every question to it is answered.
 ///
-/// A call needs at most some 574,000 bytes of stack (measured, not proved; `include/bsp29.h` says of
+/// A call needs at most some 607,000 bytes of stack (measured, not proved; `include/bsp29.h` says of
 /// which call).
 ///
 /// ```
@@ -39,13 +40,52 @@ const MOST_POINTS: usize = 1_024;
 /// assert_eq!(trace.end, [-24.0, 64.0, 0.0]);
 /// # Ok::<(), bsp29::Refusal>(())
 /// ```
-#[derive(Copy, Clone, Debug)]
-pub struct Map<'a> {
-    file: &'a [u8],
+///
+/// A struct that holds the file and its map, which any thread may ask:
+///
+/// ```
+/// use bsp29::{Hull, MapOf, Refusal};
+/// use std::sync::Arc;
+///
+/// struct Level {
+///     map: MapOf<Arc<[u8]>>,
+///     player: Hull,
+/// }
+///
+/// impl Level {
+///     fn new(file: Arc<[u8]>) -> Result<Level, Refusal> {
+///         let map = MapOf::load(file)?;
+///         map.accept()?;
+///         Ok(Level { player: map.hull(0, 1)?, map })
+///     }
+/// }
+///
+/// # let bytes = std::fs::read(concat!(env!("CARGO_MANIFEST_DIR"), "/../../maps/rooms.bsp")).unwrap();
+/// let level = Arc::new(Level::new(bytes.into())?);
+/// let theirs = Arc::clone(&level);
+/// let there = std::thread::spawn(move || theirs.map.contents(&theirs.player, [-64.0, 0.0, 0.0]));
+/// assert_eq!(there.join().unwrap(), level.map.contents(&level.player, [-64.0, 0.0, 0.0]));
+/// # Ok::<(), Refusal>(())
+/// ```
+#[derive(Copy, Clone)]
+pub struct MapOf<B> {
+    file: B,
     words: ffi::MapWords,
 }
 
-impl<'a> Map<'a> {
+/// The size of the file and the map record; not the file.
+impl<B: AsRef<[u8]>> fmt::Debug for MapOf<B> {
+    fn fmt(&self, f: &mut fmt::Formatter<'_>) -> fmt::Result {
+        let mut shown = f.debug_struct("Map");
+        shown.field("bytes", &self.file().len());
+        for (section, part) in Section::ALL.iter().zip(self.words.chunks(2)) {
+            shown.field(section.name(), &(part[0], part[1]));
+        }
+        shown.field("texture count", &self.texture_count()).finish()
+    }
+}
+
+impl<B: AsRef<[u8]>> MapOf<B> {
     /// Loads a file: reads and tests all that the other calls rely on. Refuses with 1 to 15, the first
     /// that is met in the file's order.
     ///
@@ -54,22 +94,27 @@ impl<'a> Map<'a> {
     /// (docs/PERFORMANCE.md). Limit the size of the files that you load.
     ///
     /// ```
-    /// use bsp29::{Map, Refusal};
+    /// use bsp29::{Map, MapOf, Refusal};
     ///
     /// # let file = std::fs::read(concat!(env!("CARGO_MANIFEST_DIR"), "/../../maps/rooms.bsp")).unwrap();
     /// let map = Map::load(&file)?;
     /// assert_eq!(map.leaves().len(), 6);
     ///
     /// assert_eq!(Map::load(&[28, 0, 0, 0]).unwrap_err(), Refusal::UnsupportedVersion);
+    ///
+    /// // one that owns its file
+    /// let map: MapOf<Vec<u8>> = MapOf::load(file)?;
+    /// assert_eq!(map.leaves().len(), 6);
     /// # Ok::<(), Refusal>(())
     /// ```
-    pub fn load(file: &'a [u8]) -> Result<Map<'a>, Refusal> {
-        ffi::load(file).map(|words| Map { file, words })
+    pub fn load(file: B) -> Result<MapOf<B>, Refusal> {
+        let words = ffi::load(file.as_ref())?;
+        Ok(MapOf { file, words })
     }
 
-    /// The map of a file and a map record: one that [`words`](Map::words) gave for the same bytes, so
+    /// The map of a file and a map record: one that [`words`](MapOf::words) gave for the same bytes, so
     /// that they are not tested again, or one made by hand. A map record that leads astray makes calls
-    /// refuse with 23 and nothing worse.
+    /// refuse with 23 and nothing worse, and so do bytes that are no longer those that were loaded.
     ///
     /// ```
     /// use bsp29::{Map, Refusal};
@@ -83,8 +128,39 @@ impl<'a> Map<'a> {
     /// assert_eq!(astray.planes().get(0), Err(Refusal::Unreadable));
     /// # Ok::<(), Refusal>(())
     /// ```
-    pub fn from_words(file: &'a [u8], words: [u32; 31]) -> Map<'a> {
-        Map { file, words }
+    pub fn from_words(file: B, words: [u32; 31]) -> MapOf<B> {
+        MapOf { file, words }
+    }
+
+    /// The same map over these bytes as a slice, for what takes a [`Map`].
+    ///
+    /// ```
+    /// use bsp29::{Map, MapOf, Refusal};
+    ///
+    /// fn door(map: &Map) -> Result<usize, Refusal> {
+    ///     Ok(map.models().get(1)?.leaf)
+    /// }
+    ///
+    /// # let file = std::fs::read(concat!(env!("CARGO_MANIFEST_DIR"), "/../../maps/rooms.bsp")).unwrap();
+    /// let map = MapOf::load(file)?;
+    /// assert_eq!(door(&map.lent())?, 4);
+    /// # Ok::<(), Refusal>(())
+    /// ```
+    pub fn lent(&self) -> Map<'_> {
+        MapOf { file: self.file(), words: self.words }
+    }
+
+    /// What holds the bytes of the file.
+    ///
+    /// ```
+    /// # let file = std::fs::read(concat!(env!("CARGO_MANIFEST_DIR"), "/../../maps/rooms.bsp")).unwrap();
+    /// let map = bsp29::MapOf::load(file)?;
+    /// let file: Vec<u8> = map.into_file();
+    /// assert_eq!(file[0], 29);
+    /// # Ok::<(), bsp29::Refusal>(())
+    /// ```
+    pub fn into_file(self) -> B {
+        self.file
     }
 
     /// The map record: offset and size of each section in the file's order, then the texture count.
@@ -107,8 +183,8 @@ impl<'a> Map<'a> {
     /// assert_eq!(map.file().len(), 193);
     /// # Ok::<(), bsp29::Refusal>(())
     /// ```
-    pub fn file(&self) -> &'a [u8] {
-        self.file
+    pub fn file(&self) -> &[u8] {
+        self.file.as_ref()
     }
 
     /// How many textures the file says it has, absent ones counted.
@@ -123,23 +199,23 @@ impl<'a> Map<'a> {
         self.words[30] as usize
     }
 
-    /// How many records the section of a number has; 0 where there is none of the number.
-    pub(crate) fn count(&self, section: u32) -> usize {
-        ffi::count(&self.words, section).map_or(0, |count| count as usize)
+    /// How many records a section has.
+    pub(crate) fn count(&self, section: Section) -> usize {
+        count(&self.words, section.number())
     }
 
     /// How many nodes a table has.
     fn nodes(&self, table: NodeTable) -> usize {
         match table {
-            NodeTable::Render => self.count(RENDER_NODES),
-            NodeTable::Clip => self.count(CLIP_NODES),
+            NodeTable::Render => self.count(Section::RenderNodes),
+            NodeTable::Clip => self.count(Section::ClipNodes),
             NodeTable::Box => 6,
         }
     }
 }
 
 /// The tables.
-impl Map<'_> {
+impl<B: AsRef<[u8]>> MapOf<B> {
     /// The planes.
     ///
     /// ```
@@ -150,7 +226,7 @@ impl Map<'_> {
     /// # Ok::<(), bsp29::Refusal>(())
     /// ```
     pub fn planes(&self) -> Records<'_, Plane> {
-        Records::new(self)
+        Records::new(self.file(), &self.words)
     }
 
     /// The vertices.
@@ -162,7 +238,7 @@ impl Map<'_> {
     /// # Ok::<(), bsp29::Refusal>(())
     /// ```
     pub fn vertices(&self) -> Records<'_, Vertex> {
-        Records::new(self)
+        Records::new(self.file(), &self.words)
     }
 
     /// The render nodes.
@@ -178,7 +254,7 @@ impl Map<'_> {
     /// # Ok::<(), bsp29::Refusal>(())
     /// ```
     pub fn render_nodes(&self) -> Records<'_, RenderNode> {
-        Records::new(self)
+        Records::new(self.file(), &self.words)
     }
 
     /// The number in the file of the frame at a place of a group, by the new number of an animated
@@ -208,7 +284,7 @@ impl Map<'_> {
             FrameGroup::Primary => 0,
             FrameGroup::Alternate => 1,
         };
-        ffi::texture_frame(self.file, &self.words, number as u64, group, place as u64)
+        ffi::texture_frame(self.file(), &self.words, number as u64, group, place as u64)
             .map(|n| n as usize)
     }
 
@@ -223,11 +299,11 @@ impl Map<'_> {
     /// # Ok::<(), bsp29::Refusal>(())
     /// ```
     pub fn texture_static(&self, number: usize) -> Result<usize, Refusal> {
-        ffi::texture_static(self.file, &self.words, number as u64).map(|n| n as usize)
+        ffi::texture_static(self.file(), &self.words, number as u64).map(|n| n as usize)
     }
 
     /// The texture of a number in the file, none where it is absent. Refuses with 20, a number at or
-    /// past [`texture_count`](Map::texture_count); then 23, an offset or header that loading refuses.
+    /// past [`texture_count`](MapOf::texture_count); then 23, an offset or header that loading refuses.
     ///
     /// ```
     /// # let file = std::fs::read(concat!(env!("CARGO_MANIFEST_DIR"), "/../../maps/rooms.bsp")).unwrap();
@@ -239,7 +315,7 @@ impl Map<'_> {
     /// # Ok::<(), Refusal>(())
     /// ```
     pub fn texture(&self, index: usize) -> Result<Option<Texture>, Refusal> {
-        ffi::texture(self.file, &self.words, index as u64).map(|words| Texture::of(&words))
+        ffi::texture(self.file(), &self.words, index as u64).map(|words| Texture::of(&words))
     }
 
     /// The texture infos.
@@ -251,7 +327,7 @@ impl Map<'_> {
     /// # Ok::<(), bsp29::Refusal>(())
     /// ```
     pub fn texture_infos(&self) -> Records<'_, TextureInfo> {
-        Records::new(self)
+        Records::new(self.file(), &self.words)
     }
 
     /// The faces.
@@ -263,7 +339,7 @@ impl Map<'_> {
     /// # Ok::<(), bsp29::Refusal>(())
     /// ```
     pub fn faces(&self) -> Records<'_, Face> {
-        Records::new(self)
+        Records::new(self.file(), &self.words)
     }
 
     /// The clip nodes.
@@ -277,7 +353,7 @@ impl Map<'_> {
     /// # Ok::<(), bsp29::Refusal>(())
     /// ```
     pub fn clip_nodes(&self) -> Records<'_, ClipNode> {
-        Records::new(self)
+        Records::new(self.file(), &self.words)
     }
 
     /// The leaves.
@@ -290,7 +366,7 @@ impl Map<'_> {
     /// # Ok::<(), bsp29::Refusal>(())
     /// ```
     pub fn leaves(&self) -> Records<'_, Leaf> {
-        Records::new(self)
+        Records::new(self.file(), &self.words)
     }
 
     /// The face list: the faces of the leaves.
@@ -302,7 +378,7 @@ impl Map<'_> {
     /// # Ok::<(), bsp29::Refusal>(())
     /// ```
     pub fn face_list(&self) -> Records<'_, FaceListEntry> {
-        Records::new(self)
+        Records::new(self.file(), &self.words)
     }
 
     /// The edges.
@@ -314,7 +390,7 @@ impl Map<'_> {
     /// # Ok::<(), bsp29::Refusal>(())
     /// ```
     pub fn edges(&self) -> Records<'_, Edge> {
-        Records::new(self)
+        Records::new(self.file(), &self.words)
     }
 
     /// The edge list: the edges of the faces, each with its direction.
@@ -329,7 +405,7 @@ impl Map<'_> {
     /// # Ok::<(), bsp29::Refusal>(())
     /// ```
     pub fn edge_list(&self) -> Records<'_, EdgeListEntry> {
-        Records::new(self)
+        Records::new(self.file(), &self.words)
     }
 
     /// The models.
@@ -343,12 +419,12 @@ impl Map<'_> {
     /// # Ok::<(), bsp29::Refusal>(())
     /// ```
     pub fn models(&self) -> Records<'_, Model> {
-        Records::new(self)
+        Records::new(self.file(), &self.words)
     }
 }
 
 /// The entity text.
-impl<'a> Map<'a> {
+impl<B: AsRef<[u8]>> MapOf<B> {
     /// The bytes of the entity text: a part of the file, from its section's offset through the first
     /// zero byte or to the file's end. Of a map that was loaded it is the section, at most 65,536 bytes;
     /// on a map record made by hand it may be of any length, and it refuses with 23 where a section that
@@ -360,10 +436,10 @@ impl<'a> Map<'a> {
     /// assert_eq!(map.entities()?, [0]);
     /// # Ok::<(), bsp29::Refusal>(())
     /// ```
-    pub fn entities(&self) -> Result<&'a [u8], Refusal> {
-        let [at, length] = ffi::entities(self.file, &self.words)?.map(|word| word as usize);
+    pub fn entities(&self) -> Result<&[u8], Refusal> {
+        let [at, length] = ffi::entities(self.file(), &self.words)?.map(|word| word as usize);
         // an empty text may lie past the file's end
-        Ok(self.file.get(at..at.saturating_add(length)).unwrap_or(&[]))
+        Ok(self.file().get(at..at.saturating_add(length)).unwrap_or(&[]))
     }
 
     /// The entity text without its zero byte. Refuses with 23 or 9 on a map record made by hand.
@@ -374,7 +450,7 @@ impl<'a> Map<'a> {
     /// assert!(map.entity_text()?.contains("\"classname\" \"worldspawn\""));
     /// # Ok::<(), bsp29::Refusal>(())
     /// ```
-    pub fn entity_text(&self) -> Result<&'a str, Refusal> {
+    pub fn entity_text(&self) -> Result<&str, Refusal> {
         let bytes = self.entities()?;
         let text = std::str::from_utf8(bytes.strip_suffix(&[0]).unwrap_or(bytes));
         text.map_err(|_| Refusal::EntityTextNotUtf8)
@@ -382,7 +458,7 @@ impl<'a> Map<'a> {
 }
 
 /// Hulls, points and segments.
-impl Map<'_> {
+impl<B: AsRef<[u8]>> MapOf<B> {
     /// A hull of a model: 0 for points, 1 for a player, 2 for larger ones. Refuses with 20 for a hull
     /// above 2 or a model outside its table, and with 23 on a map record made by hand where the model's
     /// own record cannot be read; the models before it are not looked at.
@@ -393,32 +469,32 @@ impl Map<'_> {
     ///
     /// let map = bsp29::Map::load(&file)?;
     /// let hull = map.hull(0, 1)?;
-    /// assert_eq!(hull.table, NodeTable::Clip);
-    /// assert_eq!(hull.mins, [-16.0, -16.0, -24.0]);
-    /// assert_eq!((hull.nodes, hull.height), (0, 0));
+    /// assert_eq!(hull.table(), NodeTable::Clip);
+    /// assert_eq!(hull.mins(), [-16.0, -16.0, -24.0]);
+    /// assert_eq!((hull.nodes(), hull.height()), (0, 0));
     /// assert_eq!(map.hull(0, 3), Err(Refusal::NoSuchRecord));
     /// # Ok::<(), Refusal>(())
     /// ```
     pub fn hull(&self, model: usize, index: usize) -> Result<Hull, Refusal> {
-        ffi::hull(self.file, &self.words, model as u64, index as u64).map(|words| Hull::of(&words))
+        ffi::hull(self.file(), &self.words, model as u64, index as u64).map(Hull::from_words)
     }
 
     /// The same with a hall's own body sizes: `mins` and `maxs` of hulls 1 and 2 are theirs, hull 0 has
-    /// zeros still, and everything else is as in [`hull`](Map::hull), its refusals too. Contents, leaves and
+    /// zeros still, and everything else is as in [`hull`](MapOf::hull), its refusals too. Contents, leaves and
     /// traces do not depend on the sizes. Sizes made by hand are taken as they are.
     ///
     /// ```
     /// # let maps = concat!(env!("CARGO_MANIFEST_DIR"), "/../../maps");
     /// # let bytes = std::fs::read(format!("{maps}/hall.sizes")).unwrap();
     /// # let file = std::fs::read(format!("{maps}/rooms.bsp")).unwrap();
-    /// use bsp29::{BodySizes, Hull, Refusal};
+    /// use bsp29::{BodySizes, Refusal};
     ///
     /// let map = bsp29::Map::load(&file)?;
     /// let sizes = BodySizes::parse(&bytes)?;
     /// let hull = map.hull_with(&sizes, 0, 2)?;
     /// let (mins, maxs) = (sizes.hull_2.mins, sizes.hull_2.maxs);
-    /// assert_eq!(hull, Hull { mins, maxs, ..map.hull(0, 2)? });
-    /// assert_eq!(map.hull_with(&sizes, 0, 0)?.maxs, [0.0; 3]);
+    /// assert_eq!(hull, map.hull(0, 2)?.with_bounds(mins, maxs));
+    /// assert_eq!(map.hull_with(&sizes, 0, 0)?.maxs(), [0.0; 3]);
     /// assert_eq!(map.hull_with(&sizes, 0, 3), Err(Refusal::NoSuchRecord));
     /// # Ok::<(), Refusal>(())
     /// ```
@@ -428,8 +504,8 @@ impl Map<'_> {
         model: usize,
         index: usize,
     ) -> Result<Hull, Refusal> {
-        ffi::hull_sized(self.file, &self.words, &sizes.words(), model as u64, index as u64)
-            .map(|words| Hull::of(&words))
+        ffi::hull_sized(self.file(), &self.words, &sizes.words(), model as u64, index as u64)
+            .map(Hull::from_words)
     }
 
     /// What is at a point of a hull, and how many nodes were entered.
@@ -446,15 +522,15 @@ impl Map<'_> {
     /// # Ok::<(), bsp29::Refusal>(())
     /// ```
     pub fn contents(&self, hull: &Hull, point: [f32; 3]) -> Result<(Contents, u64), Refusal> {
-        ffi::contents(self.file, &self.words, &hull.words(), &point)
+        ffi::contents(self.file(), &self.words, hull.words(), &point)
             .map(|[code, visits]| (Contents::of(code), visits))
     }
 
     /// What is at each of up to 1,024 points of a hull, in their order, and how often a node was read:
     /// once for all points that come to it the same way. From a root that passed
-    /// [`tree_check`](Map::tree_check) that is the number of different nodes that the points meet.
+    /// [`tree_check`](MapOf::tree_check) that is the number of different nodes that the points meet.
     ///
-    /// Where every point is answered, each answer is that of [`contents`](Map::contents); else this
+    /// Where every point is answered, each answer is that of [`contents`](MapOf::contents); else this
     /// refuses as `contents` does of the first point that it refuses. More than 1,024 points are 24,
     /// before everything else. No points: no reads, and no refusal for the root.
     ///
@@ -481,7 +557,7 @@ impl Map<'_> {
         let mut codes = vec![0; points.len().min(MOST_POINTS)];
         let floats = points.concat();
         let reads =
-            ffi::contents_points(self.file, &self.words, &hull.words(), &floats, &mut codes)?;
+            ffi::contents_points(self.file(), &self.words, hull.words(), &floats, &mut codes)?;
         Ok((codes.into_iter().map(|code| Contents::of(code as u64)).collect(), reads))
     }
 
@@ -509,7 +585,7 @@ impl Map<'_> {
     /// # Ok::<(), bsp29::Refusal>(())
     /// ```
     pub fn find_leaf_from(&self, root: usize, point: [f32; 3]) -> Result<(usize, u64), Refusal> {
-        ffi::find_leaf(self.file, &self.words, root as u64, &point)
+        ffi::find_leaf(self.file(), &self.words, root as u64, &point)
             .map(|[leaf, visits]| (leaf as usize, visits))
     }
 
@@ -523,9 +599,9 @@ impl Map<'_> {
     ///
     /// Tracing on from a terminal end to the same segment's end may stand still, as the last example
     /// shows: a caller who does so in a loop must stop where the end does not move. What a whole shot
-    /// meets is what [`trace_line`](Map::trace_line) answers.
+    /// meets is what [`trace_line`](MapOf::trace_line) answers.
     ///
-    /// From a root that passed [`tree_check`](Map::tree_check) it enters no node twice. Over other
+    /// From a root that passed [`tree_check`](MapOf::tree_check) it enters no node twice. Over other
     /// nodes it ends too, but it may take long.
     ///
     /// ```
@@ -556,7 +632,7 @@ impl Map<'_> {
     /// # Ok::<(), bsp29::Refusal>(())
     /// ```
     pub fn trace(&self, hull: &Hull, start: [f32; 3], end: [f32; 3]) -> Result<Trace, Refusal> {
-        ffi::trace(self.file, &self.words, &hull.words(), &both(start, end))
+        ffi::trace(self.file(), &self.words, hull.words(), &both(start, end))
             .map(|words| Trace::of(&words))
     }
 
@@ -564,7 +640,7 @@ impl Map<'_> {
     /// Software's `world.c`. The fraction is along the whole line; an impact lies 0.03125 before its
     /// plane, on the side that the line came from.
     ///
-    /// On a map that was loaded, from a root that passed [`tree_check`](Map::tree_check), it is never
+    /// On a map that was loaded, from a root that passed [`tree_check`](MapOf::tree_check), it is never
     /// refused. Time: a step a node that the line goes through, and at each plane that it crosses a look
     /// for contents, at most as many steps as the tree is high.
     ///
@@ -590,11 +666,11 @@ impl Map<'_> {
         start: [f32; 3],
         end: [f32; 3],
     ) -> Result<LineTrace, Refusal> {
-        ffi::trace_line(self.file, &self.words, &hull.words(), &both(start, end))
+        ffi::trace_line(self.file(), &self.words, hull.words(), &both(start, end))
             .map(|words| LineTrace::of(&words))
     }
 
-    /// The nodes that [`contents`](Map::contents) enters, in order.
+    /// The nodes that [`contents`](MapOf::contents) enters, in order.
     ///
     /// ```
     /// # let file = std::fs::read(concat!(env!("CARGO_MANIFEST_DIR"), "/../../maps/rooms.bsp")).unwrap();
@@ -604,13 +680,13 @@ impl Map<'_> {
     /// # Ok::<(), bsp29::Refusal>(())
     /// ```
     pub fn contents_nodes(&self, hull: &Hull, point: [f32; 3]) -> Result<Vec<u32>, Refusal> {
-        let mut list = self.list(hull.table);
-        let count = ffi::contents_nodes(self.file, &self.words, &hull.words(), &point, &mut list)?;
+        let mut list = self.list(hull.table());
+        let count = ffi::contents_nodes(self.file(), &self.words, hull.words(), &point, &mut list)?;
         list.truncate(count as usize);
         Ok(list)
     }
 
-    /// The nodes that [`find_leaf_from`](Map::find_leaf_from) enters, in order.
+    /// The nodes that [`find_leaf_from`](MapOf::find_leaf_from) enters, in order.
     ///
     /// ```
     /// # let file = std::fs::read(concat!(env!("CARGO_MANIFEST_DIR"), "/../../maps/rooms.bsp")).unwrap();
@@ -620,14 +696,14 @@ impl Map<'_> {
     /// ```
     pub fn find_leaf_nodes(&self, root: usize, point: [f32; 3]) -> Result<Vec<u32>, Refusal> {
         let mut list = self.list(NodeTable::Render);
-        let count = ffi::find_leaf_nodes(self.file, &self.words, root as u64, &point, &mut list)?;
+        let count = ffi::find_leaf_nodes(self.file(), &self.words, root as u64, &point, &mut list)?;
         list.truncate(count as usize);
         Ok(list)
     }
 
-    /// The nodes that [`trace`](Map::trace) enters, in order. Refuses with 22 where they are more than
+    /// The nodes that [`trace`](MapOf::trace) enters, in order. Refuses with 22 where they are more than
     /// the table holds: some are entered twice then, and the root does not pass
-    /// [`tree_check`](Map::tree_check).
+    /// [`tree_check`](MapOf::tree_check).
     ///
     /// ```
     /// # let file = std::fs::read(concat!(env!("CARGO_MANIFEST_DIR"), "/../../maps/rooms.bsp")).unwrap();
@@ -644,7 +720,7 @@ impl Map<'_> {
         start: [f32; 3],
         end: [f32; 3],
     ) -> Result<Vec<u32>, Refusal> {
-        let mut list = self.list(hull.table);
+        let mut list = self.list(hull.table());
         let count = self.trace_nodes_into(hull, start, end, &mut list)?;
         list.truncate(count);
         Ok(list)
@@ -675,7 +751,7 @@ impl Map<'_> {
         list: &mut [u32],
     ) -> Result<usize, Refusal> {
         let segment = both(start, end);
-        ffi::trace_nodes(self.file, &self.words, &hull.words(), &segment, list)
+        ffi::trace_nodes(self.file(), &self.words, hull.words(), &segment, list)
             .map(|count| count as usize)
     }
 
@@ -686,7 +762,7 @@ impl Map<'_> {
 }
 
 /// Visibility and the tree check.
-impl Map<'_> {
+impl<B: AsRef<[u8]>> MapOf<B> {
     /// The leaves that can be seen from a leaf, lowest first. A byte of the row stands for eight
     /// leaves, from leaf 1 on, its lowest bit first; a zero byte and its follower n stand for 8 n leaves
     /// that are not seen. A byte is read while the number of its first leaf is below `leaf_count`; for a
@@ -732,16 +808,16 @@ impl Map<'_> {
         leaf_count: usize,
         list: &mut [u32],
     ) -> Result<usize, Refusal> {
-        ffi::pvs(self.file, &self.words, leaf as u64, leaf_count as u64, list)
+        ffi::pvs(self.file(), &self.words, leaf as u64, leaf_count as u64, list)
             .map(|count| count as usize)
     }
 
     /// The leaves that at least one of up to 16 players sees, from the players' leaves: lowest first and
-    /// each once. A leaf is listed exactly if [`visible_leaves`](Map::visible_leaves) lists it for one of
+    /// each once. A leaf is listed exactly if [`visible_leaves`](MapOf::visible_leaves) lists it for one of
     /// the players. No players see none.
     ///
     /// Refuses with 25 for more than 16 players, and then with the first refusal of
-    /// [`visible_leaves`](Map::visible_leaves) in the players' order.
+    /// [`visible_leaves`](MapOf::visible_leaves) in the players' order.
     ///
     /// ```
     /// # let file = std::fs::read(concat!(env!("CARGO_MANIFEST_DIR"), "/../../maps/rooms.bsp")).unwrap();
@@ -794,19 +870,19 @@ impl Map<'_> {
         for (leaf, number) in leaves.iter().zip(&mut asked) {
             *number = *leaf as u64;
         }
-        ffi::pvs_team(self.file, &self.words, &asked[..players], leaf_count as u64, list)
+        ffi::pvs_team(self.file(), &self.words, &asked[..players], leaf_count as u64, list)
             .map(|count| count as usize)
     }
 
     /// How many leaves a row lists at most: a byte of it 8, and the row lies in the visibility data.
     fn most_in_row(&self) -> usize {
-        8 * self.count(VISIBILITY).min(MOST_VISIBILITY).min(self.file.len())
+        8 * self.count(Section::Visibility).min(MOST_VISIBILITY).min(self.file().len())
     }
 
     /// The height of the tree from a root of a node table. Where it answers, every index in that tree
     /// is in range, no node is reached by two ways and none is deeper than 512: in a map that was
     /// loaded, every walk and trace from there is answered, whatever its floats, and enters no node
-    /// twice. It says nothing of other roots ([`find_leaf`](Map::find_leaf) starts at render node 0) and
+    /// twice. It says nothing of other roots ([`find_leaf`](MapOf::find_leaf) starts at render node 0) and
     /// nothing of visibility rows.
     ///
     /// Refuses with 30, 34, 32 or 23 at the first node that breaks this, front before back; before that
@@ -823,7 +899,7 @@ impl Map<'_> {
     /// ```
     pub fn tree_check(&self, table: NodeTable, root: usize) -> Result<usize, Refusal> {
         let mut marks: Vec<u8> = self.list(table);
-        ffi::tree_check(self.file, &self.words, table.number(), root as u64, &mut marks)
+        ffi::tree_check(self.file(), &self.words, table.number(), root as u64, &mut marks)
             .map(|height| height as usize)
     }
 
@@ -831,7 +907,7 @@ impl Map<'_> {
     /// [`nodes`](Hull::nodes) it has and its [`height`](Hull::height). A box keeps zeros. The other
     /// fields are those of the hull, and no other answer depends on the two.
     ///
-    /// Refuses as [`tree_check`](Map::tree_check) does.
+    /// Refuses as [`tree_check`](MapOf::tree_check) does.
     ///
     /// ```
     /// # let file = std::fs::read(concat!(env!("CARGO_MANIFEST_DIR"), "/../../maps/rooms.bsp")).unwrap();
@@ -839,21 +915,19 @@ impl Map<'_> {
     ///
     /// let map = Map::load(&file)?;
     /// let hull = map.hull(0, 1)?;
-    /// assert_eq!((hull.node_count, hull.nodes, hull.height), (32, 0, 0));
+    /// assert_eq!((hull.node_count(), hull.nodes(), hull.height()), (32, 0, 0));
     /// let checked = map.hull_check(&hull)?;
-    /// assert_eq!(checked, Hull { nodes: 11, height: 10, ..hull });
+    /// assert_eq!((checked.node_count(), checked.nodes(), checked.height()), (32, 11, 10));
     ///
-    /// let outside = Hull { root: 999, ..hull };
-    /// assert_eq!(map.hull_check(&outside), Err(Refusal::IndexOutsideTable));
+    /// assert_eq!(map.hull_check(&hull.with_root(999)), Err(Refusal::IndexOutsideTable));
     ///
     /// let bounds = Hull::for_bounds([-1.0; 3], [1.0; 3])?;
     /// assert_eq!(map.hull_check(&bounds)?, bounds);
     /// # Ok::<(), Refusal>(())
     /// ```
     pub fn hull_check(&self, hull: &Hull) -> Result<Hull, Refusal> {
-        let mut marks: Vec<u8> = self.list(hull.table);
-        ffi::hull_check(self.file, &self.words, &hull.words(), &mut marks)
-            .map(|words| Hull::of(&words))
+        let mut marks: Vec<u8> = self.list(hull.table());
+        ffi::hull_check(self.file(), &self.words, hull.words(), &mut marks).map(Hull::from_words)
     }
 
     /// Whether a map may go on the rota: one call before a stranger's map is played.
@@ -862,7 +936,7 @@ impl Map<'_> {
     /// the visibility row of every leaf, and the trees of hulls 0 to 2 of every model and of render node
     /// 0. Where it passes, every later question to a map that was loaded is answered: contents and
     /// traces in these hulls, leaf lookups, the same from any other root that passes
-    /// [`tree_check`](Map::tree_check), and the visibility of every leaf with a leaf count up to the
+    /// [`tree_check`](MapOf::tree_check), and the visibility of every leaf with a leaf count up to the
     /// number of leaves. On a map record made by hand such a question may still be refused with 23,
     /// where a record cannot be read, but never with 30 to 34.
     ///
@@ -888,7 +962,7 @@ impl Map<'_> {
             true => NodeTable::Clip,
             false => NodeTable::Render,
         };
-        ffi::accept(self.file, &self.words, &mut self.list::<u8>(larger))
+        ffi::accept(self.file(), &self.words, &mut self.list::<u8>(larger))
     }
 
     /// The contents that a point of a box may have, for one who is known only to be somewhere in it.
@@ -897,7 +971,7 @@ impl Map<'_> {
     /// contents alone. The set may also hold contents that no point of the box has.
     ///
     /// Refuses with 28 for a bound that is not finite or a minimum above its maximum, then as
-    /// [`tree_check`](Map::tree_check) does of the hull's root.
+    /// [`tree_check`](MapOf::tree_check) does of the hull's root.
     ///
     /// ```
     /// # let file = std::fs::read(concat!(env!("CARGO_MANIFEST_DIR"), "/../../maps/rooms.bsp")).unwrap();
@@ -918,22 +992,22 @@ impl Map<'_> {
         mins: [f32; 3],
         maxs: [f32; 3],
     ) -> Result<ContentsSet, Refusal> {
-        let mut marks: Vec<u8> = self.list(hull.table);
-        ffi::contents_box(self.file, &self.words, &hull.words(), &both(mins, maxs), &mut marks)
+        let mut marks: Vec<u8> = self.list(hull.table());
+        ffi::contents_box(self.file(), &self.words, hull.words(), &both(mins, maxs), &mut marks)
             .map(ContentsSet::of)
     }
 
     /// The nodes of a root's tree in walking order: the front child right after its parent, the back
     /// child after the whole front part. Contents and traces by them are those by the file.
     ///
-    /// Refuses as [`tree_check`](Map::tree_check) does; then with 23 for a leaf's record; a box has no
+    /// Refuses as [`tree_check`](MapOf::tree_check) does; then with 23 for a leaf's record; a box has no
     /// nodes in the file, and is refused with 20.
     ///
     /// ```
     /// # let file = std::fs::read(concat!(env!("CARGO_MANIFEST_DIR"), "/../../maps/rooms.bsp")).unwrap();
     /// let map = bsp29::Map::load(&file)?;
     /// let hull = map.hull(0, 1)?;
-    /// let ordered = map.order(hull.table, hull.root)?;
+    /// let ordered = map.order(hull.table(), hull.root())?;
     /// assert_eq!(ordered.nodes().len() % 3, 0);
     /// let (start, end) = ([-64.0, 64.0, 0.0], [64.0, 64.0, 0.0]);
     /// assert_eq!(ordered.contents(start)?, map.contents(&hull, start)?);
@@ -944,7 +1018,7 @@ impl Map<'_> {
         let mut marks: Vec<u8> = self.list(table);
         let mut list = vec![0; 3 * marks.len()];
         let asked = (table.number(), root as u64);
-        let nodes = ffi::order(self.file, &self.words, asked, &mut marks, &mut list)?;
+        let nodes = ffi::order(self.file(), &self.words, asked, &mut marks, &mut list)?;
         list.truncate(3 * nodes as usize);
         Ok(self.ordered(list))
     }
@@ -963,15 +1037,23 @@ impl Map<'_> {
     /// # Ok::<(), bsp29::Refusal>(())
     /// ```
     pub fn ordered(&self, nodes: Vec<i32>) -> Ordered<'_> {
-        Ordered { map: self, nodes }
+        Ordered { file: self.file(), words: &self.words, nodes }
     }
 }
 
-/// Nodes in walking order ([`Map::order`]), and walks and traces by them, with the map's planes.
-#[derive(Clone, Debug)]
+/// Nodes in walking order ([`Map::order`](MapOf::order)), and walks and traces by them, with the map's planes.
+#[derive(Clone)]
 pub struct Ordered<'a> {
-    map: &'a Map<'a>,
+    file: &'a [u8],
+    words: &'a ffi::MapWords,
     nodes: Vec<i32>,
+}
+
+/// The nodes; not the file.
+impl fmt::Debug for Ordered<'_> {
+    fn fmt(&self, f: &mut fmt::Formatter<'_>) -> fmt::Result {
+        f.debug_struct("Ordered").field("nodes", &self.nodes).finish_non_exhaustive()
+    }
 }
 
 impl Ordered<'_> {
@@ -981,16 +1063,16 @@ impl Ordered<'_> {
     }
 
     /// The contents at a point, from the first node on, and how many nodes were entered. As
-    /// [`Map::contents`]; of nodes that a caller made it refuses with 30, 31 and 23.
+    /// [`Map::contents`](MapOf::contents); of nodes that a caller made it refuses with 30, 31 and 23.
     pub fn contents(&self, point: [f32; 3]) -> Result<(Contents, u64), Refusal> {
-        ffi::order_contents(self.map.file, &self.map.words, &self.nodes, 0, &point)
+        ffi::order_contents(self.file, self.words, &self.nodes, 0, &point)
             .map(|[code, visits]| (Contents::of(code), visits))
     }
 
-    /// What a point meets that moves from `start` to `end`, from the first node on. As [`Map::trace`]; of
+    /// What a point meets that moves from `start` to `end`, from the first node on. As [`Map::trace`](MapOf::trace); of
     /// nodes that a caller made it refuses with 30, 32 and 23.
     pub fn trace(&self, start: [f32; 3], end: [f32; 3]) -> Result<Trace, Refusal> {
-        ffi::order_trace(self.map.file, &self.map.words, &self.nodes, 0, &both(start, end))
+        ffi::order_trace(self.file, self.words, &self.nodes, 0, &both(start, end))
             .map(|words| Trace::of(&words))
     }
 }

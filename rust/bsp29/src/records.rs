@@ -1,8 +1,11 @@
 //! The records of a map, in Rust's types, and the tables that give them by their index.
 
-use crate::words::{float, floats, offset, shorts};
-use crate::{ffi, Map, Refusal};
+use crate::words::{float, floats, offset, one_nan, shorts};
+use crate::{ffi, Refusal, Section};
+use std::fmt;
+use std::iter::FusedIterator;
 use std::marker::PhantomData;
+use std::ops::Range;
 
 /// The words of a record: those of the longest, a model, and zeros past those of a shorter one.
 type Words = [u64; 20];
@@ -21,6 +24,7 @@ type Words = [u64; 20];
 /// # Ok::<(), bsp29::Refusal>(())
 /// ```
 #[derive(Copy, Clone, Debug, PartialEq, Eq, Hash)]
+#[non_exhaustive]
 pub enum Contents {
     /// Nothing.
     Empty,
@@ -73,10 +77,18 @@ impl Contents {
         }
     }
 
-    /// The contents of a code. The library gives those of `code` alone; another would count as solid.
-    pub(crate) fn of(code: u64) -> Contents {
-        match code {
+    /// The contents of a code; none for another number than those of [`code`](Contents::code).
+    ///
+    /// ```
+    /// use bsp29::Contents;
+    ///
+    /// assert_eq!(Contents::from_code(6), Some(Contents::Sky));
+    /// assert_eq!(Contents::from_code(7), None);
+    /// ```
+    pub fn from_code(code: u32) -> Option<Contents> {
+        Some(match code {
             1 => Contents::Empty,
+            2 => Contents::Solid,
             3 => Contents::Water,
             4 => Contents::Slime,
             5 => Contents::Lava,
@@ -87,12 +99,45 @@ impl Contents {
             12 => Contents::Current270,
             13 => Contents::CurrentUp,
             14 => Contents::CurrentDown,
-            _ => Contents::Solid,
-        }
+            _ => return None,
+        })
+    }
+
+    /// The contents of a code that the library gave: it gives those of `code` alone, and another would
+    /// count as solid.
+    pub(crate) fn of(code: u64) -> Contents {
+        u32::try_from(code).ok().and_then(Contents::from_code).unwrap_or(Contents::Solid)
     }
 }
 
-/// A set of contents, as [`Map::contents_box`](crate::Map::contents_box) answers it.
+/// The name of the contents, in words.
+///
+/// ```
+/// use bsp29::Contents;
+///
+/// assert_eq!(Contents::Water.to_string(), "water");
+/// assert_eq!(Contents::Current270.to_string(), "current against y");
+/// ```
+impl fmt::Display for Contents {
+    fn fmt(&self, f: &mut fmt::Formatter<'_>) -> fmt::Result {
+        f.pad(match self {
+            Contents::Empty => "empty",
+            Contents::Solid => "solid",
+            Contents::Water => "water",
+            Contents::Slime => "slime",
+            Contents::Lava => "lava",
+            Contents::Sky => "sky",
+            Contents::Current0 => "current along x",
+            Contents::Current90 => "current along y",
+            Contents::Current180 => "current against x",
+            Contents::Current270 => "current against y",
+            Contents::CurrentUp => "current up",
+            Contents::CurrentDown => "current down",
+        })
+    }
+}
+
+/// A set of contents, as [`Map::contents_box`](crate::MapOf::contents_box) answers it.
 #[derive(Copy, Clone, Debug, PartialEq, Eq, Hash)]
 pub struct ContentsSet(u32);
 
@@ -151,6 +196,57 @@ impl Plane {
             _ => PlaneKind::Normal,
         };
         Plane { kind, normal: floats(words, at + 1), dist: float(words[at + 4]) }
+    }
+}
+
+/// What richter's `math.rs` has of a plane and a point. These functions are plain Rust and not among what
+/// is proved; `tests/richter.rs` holds them to stored answers of richter.
+impl Plane {
+    /// How far a point lies in front of the plane; negative behind it. Of an axis the other two
+    /// coordinates do not count.
+    ///
+    /// ```
+    /// # let file = std::fs::read(concat!(env!("CARGO_MANIFEST_DIR"), "/../../maps/rooms.bsp")).unwrap();
+    /// use bsp29::{Map, Side};
+    ///
+    /// let map = Map::load(&file)?;
+    /// let plane = map.planes().get(map.render_nodes().get(0)?.plane)?;
+    /// assert_eq!((plane.normal, plane.dist), ([1.0, 0.0, 0.0], 128.0));
+    /// assert_eq!(plane.point_dist([100.0, 7.0, 7.0]), -28.0);
+    /// assert_eq!(plane.point_side([100.0, 7.0, 7.0]), Side::Back);
+    /// assert_eq!(plane.point_side([128.0, 0.0, 0.0]), Side::Front);
+    /// # Ok::<(), bsp29::Refusal>(())
+    /// ```
+    pub fn point_dist(&self, point: [f32; 3]) -> f32 {
+        one_nan(self.along(point) - self.dist)
+    }
+
+    /// The side of the plane that a point is on: the front for one on it, the back for a NaN. Of an axis
+    /// it compares, so that an infinity equal to the distance is the front, whose
+    /// [`point_dist`](Plane::point_dist) is a NaN.
+    pub fn point_side(&self, point: [f32; 3]) -> Side {
+        let front = match self.kind {
+            PlaneKind::Normal => self.along(point) - self.dist >= 0.0,
+            _ => self.along(point) >= self.dist,
+        };
+        if front {
+            Side::Front
+        } else {
+            Side::Back
+        }
+    }
+
+    /// The product of a point and the normal.
+    fn along(&self, point: [f32; 3]) -> f32 {
+        match self.kind {
+            PlaneKind::X => point[0],
+            PlaneKind::Y => point[1],
+            PlaneKind::Z => point[2],
+            PlaneKind::Normal => {
+                let normal = self.normal;
+                point[0] * normal[0] + point[1] * normal[1] + point[2] * normal[2]
+            }
+        }
     }
 }
 
@@ -239,14 +335,14 @@ pub struct TextureInfo {
     pub t: [f32; 3],
     /// What is added to t.
     pub t_offset: f32,
-    /// The new number of the texture: [`Map::texture_static`](crate::Map::texture_static),
-    /// [`Map::texture_frame`](crate::Map::texture_frame).
+    /// The new number of the texture: [`Map::texture_static`](crate::MapOf::texture_static),
+    /// [`Map::texture_frame`](crate::MapOf::texture_frame).
     pub texture: usize,
     /// Whether the faces may extend over more than 2,000 units: sky and water.
     pub special: bool,
 }
 
-/// The side of its plane that a face is on.
+/// A side of a plane: that of a face, or of a point.
 #[derive(Copy, Clone, Debug, PartialEq, Eq, Hash)]
 pub enum Side {
     /// The side that the normal points to.
@@ -553,20 +649,25 @@ impl Sealed for Model {
 /// ```
 /// # let file = std::fs::read(concat!(env!("CARGO_MANIFEST_DIR"), "/../../maps/rooms.bsp")).unwrap();
 /// let map = bsp29::Map::load(&file)?;
-/// for leaf in map.leaves().iter() {
-///     println!("{:?}", leaf?.contents);
+/// for leaf in map.leaves() {
+///     println!("{}", leaf?.contents);
+/// }
+/// // of a map that was loaded none is refused
+/// for leaf in map.leaves().values() {
+///     println!("{}", leaf.contents);
 /// }
 /// # Ok::<(), bsp29::Refusal>(())
 /// ```
-#[derive(Copy, Clone, Debug)]
+#[derive(Copy, Clone)]
 pub struct Records<'m, R> {
-    map: &'m Map<'m>,
+    file: &'m [u8],
+    words: &'m ffi::MapWords,
     kind: PhantomData<R>,
 }
 
-impl<'m, R: Record + 'm> Records<'m, R> {
-    pub(crate) fn new(map: &'m Map<'m>) -> Records<'m, R> {
-        Records { map, kind: PhantomData }
+impl<'m, R: Record> Records<'m, R> {
+    pub(crate) fn new(file: &'m [u8], words: &'m ffi::MapWords) -> Records<'m, R> {
+        Records { file, words, kind: PhantomData }
     }
 
     /// How many there are.
@@ -578,7 +679,7 @@ impl<'m, R: Record + 'm> Records<'m, R> {
     /// # Ok::<(), bsp29::Refusal>(())
     /// ```
     pub fn len(&self) -> usize {
-        self.map.count(R::SECTION)
+        count(self.words, R::SECTION)
     }
 
     /// Whether there is none.
@@ -608,21 +709,165 @@ impl<'m, R: Record + 'm> Records<'m, R> {
     /// # Ok::<(), bsp29::Refusal>(())
     /// ```
     pub fn get(&self, index: usize) -> Result<R, Refusal> {
-        ffi::record(self.map.file(), self.map.words(), R::SECTION, index as u64)
-            .map(|words| R::of(&words))
+        ffi::record(self.file, self.words, R::SECTION, index as u64).map(|words| R::of(&words))
     }
 
-    /// Each record in order.
+    /// Each record in order, or from the last to the first with `rev`.
     ///
     /// ```
     /// # let file = std::fs::read(concat!(env!("CARGO_MANIFEST_DIR"), "/../../maps/rooms.bsp")).unwrap();
     /// let map = bsp29::Map::load(&file)?;
     /// let faces: Result<Vec<_>, _> = map.faces().iter().collect();
     /// assert_eq!(faces?[1].edge, 4);
+    /// let (last, number) = map.faces().iter().zip(0..).last().unwrap();
+    /// assert_eq!(map.faces().iter().rev().next(), Some(last));
+    /// assert_eq!(map.faces().iter().len(), number + 1);
     /// # Ok::<(), bsp29::Refusal>(())
     /// ```
-    pub fn iter(&self) -> impl Iterator<Item = Result<R, Refusal>> + 'm {
-        let records = Records { map: self.map, kind: PhantomData };
-        (0..self.len()).map(move |index| records.get(index))
+    pub fn iter(&self) -> RecordIter<'m, R> {
+        let records = Records { file: self.file, words: self.words, kind: PhantomData };
+        RecordIter { records, left: 0..self.len() }
+    }
+
+    /// The records of these indices, in order. Refuses with 20 where they are not all in the table.
+    ///
+    /// ```
+    /// # let file = std::fs::read(concat!(env!("CARGO_MANIFEST_DIR"), "/../../maps/rooms.bsp")).unwrap();
+    /// let map = bsp29::Map::load(&file)?;
+    /// let door = map.models().get(1)?;
+    /// let faces = map.faces().range(door.face..door.face + door.face_count)?;
+    /// assert_eq!(faces.len(), door.face_count);
+    /// assert!(map.faces().range(1..9999).is_err());
+    /// # Ok::<(), bsp29::Refusal>(())
+    /// ```
+    pub fn range(&self, indices: Range<usize>) -> Result<RecordIter<'m, R>, Refusal> {
+        if indices.start > indices.end || indices.end > self.len() {
+            return Err(Refusal::NoSuchRecord);
+        }
+        Ok(RecordIter { left: indices, ..self.iter() })
+    }
+
+    /// The records themselves, in order. Of a map that was loaded these are all of them; where a map
+    /// record made by hand leads astray, they end before the first that is refused.
+    ///
+    /// ```
+    /// # let file = std::fs::read(concat!(env!("CARGO_MANIFEST_DIR"), "/../../maps/rooms.bsp")).unwrap();
+    /// let map = bsp29::Map::load(&file)?;
+    /// assert_eq!(map.models().values().map(|model| model.face_count).sum::<usize>(), map.faces().len());
+    /// assert_eq!(map.vertices().values().rev().count(), map.vertices().len());
+    /// # Ok::<(), bsp29::Refusal>(())
+    /// ```
+    pub fn values(&self) -> RecordValues<'m, R> {
+        RecordValues { results: self.iter() }
     }
 }
+
+/// How many records the section of a number has; 0 where there is none of the number.
+pub(crate) fn count(words: &ffi::MapWords, section: u32) -> usize {
+    ffi::count(words, section).map_or(0, |count| count as usize)
+}
+
+/// The section and how many records it has; not the file.
+impl<R: Record> fmt::Debug for Records<'_, R> {
+    fn fmt(&self, f: &mut fmt::Formatter<'_>) -> fmt::Result {
+        let section = Section::from_number(R::SECTION).map_or("", Section::name);
+        f.debug_struct("Records").field("of", &section).field("len", &self.len()).finish()
+    }
+}
+
+impl<'m, R: Record> IntoIterator for Records<'m, R> {
+    type Item = Result<R, Refusal>;
+    type IntoIter = RecordIter<'m, R>;
+    fn into_iter(self) -> RecordIter<'m, R> {
+        self.iter()
+    }
+}
+
+impl<'m, R: Record> IntoIterator for &Records<'m, R> {
+    type Item = Result<R, Refusal>;
+    type IntoIter = RecordIter<'m, R>;
+    fn into_iter(self) -> RecordIter<'m, R> {
+        self.iter()
+    }
+}
+
+/// Records one after the other, each or why it is refused: of [`Records::iter`].
+#[derive(Clone)]
+pub struct RecordIter<'m, R> {
+    records: Records<'m, R>,
+    left: Range<usize>,
+}
+
+impl<R: Record> fmt::Debug for RecordIter<'_, R> {
+    fn fmt(&self, f: &mut fmt::Formatter<'_>) -> fmt::Result {
+        f.debug_struct("RecordIter").field("of", &self.records).field("left", &self.left).finish()
+    }
+}
+
+impl<R: Record> Iterator for RecordIter<'_, R> {
+    type Item = Result<R, Refusal>;
+    fn next(&mut self) -> Option<Self::Item> {
+        self.left.next().map(|index| self.records.get(index))
+    }
+    fn size_hint(&self) -> (usize, Option<usize>) {
+        self.left.size_hint()
+    }
+    fn nth(&mut self, n: usize) -> Option<Self::Item> {
+        self.left.nth(n).map(|index| self.records.get(index))
+    }
+}
+
+impl<R: Record> DoubleEndedIterator for RecordIter<'_, R> {
+    fn next_back(&mut self) -> Option<Self::Item> {
+        self.left.next_back().map(|index| self.records.get(index))
+    }
+    fn nth_back(&mut self, n: usize) -> Option<Self::Item> {
+        self.left.nth_back(n).map(|index| self.records.get(index))
+    }
+}
+
+impl<R: Record> ExactSizeIterator for RecordIter<'_, R> {}
+impl<R: Record> FusedIterator for RecordIter<'_, R> {}
+
+/// Records one after the other, up to the first that is refused: of [`Records::values`].
+#[derive(Clone)]
+pub struct RecordValues<'m, R> {
+    results: RecordIter<'m, R>,
+}
+
+impl<R: Record> fmt::Debug for RecordValues<'_, R> {
+    fn fmt(&self, f: &mut fmt::Formatter<'_>) -> fmt::Result {
+        f.debug_struct("RecordValues").field("of", &self.results).finish()
+    }
+}
+
+impl<R: Record> RecordValues<'_, R> {
+    /// The record of a result; after a refusal there is none.
+    fn value(&mut self, result: Option<Result<R, Refusal>>) -> Option<R> {
+        let value = result?.ok();
+        if value.is_none() {
+            self.results.left = 0..0;
+        }
+        value
+    }
+}
+
+impl<R: Record> Iterator for RecordValues<'_, R> {
+    type Item = R;
+    fn next(&mut self) -> Option<R> {
+        let result = self.results.next();
+        self.value(result)
+    }
+    fn size_hint(&self) -> (usize, Option<usize>) {
+        (0, Some(self.results.len()))
+    }
+}
+
+impl<R: Record> DoubleEndedIterator for RecordValues<'_, R> {
+    fn next_back(&mut self) -> Option<R> {
+        let result = self.results.next_back();
+        self.value(result)
+    }
+}
+
+impl<R: Record> FusedIterator for RecordValues<'_, R> {}

@@ -18,7 +18,7 @@ impl Bounds {
     }
 }
 
-/// A hall's own body sizes, which [`Map::hull_with`](crate::Map::hull_with) takes in place of the built-in
+/// A hall's own body sizes, which [`Map::hull_with`](crate::MapOf::hull_with) takes in place of the built-in
 /// ones. They may be made by hand.
 ///
 /// ```
@@ -30,7 +30,7 @@ impl Bounds {
 /// let sizes = BodySizes::parse(&bytes)?;
 /// let map = Map::load(&file)?;
 /// let hull = map.hull_with(&sizes, 0, 1)?;
-/// assert_eq!(hull.mins, [-20.0, -20.0, -30.0]);
+/// assert_eq!(hull.mins(), [-20.0, -20.0, -30.0]);
 ///
 /// // what is asked of a hull does not depend on them
 /// let point = [-64.0, 0.0, 0.0];

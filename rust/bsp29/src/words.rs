@@ -23,3 +23,12 @@ pub(crate) fn offset(word: u64) -> Option<usize> {
         Some(word as usize)
     }
 }
+
+/// A float as the library would answer it: every NaN is one.
+pub(crate) fn one_nan(x: f32) -> f32 {
+    if x.is_nan() {
+        f32::NAN
+    } else {
+        x
+    }
+}

@@ -57,19 +57,16 @@ fn ask(map: &Map, seed: &mut Seed) -> usize {
     answered += read_all(map.edge_list(), seed);
     answered += read_all(map.models(), seed);
     let _ = (map.entities(), map.entity_text(), map.texture_count());
-    let made = Hull {
-        table: [NodeTable::Render, NodeTable::Clip, NodeTable::Box][seed.below(3) as usize],
-        root: seed.number(),
-        node_count: seed.number(),
-        mins: seed.point(),
-        maxs: seed.point(),
-        nodes: seed.number(),
-        height: seed.number(),
-    };
+    let tables = [NodeTable::Render, NodeTable::Clip, NodeTable::Box];
+    let mut words = [0; 11].map(|_| seed.number() as u64);
+    words[0] = [seed.below(3), seed.below(9)][seed.below(2) as usize];
+    let made = Hull::new(tables[seed.below(3) as usize], seed.number());
+    let made = made.with_bounds(seed.point(), seed.point());
     let mut body = || Bounds { mins: seed.point(), maxs: seed.point() };
     let sizes = BodySizes { hull_1: body(), hull_2: body() };
     let hulls = [
         Ok(made),
+        Ok(Hull::from_words(words)),
         map.hull(0, seed.below(4) as usize),
         map.hull(seed.number(), 1),
         map.hull_with(&sizes, 0, seed.below(4) as usize),
@@ -82,8 +79,8 @@ fn ask(map: &Map, seed: &mut Seed) -> usize {
         answered += usize::from(map.trace(&hull, a, b).is_ok());
         answered += usize::from(map.trace_line(&hull, a, b).is_ok());
         answered += usize::from(map.trace_nodes(&hull, a, b).is_ok());
-        answered += usize::from(map.find_leaf_nodes(hull.root, a).is_ok());
-        answered += usize::from(map.tree_check(hull.table, hull.root).is_ok());
+        answered += usize::from(map.find_leaf_nodes(hull.root(), a).is_ok());
+        answered += usize::from(map.tree_check(hull.table(), hull.root()).is_ok());
         answered += usize::from(map.hull_check(&hull).is_ok());
     }
     answered += usize::from(map.find_leaf(seed.point()).is_ok());
@@ -104,17 +101,16 @@ fn passed(map: &Map, seed: &mut Seed) -> usize {
         let root = seed.below(25) as usize;
         let Ok(height) = map.tree_check(table, root) else { continue };
         passed += 1;
-        let (mins, maxs) = ([0.0; 3], [0.0; 3]);
-        let hull = Hull { table, root, node_count: 0, mins, maxs, nodes: 0, height: 0 };
+        let hull = Hull::new(table, root);
         let hull = map.hull_check(&hull).unwrap();
-        assert_eq!(hull.height, height);
+        assert_eq!(hull.height(), height);
         let (a, b) = (seed.point(), seed.point());
         assert!(map.contents(&hull, a).unwrap().1 <= height as u64);
         let mut nodes = map.trace_nodes(&hull, a, b).unwrap();
         assert_eq!(nodes.len() as u64, map.trace(&hull, a, b).unwrap().visits);
         nodes.sort_unstable();
         assert!(nodes.windows(2).all(|pair| pair[0] < pair[1]), "{nodes:?}");
-        assert!(nodes.len() <= hull.nodes);
+        assert!(nodes.len() <= hull.nodes());
     }
     passed
 }

@@ -28,14 +28,22 @@ fn children(map: &Map, table: NodeTable, index: usize) -> Vec<usize> {
 /// How many nodes the root's tree has, and how many levels.
 fn size(map: &Map, hull: &Hull) -> (usize, usize) {
     let mut tree = BTreeSet::new();
-    let mut level = BTreeSet::from([hull.root]);
+    let mut level = BTreeSet::from([hull.root()]);
     let mut height = 0;
     while !level.is_empty() {
         height += 1;
         tree.extend(level.iter().copied());
-        level = level.iter().flat_map(|&node| children(map, hull.table, node)).collect();
+        level = level.iter().flat_map(|&node| children(map, hull.table(), node)).collect();
     }
     (tree.len(), height)
+}
+
+/// The hull with this size of its tree.
+fn sized(hull: &Hull, nodes: usize, height: usize) -> Hull {
+    let mut words = *hull.words();
+    words[9] = nodes as u64;
+    words[10] = height as u64;
+    Hull::from_words(words)
 }
 
 #[test]
@@ -44,10 +52,10 @@ fn sizes_of_the_rooms() {
     let map = Map::load(&file).unwrap();
     for (model, index) in [(0, 0), (0, 1), (0, 2), (1, 0), (1, 1), (1, 2)] {
         let hull = map.hull(model, index).unwrap();
-        assert_eq!((hull.nodes, hull.height), (0, 0));
+        assert_eq!((hull.nodes(), hull.height()), (0, 0));
         let (nodes, height) = size(&map, &hull);
-        assert_eq!(map.hull_check(&hull), Ok(Hull { nodes, height, ..hull }));
-        assert_eq!(map.tree_check(hull.table, hull.root), Ok(height));
+        assert_eq!(map.hull_check(&hull), Ok(sized(&hull, nodes, height)));
+        assert_eq!(map.tree_check(hull.table(), hull.root()), Ok(height));
     }
 }
 
@@ -57,9 +65,9 @@ fn every_root_of_the_rooms() {
     let map = Map::load(&file).unwrap();
     let of_model = map.hull(0, 1).unwrap();
     for root in 0..map.clip_nodes().len() {
-        let hull = Hull { root, ..of_model };
+        let hull = of_model.with_root(root);
         let (nodes, height) = size(&map, &hull);
-        assert_eq!(map.hull_check(&hull), Ok(Hull { nodes, height, ..hull }));
+        assert_eq!(map.hull_check(&hull), Ok(sized(&hull, nodes, height)));
     }
 }
 
@@ -69,12 +77,12 @@ fn chains() {
     let map = Map::load(&file).unwrap();
     let hull = map.hull(0, 1).unwrap();
     let checked = map.hull_check(&hull).unwrap();
-    assert_eq!((checked.nodes, checked.height), (512, 512));
+    assert_eq!((checked.nodes(), checked.height()), (512, 512));
     let file = chain(513);
     let map = Map::load(&file).unwrap();
     assert_eq!(map.hull_check(&hull), Err(Refusal::TooDeep));
-    let checked = map.hull_check(&Hull { root: 1, ..hull }).unwrap();
-    assert_eq!((checked.nodes, checked.height), (512, 512));
+    let checked = map.hull_check(&hull.with_root(1)).unwrap();
+    assert_eq!((checked.nodes(), checked.height()), (512, 512));
 }
 
 #[test]
@@ -83,8 +91,8 @@ fn a_box_keeps_zeros() {
     let map = Map::load(&file).unwrap();
     let hull = Hull::for_bounds([-1.0; 3], [1.0; 3]).unwrap();
     assert_eq!(map.hull_check(&hull), Ok(hull));
-    assert_eq!(map.hull_check(&Hull { nodes: 6, height: 6, ..hull }), Ok(hull));
-    assert_eq!(map.hull_check(&Hull { root: 6, ..hull }), Err(Refusal::IndexOutsideTable));
+    assert_eq!(map.hull_check(&sized(&hull, 6, 6)), Ok(hull));
+    assert_eq!(map.hull_check(&hull.with_root(6)), Err(Refusal::IndexOutsideTable));
 }
 
 #[test]
@@ -98,7 +106,7 @@ fn refusals() {
     // the size of the clip nodes
     words[19] = u32::MAX;
     let map = Map::from_words(&file, words);
-    assert_eq!(map.hull_check(&Hull { root: 0, ..hull }), Err(Refusal::ListTooShort));
+    assert_eq!(map.hull_check(&hull.with_root(0)), Err(Refusal::ListTooShort));
 }
 
 #[test]
@@ -108,8 +116,7 @@ fn nothing_depends_on_the_size() {
     let (a, b) = ([-64.0, 64.0, 0.0], [64.0, 64.0, 0.0]);
     for index in 0..3 {
         let hull = map.hull(0, index).unwrap();
-        let others =
-            [map.hull_check(&hull).unwrap(), Hull { nodes: 1, height: usize::MAX, ..hull }];
+        let others = [map.hull_check(&hull).unwrap(), sized(&hull, 1, usize::MAX)];
         for other in others {
             assert_eq!(map.contents(&other, a), map.contents(&hull, a));
             assert_eq!(map.contents_nodes(&other, a), map.contents_nodes(&hull, a));

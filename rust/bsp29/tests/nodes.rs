@@ -41,10 +41,10 @@ fn node(map: &Map, table: NodeTable, index: usize) -> (Plane, Option<usize>, Opt
 /// The nodes on a point's way down.
 fn walk(map: &Map, hull: &Hull, point: [f32; 3]) -> Vec<u32> {
     let mut entered = Vec::new();
-    let mut next = Some(hull.root);
+    let mut next = Some(hull.root());
     while let Some(index) = next {
         entered.push(index as u32);
-        let (plane, front, back) = node(map, hull.table, index);
+        let (plane, front, back) = node(map, hull.table(), index);
         next = if in_front(&plane, point) { front } else { back };
     }
     entered
@@ -68,8 +68,8 @@ fn point_walks() {
             let expected = walk(&map, &hull, point);
             assert_eq!(map.contents_nodes(&hull, point).unwrap(), expected);
             assert_eq!(map.contents(&hull, point).unwrap().1, expected.len() as u64);
-            if hull.table == NodeTable::Render {
-                assert_eq!(map.find_leaf_nodes(hull.root, point).unwrap(), expected);
+            if hull.table() == NodeTable::Render {
+                assert_eq!(map.find_leaf_nodes(hull.root(), point).unwrap(), expected);
             }
         }
     }
@@ -84,10 +84,10 @@ fn traces() {
         for (start, end) in points().zip(points().skip(77)) {
             let nodes = map.trace_nodes(&hull, start, end).unwrap();
             assert_eq!(nodes.len() as u64, map.trace(&hull, start, end).unwrap().visits);
-            assert_eq!(nodes[0] as usize, hull.root);
+            assert_eq!(nodes[0] as usize, hull.root());
             for (at, &entered) in nodes.iter().enumerate().skip(1) {
                 let is_child = |&parent: &u32| {
-                    let (_, front, back) = node(&map, hull.table, parent as usize);
+                    let (_, front, back) = node(&map, hull.table(), parent as usize);
                     [front, back].contains(&Some(entered as usize))
                 };
                 assert!(nodes[..at].iter().any(is_child), "{nodes:?}");
@@ -126,7 +126,7 @@ fn a_table_above_its_limit_is_not_read() {
     // the size of the clip nodes
     words[19] = u32::MAX;
     let map = Map::from_words(&file, words);
-    let hull = Hull { root: 0, ..map.hull(0, 1).unwrap() };
+    let hull = map.hull(0, 1).unwrap().with_root(0);
     assert_eq!(map.contents_nodes(&hull, [0.0; 3]), Err(Refusal::Unreadable));
     assert_eq!(map.trace_nodes(&hull, [0.0; 3], [1.0; 3]), Err(Refusal::Unreadable));
     assert_eq!(map.tree_check(NodeTable::Clip, 0), Err(Refusal::ListTooShort));

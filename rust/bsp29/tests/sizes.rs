@@ -61,14 +61,14 @@ fn taken_as_they_are() {
     let odd = Bounds { mins: [9.0, f32::INFINITY, -0.0], maxs: [-9.0, 0.0, 0.0] };
     let sizes = BodySizes { hull_1: odd, hull_2: BUILT_IN.hull_2 };
     let hull = map.hull_with(&sizes, 1, 1).unwrap();
-    assert_eq!((hull.mins, hull.maxs), (odd.mins, odd.maxs));
-    assert!(hull.mins[2].is_sign_negative());
+    assert_eq!((hull.mins(), hull.maxs()), (odd.mins, odd.maxs));
+    assert!(hull.mins()[2].is_sign_negative());
     let plain = map.hull(1, 1).unwrap();
-    assert_eq!(Hull { mins: plain.mins, maxs: plain.maxs, ..hull }, plain);
+    assert_eq!(hull.with_bounds(plain.mins(), plain.maxs()), plain);
     let (start, end) = ([-64.0, 0.0, 0.0], [64.0, 0.0, 0.0]);
     assert_eq!(map.trace(&hull, start, end), map.trace(&plain, start, end));
     assert_eq!(map.contents(&hull, start), map.contents(&plain, start));
     let filled = map.hull_check(&hull).unwrap();
     let size = map.hull_check(&plain).unwrap();
-    assert_eq!((filled.nodes, filled.height), (size.nodes, size.height));
+    assert_eq!((filled.nodes(), filled.height()), (size.nodes(), size.height()));
 }

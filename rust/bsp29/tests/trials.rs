@@ -136,7 +136,7 @@ fn a_nan_is_answered_as_one_nan() {
         assert_eq!(trace.end[0].to_bits(), 0x7fc0_0000);
     });
     let hull = Hull::for_bounds([f32::NAN, 0.0, 0.0], [1.0; 3]).unwrap();
-    assert_eq!(hull.mins[0].to_bits(), 0x7fc0_0000);
+    assert_eq!(hull.mins()[0].to_bits(), 0x7fc0_0000);
 }
 
 #[test]
@@ -147,7 +147,7 @@ fn a_box_with_no_room_is_refused() {
 
 #[test]
 fn tree_checks() {
-    with_box(|map, hull| assert_eq!(map.tree_check(hull.table, hull.root), Ok(6)));
+    with_box(|map, hull| assert_eq!(map.tree_check(hull.table(), hull.root()), Ok(6)));
     // a node whose children are the same node
     let mut parts = Sections::smallest();
     parts.planes = vec![0; 20];
