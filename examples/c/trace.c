@@ -124,35 +124,6 @@ static void print_nodes(const struct map *map, const uint64_t *hull, const float
     free(list);
 }
 
-/* Whether a word is a number, all of it: digits, with a plus before them or none. */
-static int number_of(const char *word, uint64_t *number)
-{
-    const char *digits = word + (word[0] == '+');
-    errno = 0;
-    *number = strtoull(digits, NULL, 10);
-    return digits[0] != '\0' && strspn(digits, "0123456789") == strlen(digits) && errno == 0;
-}
-
-/* Whether a word is a float, all of it, as the program in Rust has it: decimal, inf or nan. */
-static int float_of(const char *word, float *value)
-{
-    char *end;
-    *value = strtof(word, &end);
-    return end != word && *end == '\0' && strspn(word, "+-.0123456789aefintyAEFINTY") == strlen(word);
-}
-
-/* The hull and the segment of the arguments; 0 where one of them is no number. */
-static int arguments(int argc, char **argv, uint64_t *hull, float *segment)
-{
-    int i;
-    if (argc != 9 || !number_of(argv[2], hull))
-        return 0;
-    for (i = 0; i < 6; i++)
-        if (!float_of(argv[3 + i], &segment[i]))
-            return 0;
-    return 1;
-}
-
 int main(int argc, char **argv)
 {
     struct map map;

@@ -32,13 +32,18 @@
 //! up to the number of leaves. A hull made by hand with another root wants
 //! [`tree_check`](MapOf::tree_check) first.
 //!
-//! - [`Map`]: a map, and the questions that it answers
+//! - [`Map`], [`MapOf`]: a map over a slice, and over whatever holds bytes, with the questions that it answers
 //! - [`Ordered`]: the nodes of a tree in walking order, and walks and traces by them
-//! - [`Records`] and the records: planes, leaves, models and the rest, by their index
-//! - [`Hull`], [`Trace`], [`LineTrace`]: what something moves in, and what it meets
+//! - [`Records`] and the records: planes, leaves, models and the rest, by their index or one after the other
+//! - [`Hull`], [`BoxHull`], [`Trace`], [`LineTrace`]: what something moves in, and what it meets
 //! - [`BodySizes`]: a hall's own sizes in place of the built-in ones
+//! - [`Entities`]: the entity text taken apart
 //! - [`made_up`]: maps that nobody drew, for load tests
 //! - [`Refusal`]: why a call is refused
+//!
+//! Proved are the calls of the library. What this crate adds is plain Rust, and tested: the conversion of
+//! words to its types, what richter's `phys.rs` and `math.rs` have of a trace and a plane, faces and models
+//! put together from their records, and the parser of the entity text.
 
 #![deny(unsafe_code, missing_docs)]
 #![forbid(unsafe_op_in_unsafe_fn)]
@@ -46,19 +51,24 @@
 #[cfg(not(all(target_arch = "x86_64", target_pointer_width = "64")))]
 compile_error!("the library is for x86-64");
 
+mod entities;
 mod ffi;
 mod hull;
 mod made;
 mod map;
+mod place;
 mod records;
 mod refusal;
 mod section;
 mod sizes;
+mod surfaces;
 mod words;
 
+pub use entities::{Entities, Entity, EntityError, EntityFault};
 pub use hull::{BoxHull, Hull, LineTrace, NodeTable, Trace, TraceEnd};
 pub use made::{made_up, made_up_into};
 pub use map::{Map, MapOf, Ordered};
+pub use place::LoadPlace;
 pub use records::{
     ClipChild, ClipNode, Contents, ContentsSet, Direction, Edge, EdgeListEntry, Face,
     FaceListEntry, FrameGroup, Leaf, Model, Plane, PlaneKind, Record, RecordIter, RecordValues,
@@ -67,3 +77,11 @@ pub use records::{
 pub use refusal::Refusal;
 pub use section::Section;
 pub use sizes::{BodySizes, Bounds};
+pub use surfaces::Lightmap;
+
+/// The version of this crate, which is that of the header and of the library that it was written for.
+///
+/// ```
+/// assert_eq!(bsp29::VERSION, "0.2.0");
+/// ```
+pub const VERSION: &str = env!("CARGO_PKG_VERSION");

@@ -6,7 +6,7 @@ use crate::{ffi, BodySizes, Hull, LineTrace, NodeTable, Refusal, Section, Trace}
 use std::fmt;
 
 /// The most bytes that visibility data may have.
-const MOST_VISIBILITY: usize = 1_048_576;
+pub(crate) const MOST_VISIBILITY: usize = 1_048_576;
 
 /// The most players of a team.
 const MOST_PLAYERS: usize = 16;
@@ -876,7 +876,8 @@ impl<B: AsRef<[u8]>> MapOf<B> {
 
     /// How many leaves a row lists at most: a byte of it 8, and the row lies in the visibility data.
     fn most_in_row(&self) -> usize {
-        8 * self.count(Section::Visibility).min(MOST_VISIBILITY).min(self.file().len())
+        let bytes = self.words[2 * Section::Visibility.number() as usize + 1] as usize;
+        8 * bytes.min(MOST_VISIBILITY).min(self.file().len())
     }
 
     /// The height of the tree from a root of a node table. Where it answers, every index in that tree

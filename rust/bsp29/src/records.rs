@@ -27,29 +27,29 @@ type Words = [u64; 20];
 #[non_exhaustive]
 pub enum Contents {
     /// Nothing.
-    Empty,
+    Empty = 1,
     /// Rock.
-    Solid,
+    Solid = 2,
     /// Water.
-    Water,
+    Water = 3,
     /// Slime.
-    Slime,
+    Slime = 4,
     /// Lava.
-    Lava,
+    Lava = 5,
     /// The sky of an open-air map. It is not solid: a trace goes through it.
-    Sky,
+    Sky = 6,
     /// Water that flows along x.
-    Current0,
+    Current0 = 9,
     /// Water that flows along y.
-    Current90,
+    Current90 = 10,
     /// Water that flows against x.
-    Current180,
+    Current180 = 11,
     /// Water that flows against y.
-    Current270,
+    Current270 = 12,
     /// Water that flows up.
-    CurrentUp,
+    CurrentUp = 13,
     /// Water that flows down.
-    CurrentDown,
+    CurrentDown = 14,
 }
 
 impl Contents {
@@ -61,20 +61,7 @@ impl Contents {
     /// assert_eq!(bsp29::Contents::Current0.code(), 9);
     /// ```
     pub fn code(self) -> u32 {
-        match self {
-            Contents::Empty => 1,
-            Contents::Solid => 2,
-            Contents::Water => 3,
-            Contents::Slime => 4,
-            Contents::Lava => 5,
-            Contents::Sky => 6,
-            Contents::Current0 => 9,
-            Contents::Current90 => 10,
-            Contents::Current180 => 11,
-            Contents::Current270 => 12,
-            Contents::CurrentUp => 13,
-            Contents::CurrentDown => 14,
-        }
+        self as u32
     }
 
     /// The contents of a code; none for another number than those of [`code`](Contents::code).
