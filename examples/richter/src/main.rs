@@ -152,6 +152,6 @@ fn main() -> ExitCode {
     };
     let file = tables(&mut Seed::named(28, "world"), &world).file(&Layout::plain());
     cases.push(Case { name: "a map of 10,000 nodes".into(), file, door: false, side: SIDE });
-    let same = cases.iter().fold(true, |same, case| run(case) && same);
-    ExitCode::from(u8::from(!same))
+    let differ = cases.iter().filter(|case| !run(case)).count();
+    ExitCode::from(u8::from(differ > 0))
 }

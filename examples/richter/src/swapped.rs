@@ -78,7 +78,7 @@ pub mod common {
                 min: vector(record.min),
                 max: vector(record.max),
                 origin: vector(record.origin),
-                hulls: [map.hull(index, 0)?, map.hull(index, 1)?, map.hull(index, 2)?],
+                hulls: Box::new([map.hull(index, 0)?, map.hull(index, 1)?, map.hull(index, 2)?]),
                 leaf_id: record.leaf,
                 leaf_count: record.leaf_count,
                 // a range outside the list, at which richter panics, has no faces
@@ -122,7 +122,7 @@ pub mod common {
             pub origin: Vector3<f32>,
             pub leaf_id: usize,
             pub leaf_count: usize,
-            hulls: [Hull; 3],
+            hulls: Box<[Hull; 3]>,
             face_list: Vec<usize>,
         }
 
