@@ -18,6 +18,7 @@ pub(crate) type SizesWords = [u64; SIZES_WORDS];
 pub(crate) type Segment = [f32; 6];
 
 /// What a call answered, once it says 0.
+#[inline]
 fn answered<T>(status: u32, value: T) -> Result<T, Refusal> {
     if status == 0 {
         Ok(value)
@@ -27,6 +28,7 @@ fn answered<T>(status: u32, value: T) -> Result<T, Refusal> {
 }
 
 /// `bsp_load`: the map record.
+#[inline]
 pub(crate) fn load(file: &[u8]) -> Result<MapWords, Refusal> {
     let mut map = [0; MAP_WORDS];
     // SAFETY: each pointer goes with the length of its slice, and what is written is borrowed by this
@@ -36,6 +38,7 @@ pub(crate) fn load(file: &[u8]) -> Result<MapWords, Refusal> {
 }
 
 /// `bsp_record`: the words of a record.
+#[inline]
 pub(crate) fn record(
     file: &[u8],
     map: &MapWords,
@@ -60,6 +63,7 @@ pub(crate) fn record(
 }
 
 /// `bsp_texture_frame`: the number in the file of a frame.
+#[inline]
 pub(crate) fn texture_frame(
     file: &[u8],
     map: &MapWords,
@@ -86,6 +90,7 @@ pub(crate) fn texture_frame(
 }
 
 /// `bsp_texture_static`: the number in the file of a static texture.
+#[inline]
 pub(crate) fn texture_static(file: &[u8], map: &MapWords, number: u64) -> Result<u64, Refusal> {
     let mut out = [0; 1];
     // SAFETY: as in `load`.
@@ -104,6 +109,7 @@ pub(crate) fn texture_static(file: &[u8], map: &MapWords, number: u64) -> Result
 }
 
 /// `bsp_texture`: the words of a texture.
+#[inline]
 pub(crate) fn texture(
     file: &[u8],
     map: &MapWords,
@@ -126,6 +132,7 @@ pub(crate) fn texture(
 }
 
 /// `bsp_count`: how many records a section has.
+#[inline]
 pub(crate) fn count(map: &MapWords, section: u32) -> Result<u64, Refusal> {
     let mut out = [0; 1];
     // SAFETY: as in `load`.
@@ -135,6 +142,7 @@ pub(crate) fn count(map: &MapWords, section: u32) -> Result<u64, Refusal> {
 }
 
 /// `bsp_entities`: offset and length of the entity text.
+#[inline]
 pub(crate) fn entities(file: &[u8], map: &MapWords) -> Result<[u64; 2], Refusal> {
     let mut out = [0; 2];
     // SAFETY: as in `load`.
@@ -152,6 +160,7 @@ pub(crate) fn entities(file: &[u8], map: &MapWords) -> Result<[u64; 2], Refusal>
 }
 
 /// `bsp_hull`: the hull of a model.
+#[inline]
 pub(crate) fn hull(
     file: &[u8],
     map: &MapWords,
@@ -176,6 +185,7 @@ pub(crate) fn hull(
 }
 
 /// `bsp_body_sizes`: the body sizes of a file.
+#[inline]
 pub(crate) fn body_sizes(bytes: &[u8]) -> Result<SizesWords, Refusal> {
     let mut sizes = [0; SIZES_WORDS];
     // SAFETY: as in `load`.
@@ -185,6 +195,7 @@ pub(crate) fn body_sizes(bytes: &[u8]) -> Result<SizesWords, Refusal> {
 }
 
 /// `bsp_hull_sized`: the hull of a model with these body sizes.
+#[inline]
 pub(crate) fn hull_sized(
     file: &[u8],
     map: &MapWords,
@@ -212,6 +223,7 @@ pub(crate) fn hull_sized(
 }
 
 /// `bsp_box`: the hull of a box.
+#[inline]
 pub(crate) fn hull_of_box(bounds: &Segment) -> Result<HullWords, Refusal> {
     let mut hull = [0; HULL_WORDS];
     // SAFETY: as in `load`.
@@ -220,6 +232,7 @@ pub(crate) fn hull_of_box(bounds: &Segment) -> Result<HullWords, Refusal> {
 }
 
 /// `bsp_hull_check`: the hull with the size of its tree.
+#[inline]
 pub(crate) fn hull_check(
     file: &[u8],
     map: &MapWords,
@@ -246,6 +259,7 @@ pub(crate) fn hull_check(
 }
 
 /// `bsp_contents`: contents code and visits.
+#[inline]
 pub(crate) fn contents(
     file: &[u8],
     map: &MapWords,
@@ -272,6 +286,7 @@ pub(crate) fn contents(
 }
 
 /// `bsp_find_leaf`: leaf and visits.
+#[inline]
 pub(crate) fn find_leaf(
     file: &[u8],
     map: &MapWords,
@@ -297,6 +312,7 @@ pub(crate) fn find_leaf(
 }
 
 /// `bsp_trace`: the words of a trace.
+#[inline]
 pub(crate) fn trace(
     file: &[u8],
     map: &MapWords,
@@ -323,6 +339,7 @@ pub(crate) fn trace(
 }
 
 /// `bsp_trace_line`: the words of a whole-line trace.
+#[inline]
 pub(crate) fn trace_line(
     file: &[u8],
     map: &MapWords,
@@ -349,6 +366,7 @@ pub(crate) fn trace_line(
 }
 
 /// `bsp_contents_nodes`: the nodes in `list`, and their number.
+#[inline]
 pub(crate) fn contents_nodes(
     file: &[u8],
     map: &MapWords,
@@ -378,6 +396,7 @@ pub(crate) fn contents_nodes(
 }
 
 /// `bsp_find_leaf_nodes`: the nodes in `list`, and their number.
+#[inline]
 pub(crate) fn find_leaf_nodes(
     file: &[u8],
     map: &MapWords,
@@ -406,6 +425,7 @@ pub(crate) fn find_leaf_nodes(
 }
 
 /// `bsp_trace_nodes`: the nodes in `list`, and their number.
+#[inline]
 pub(crate) fn trace_nodes(
     file: &[u8],
     map: &MapWords,
@@ -435,6 +455,7 @@ pub(crate) fn trace_nodes(
 }
 
 /// `bsp_pvs_team`: the leaves in `list`, and their number.
+#[inline]
 pub(crate) fn pvs_team(
     file: &[u8],
     map: &MapWords,
@@ -463,6 +484,7 @@ pub(crate) fn pvs_team(
 }
 
 /// `bsp_pvs`: the leaves in `list`, and their number.
+#[inline]
 pub(crate) fn pvs(
     file: &[u8],
     map: &MapWords,
@@ -490,6 +512,7 @@ pub(crate) fn pvs(
 }
 
 /// `bsp_tree_check`: the height of the root's tree.
+#[inline]
 pub(crate) fn tree_check(
     file: &[u8],
     map: &MapWords,
@@ -517,6 +540,7 @@ pub(crate) fn tree_check(
 }
 
 /// `bsp_contents_box`: the set of contents that a box meets, bit n for the code n.
+#[inline]
 pub(crate) fn contents_box(
     file: &[u8],
     map: &MapWords,
@@ -546,6 +570,7 @@ pub(crate) fn contents_box(
 }
 
 /// `bsp_accept`: whether a map may go on the rota.
+#[inline]
 pub(crate) fn accept(file: &[u8], map: &MapWords, marks: &mut [u8]) -> Result<(), Refusal> {
     // SAFETY: as in `load`.
     let status = unsafe {
@@ -562,15 +587,16 @@ pub(crate) fn accept(file: &[u8], map: &MapWords, marks: &mut [u8]) -> Result<()
 }
 
 /// `bsp_contents_points`: the codes of the points, a byte each, and how often a node was read.
+#[inline]
 pub(crate) fn contents_points(
     file: &[u8],
     map: &MapWords,
     hull: &HullWords,
-    points: &[f32],
+    points: &[[f32; 3]],
     list: &mut [u8],
 ) -> Result<u64, Refusal> {
     let mut out = [0; 1];
-    // SAFETY: as in `load`.
+    // SAFETY: as in `load`; so many points are three times so many floats, one after the other.
     let status = unsafe {
         bsp_contents_points(
             file.as_ptr(),
@@ -579,8 +605,8 @@ pub(crate) fn contents_points(
             map.len(),
             hull.as_ptr(),
             hull.len(),
-            points.as_ptr(),
-            points.len(),
+            points.as_ptr().cast(),
+            3 * points.len(),
             list.as_mut_ptr(),
             list.len(),
             out.as_mut_ptr(),
@@ -591,6 +617,7 @@ pub(crate) fn contents_points(
 }
 
 /// `bsp_order`: the nodes in `list`, and their number.
+#[inline]
 pub(crate) fn order(
     file: &[u8],
     map: &MapWords,
@@ -620,6 +647,7 @@ pub(crate) fn order(
 }
 
 /// `bsp_order_contents`: the contents' code, and visits.
+#[inline]
 pub(crate) fn order_contents(
     file: &[u8],
     map: &MapWords,
@@ -648,6 +676,7 @@ pub(crate) fn order_contents(
 }
 
 /// `bsp_order_trace`: the trace's words.
+#[inline]
 pub(crate) fn order_trace(
     file: &[u8],
     map: &MapWords,

@@ -245,6 +245,7 @@ impl BoxHull {
 }
 
 /// Two points, one after the other.
+#[inline]
 pub(crate) fn both(a: [f32; 3], b: [f32; 3]) -> ffi::Segment {
     [a[0], a[1], a[2], b[0], b[1], b[2]]
 }
@@ -411,6 +412,7 @@ impl Trace {
         }
     }
 
+    #[inline]
     pub(crate) fn of(words: &[u64; 17]) -> Trace {
         let kind = match words[10] {
             0 => TraceEnd::Terminal,
@@ -451,6 +453,7 @@ pub struct LineTrace {
 }
 
 impl LineTrace {
+    #[inline]
     pub(crate) fn of(words: &[u64; 12]) -> LineTrace {
         LineTrace {
             fraction: float(words[0]),

@@ -555,9 +555,8 @@ impl<B: AsRef<[u8]>> MapOf<B> {
         points: &[[f32; 3]],
     ) -> Result<(Vec<Contents>, u64), Refusal> {
         let mut codes = vec![0; points.len().min(MOST_POINTS)];
-        let floats = points.concat();
         let reads =
-            ffi::contents_points(self.file(), &self.words, hull.words(), &floats, &mut codes)?;
+            ffi::contents_points(self.file(), &self.words, hull.words(), points, &mut codes)?;
         Ok((codes.into_iter().map(|code| Contents::of(code as u64)).collect(), reads))
     }
 

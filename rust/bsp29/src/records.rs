@@ -92,6 +92,7 @@ impl Contents {
 
     /// The contents of a code that the library gave: it gives those of `code` alone, and another would
     /// count as solid.
+    #[inline]
     pub(crate) fn of(code: u64) -> Contents {
         u32::try_from(code).ok().and_then(Contents::from_code).unwrap_or(Contents::Solid)
     }
@@ -129,6 +130,7 @@ impl fmt::Display for Contents {
 pub struct ContentsSet(u32);
 
 impl ContentsSet {
+    #[inline]
     pub(crate) fn of(bits: u64) -> ContentsSet {
         ContentsSet(bits as u32)
     }
@@ -175,6 +177,7 @@ pub struct Plane {
 
 impl Plane {
     /// The plane of five words: kind, normal, distance.
+    #[inline]
     pub(crate) fn of(words: &[u64], at: usize) -> Plane {
         let kind = match words[at] {
             0 => PlaneKind::X,
@@ -294,6 +297,7 @@ pub struct Texture {
 
 impl Texture {
     /// The texture of five words; none for an absent one.
+    #[inline]
     pub(crate) fn of(words: &[u64; 5]) -> Option<Texture> {
         let mut name = [0; 16];
         name[..8].copy_from_slice(&words[1].to_le_bytes());
