@@ -1,4 +1,5 @@
-//! The time of each call beside the published Rust, in one run over the same generated maps.
+//! The time of each call beside the published Rust, in one run over the same maps: generated ones, and
+//! compiled ones (`real`).
 //!
 //! Each slice runs both sides over the same inputs, one after the other; the least time of many
 //! slices counts. Both sides take a point or a segment that the compiler knows nothing of as a
@@ -6,8 +7,9 @@
 //! back as one, which stalls the processor on one side only. Build without the feature `notes`: the
 //! marked lines take time.
 
+mod real;
+
 use std::hint::black_box;
-use std::time::Instant;
 
 use maps::world::{tables, World, SIDE};
 use maps::{floats, Layout, Seed};
@@ -27,7 +29,7 @@ const INPUTS: usize = 50_000;
 /// each axis from one time that it is asked to the next.
 const PLAYERS: usize = 64;
 
-/// A map whose trees are not balanced, beside the generated ones, which are.
+/// A small map whose trees are not balanced, beside the generated ones, which are.
 const ROOMS: &[u8] = include_bytes!("../../../maps/rooms.bsp");
 
 /// Points or segments timed together where three sides are compared.
@@ -46,7 +48,7 @@ const ROOM: f32 = 1.0 / 16.0;
 /// Loading and the tree check, one call a slice, take so many times the slices.
 const SINGLE: u64 = 10;
 
-pub fn run(plan: &Plan) -> bool {
+pub fn run(plan: &Plan, folder: Option<&str>) -> bool {
     if cfg!(feature = "notes") {
         println!("built with the marked lines: the Rust's times are too high");
     }
@@ -72,6 +74,7 @@ pub fn run(plan: &Plan) -> bool {
     let mut table = Table { name: "rooms", slices: plan.cases, equal: true };
     of_rooms(&mut table, &mut Seed::named(plan.seed, "rooms"), ROOMS);
     equal &= table.equal;
+    equal &= run_real(plan, folder);
     equal &= run_points(plan);
     for call in [
         "bsp_load",
@@ -89,6 +92,11 @@ pub fn run(plan: &Plan) -> bool {
         }
     }
     equal
+}
+
+/// The compiled maps alone.
+pub fn run_real(plan: &Plan, folder: Option<&str>) -> bool {
+    real::run(folder, plan.cases, plan.seed)
 }
 
 /// The maps, by their names.
@@ -180,9 +188,27 @@ impl Table {
 }
 
 fn timed(side: &mut (impl FnMut() -> u64 + ?Sized)) -> f64 {
-    let start = Instant::now();
+    let start = clock();
     black_box(side());
-    start.elapsed().as_nanos() as f64
+    clock() - start
+}
+
+/// The processor time of this thread in nanoseconds: other work on the machine does not count.
+fn clock() -> f64 {
+    #[repr(C)]
+    struct Time {
+        seconds: i64,
+        nanoseconds: i64,
+    }
+    extern "C" {
+        fn clock_gettime(clock: i32, time: *mut Time) -> i32;
+    }
+    const THREAD: i32 = 3;
+    let mut time = Time { seconds: 0, nanoseconds: 0 };
+    // SAFETY: the C library's call fills the two words, as 64-bit Linux has them
+    let failed = unsafe { clock_gettime(THREAD, &mut time) };
+    assert_eq!(failed, 0, "the thread's clock");
+    time.seconds as f64 * 1e9 + time.nanoseconds as f64
 }
 
 /// The words of a map's record, and the Rust's map.
@@ -281,9 +307,9 @@ fn load(table: &mut Table, file: &[u8]) {
     let mut least = [f64::MAX; 2];
     for _ in 0..SINGLE * table.slices {
         least[0] = least[0].min(timed(&mut || calls::load(black_box(file), &mut map) as u64));
-        let start = Instant::now();
+        let start = clock();
         let loaded = black_box(richter::load(black_box(file)));
-        least[1] = least[1].min(start.elapsed().as_nanos() as f64);
+        least[1] = least[1].min(clock() - start);
         drop(loaded);
     }
     table.row("load", (1, file.len() as u64), least, true);

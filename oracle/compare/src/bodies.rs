@@ -191,7 +191,7 @@ fn any_file(seed: &mut Seed) -> Vec<u8> {
 }
 
 /// Twelve words of sizes: of bodies, or made by hand, whose high bits are not looked at.
-fn words_of(seed: &mut Seed) -> Vec<u64> {
+pub fn words_of(seed: &mut Seed) -> Vec<u64> {
     let sizes = any_sizes(seed, 12);
     let mut words: Vec<u64> = sizes.concat().iter().map(|x| x.to_bits() as u64).collect();
     match seed.below(4) {
@@ -217,7 +217,7 @@ fn by_rust(rust: &richter::Map, sizes: &[u64], (model, index): (u64, u64)) -> Wo
 }
 
 /// A hull with these sizes beside the Rust's with its row replaced.
-fn one(
+pub fn one(
     board: &mut Board,
     asked: &Asked,
     rust: Option<&richter::Map>,

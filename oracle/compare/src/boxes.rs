@@ -150,7 +150,7 @@ fn bounds(seed: &mut Seed, planes: &[Plane]) -> [f32; 6] {
 }
 
 /// The call beside the program on paper; its set, where there is one.
-fn one(
+pub fn one(
     board: &mut Board,
     asked: &Asked,
     seed: &mut Seed,
@@ -194,7 +194,7 @@ fn marks(seed: &mut Seed, nodes: usize) -> Vec<u8> {
 
 /// The Rust's walk of points of the box, from the root that passed: each one's contents are in the
 /// set, and are the set where the box is one point.
-fn points(
+pub fn points(
     board: &mut Board,
     asked: &Asked,
     seed: &mut Seed,

@@ -139,7 +139,7 @@ fn shot(seed: &mut Seed, planes: &[Plane], p: [f32; 3]) -> [f32; 6] {
 }
 
 /// Whether the hull's root passes the tree check, on paper.
-fn is_checked(asked: &Asked, hull: &[u64]) -> bool {
+pub fn is_checked(asked: &Asked, hull: &[u64]) -> bool {
     let page = asked.paper();
     let most = page.count(paper::RENDER_NODES).max(page.count(paper::CLIP_NODES)).max(6);
     let mut marks = vec![0; most as usize];
@@ -149,7 +149,7 @@ fn is_checked(asked: &Asked, hull: &[u64]) -> bool {
 }
 
 /// The call beside the program on paper, and what is stated of its answer.
-fn one(
+pub fn one(
     board: &mut Board,
     asked: &Asked,
     seed: &mut Seed,

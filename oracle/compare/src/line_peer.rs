@@ -22,14 +22,14 @@ use crate::tables::{self, Made};
 use crate::walks::{bits_of, hull_words};
 
 #[repr(C)]
-struct PeerPlane {
-    normal: [f32; 3],
-    dist: f32,
-    kind: i32,
+pub struct PeerPlane {
+    pub normal: [f32; 3],
+    pub dist: f32,
+    pub kind: i32,
 }
 
 #[repr(C)]
-struct PeerNode {
+pub struct PeerNode {
     plane: i32,
     children: [i32; 2],
 }
@@ -46,14 +46,14 @@ extern "C" {
 }
 
 /// The tables as the peer takes them.
-struct Peer {
-    planes: Vec<PeerPlane>,
-    nodes: Vec<PeerNode>,
+pub struct Peer {
+    pub planes: Vec<PeerPlane>,
+    pub nodes: Vec<PeerNode>,
 }
 
 impl Peer {
     /// Of the render nodes (0) or the clip nodes (1) of a map that loads.
-    fn of(page: &paper::Map, table: u64) -> Peer {
+    pub fn of(page: &paper::Map, table: u64) -> Peer {
         let planes = (0..page.count(paper::PLANES)).map(|at| page.plane(at).expect("a plane"));
         let planes = planes
             .map(|p| PeerPlane { normal: p.normal(), dist: p.dist, kind: p.kind() as i32 })
@@ -76,6 +76,18 @@ impl Peer {
             })
             .collect();
         Peer { planes, nodes }
+    }
+
+    /// The least number of a node in a root's tree, of a root that passed the tree check.
+    pub fn least_of(&self, root: i32) -> i32 {
+        let mut least = root;
+        let mut open = vec![root];
+        while let Some(node) = open.pop() {
+            least = least.min(node);
+            let children = self.nodes[node as usize].children;
+            open.extend(children.into_iter().filter(|child| *child >= 0));
+        }
+        least
     }
 
     /// Its answer: eight floats and four flags.
@@ -134,7 +146,7 @@ fn a_map(seed: &mut Seed) -> Made {
     tables::of_nodes(seed, planes, &nodes)
 }
 
-fn is_tame(floats: &[f32]) -> bool {
+pub fn is_tame(floats: &[f32]) -> bool {
     floats.iter().all(|x| x.abs() <= 1e6)
 }
 

@@ -506,7 +506,7 @@ fn wrong_index(seed: &mut Seed, tables: &mut Tables) {
 }
 
 /// One byte of one record, so that a single field is refused.
-fn one_field(seed: &mut Seed, file: &[u8]) -> Vec<u8> {
+pub fn one_field(seed: &mut Seed, file: &[u8]) -> Vec<u8> {
     let mut copy = file.to_vec();
     let map = map_of_header(file);
     for _ in 0..40 {
@@ -522,7 +522,7 @@ fn one_field(seed: &mut Seed, file: &[u8]) -> Vec<u8> {
 }
 
 /// A section over the header, over another, past the end, or empty anywhere.
-fn odd_places(seed: &mut Seed, file: &[u8]) -> Vec<u8> {
+pub fn odd_places(seed: &mut Seed, file: &[u8]) -> Vec<u8> {
     let mut copy = file.to_vec();
     let map = map_of_header(file);
     for _ in 0..1 + seed.below(2) {

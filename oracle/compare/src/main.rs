@@ -15,6 +15,8 @@ mod facts;
 mod faults;
 mod hand_made;
 mod joins;
+#[cfg_attr(not(feature = "peer"), allow(dead_code))]
+mod json;
 mod leaves;
 mod line;
 #[cfg(feature = "peer")]
@@ -28,6 +30,8 @@ mod points;
 mod proved;
 mod pvs;
 mod queries;
+#[cfg(feature = "peer")]
+mod real;
 mod records;
 mod replay;
 mod root_time;
@@ -66,6 +70,12 @@ impl Arguments {
             Some(number) => number,
             None => wrong(&format!("{name} takes a number")),
         }
+    }
+
+    /// What stands behind a name.
+    fn text(&self, name: &str) -> Option<&str> {
+        let at = self.0.iter().position(|argument| argument == name)?;
+        self.0.get(at + 1).map(String::as_str)
     }
 
     /// A tenth of the usual cases for a quick run.
@@ -118,6 +128,8 @@ fn run(mode: &str, given: &Arguments) -> bool {
         "line" => line::run(&given.plan(10_000)),
         #[cfg(feature = "peer")]
         "line-peer" => line_peer::run(&given.plan(3_000)),
+        #[cfg(feature = "peer")]
+        "real" => real::run(given.path(), &given.plan(100)),
         "order" => order::run(&given.plan(10_000)),
         "texture-times" => texture_times::run(),
         "textures" => textures::run(&given.plan(20_000)),
@@ -127,7 +139,8 @@ fn run(mode: &str, given: &Arguments) -> bool {
         "made" => made::run(&given.plan(10_000)),
         "sky" => sky::run(&given.plan(5_000)),
         "sample" => sample::run(given.path(), given.number("--seed", 1), !given.has("--no-nodes")),
-        "bench" => bench::run(&given.plan(30)),
+        "bench" => bench::run(&given.plan(30), given.text("--maps")),
+        "bench-real" => bench::run_real(&given.plan(30), given.text("--maps")),
         "bench-points" => bench::run_points(&given.plan(30)),
         "rust-facts" => facts::run(),
         "notes" => notes::run(),

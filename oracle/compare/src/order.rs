@@ -106,7 +106,7 @@ fn from_place(
 
 /// The call that writes beside the program on paper; the table, where there is one, now and then with
 /// one or two words past its last three.
-fn written(
+pub fn written(
     board: &mut Board,
     asked: &Asked,
     seed: &mut Seed,
@@ -148,7 +148,7 @@ fn written(
 }
 
 /// The contents at a point: the Rust's by the file where there is a hull, else the program's.
-fn contents(
+pub fn contents(
     board: &mut Board,
     asked: &Asked,
     list: &[i32],
@@ -176,7 +176,7 @@ fn contents(
 }
 
 /// The same of a trace.
-fn trace(
+pub fn trace(
     board: &mut Board,
     asked: &Asked,
     list: &[i32],

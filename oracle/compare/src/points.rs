@@ -167,7 +167,7 @@ fn by_the_rust(hull: &Hull, points: &[[f32; 3]]) -> Option<Result<Vec<u8>, u32>>
 }
 
 /// The call beside the program on paper and the Rust.
-fn one(
+pub fn one(
     board: &mut Board,
     asked: &Asked,
     seed: &mut Seed,

@@ -45,7 +45,7 @@ pub fn compare(calls: &Calls, plan: &Plan) -> Board {
 }
 
 /// Loading beside both; the map record if it loads.
-fn load(
+pub fn load(
     board: &mut Board,
     calls: &Calls,
     name: &dyn Fn() -> String,
@@ -146,7 +146,7 @@ fn picture(page: &paper::Map, at: u64) -> Vec<u8> {
 }
 
 /// Every accessor, for numbers in and out of range.
-fn accessors(board: &mut Board, asked: &Asked, seed: &mut Seed) {
+pub fn accessors(board: &mut Board, asked: &Asked, seed: &mut Seed) {
     let Asked { calls, file, map, .. } = *asked;
     let page = asked.paper();
     let count = page.texture_count.min(12);

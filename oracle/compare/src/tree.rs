@@ -394,18 +394,30 @@ fn demand_3(
 
 /// Both tables of a map that the Rust loaded: from its models' roots and from others.
 pub fn of_loaded(board: &mut Board, asked: &Asked, seed: &mut Seed, rust: &richter::Map) {
-    let Asked { calls, name, file, map } = *asked;
     let models = asked.paper().count(paper::MODELS);
     let model = seed.below(models.max(1));
     for table in 0..2 {
         let count = asked.paper().count([paper::RENDER_NODES, paper::CLIP_NODES][table as usize]);
         let hull = rust.hull(model as usize, table as usize).expect("a hull");
         for root in [0, hull.root() as u64, tables::root(seed, count)] {
-            let table = Table { file, map, table, root };
-            one(board, calls, &table, &marks(seed, count as usize), name);
-            demand_3(board, seed, &table, rust, name);
+            of_root(board, asked, seed, rust, (table, root));
         }
     }
+}
+
+/// One root of a table of a map that the Rust loaded.
+pub fn of_root(
+    board: &mut Board,
+    asked: &Asked,
+    seed: &mut Seed,
+    rust: &richter::Map,
+    (table, root): (u32, u64),
+) {
+    let Asked { calls, name, file, map } = *asked;
+    let count = asked.paper().count([paper::RENDER_NODES, paper::CLIP_NODES][table as usize]);
+    let table = Table { file, map, table, root };
+    one(board, calls, &table, &marks(seed, count as usize), name);
+    demand_3(board, seed, &table, rust, name);
 }
 
 /// A map record or a list of words that is too short is 22 before a table that is none.

@@ -1,0 +1,298 @@
+//! Compiled maps: point contents, leaf lookup and traces by the calls for C and by the safe crate, each
+//! beside the published Rust.
+//!
+//! The three sides take turns on parts of the inputs; the least time of each part counts, so that what
+//! else the machine does disturbs few of them. Contents and leaves are asked at points anywhere in the
+//! world's box, and at points of players who start in the open and move little. Segments start at points
+//! of the first kind and at players.
+
+use std::fs;
+use std::hint::black_box;
+use std::path::Path;
+
+use maps::{floats, Seed};
+use richter::{Hull, Map};
+
+use super::{segment, timed, INPUTS, PART, PLAYERS};
+use crate::calls;
+use crate::calls_stub::TRACE_WORDS;
+use crate::words;
+
+/// The compiled maps, by the names of their sources.
+const NAMES: [&str; 6] = ["corridors", "vaults", "pools", "lock", "court", "nave"];
+
+/// The maps of a folder that `oracle/real-maps` filled, with visibility and light; else those that are
+/// kept in `maps/`.
+fn files(folder: Option<&str>) -> Vec<(&'static str, Vec<u8>)> {
+    let kept = Path::new(concat!(env!("CARGO_MANIFEST_DIR"), "/../../maps"));
+    let mut found = Vec::new();
+    for name in NAMES {
+        let made = folder.map(|folder| Path::new(folder).join(format!("{name}-vis-lit.bsp")));
+        let file = made.and_then(|path| fs::read(path).ok());
+        if let Some(file) = file.or_else(|| fs::read(kept.join(format!("{name}.bsp"))).ok()) {
+            found.push((name, file));
+        }
+    }
+    found
+}
+
+/// Prints a table of all maps; false if an answer differed.
+pub fn run(folder: Option<&str>, slices: u64, seed: u64) -> bool {
+    println!("compiled maps: ns a call; ratio: proved / Rust, by the call for C and by the crate");
+    println!(
+        "{:<10} {:<26} {:>7} {:>8} {:>8} {:>7} {:>8} {:>7}",
+        "map", "call", "visits", "Rust", "C", "ratio", "crate", "ratio"
+    );
+    let mut equal = true;
+    for (name, file) in files(folder) {
+        let mut map = [0; 31];
+        let (0, Ok(rust)) = (calls::load(&file, &mut map), richter::load(&file)) else {
+            println!("{name:<10} is refused");
+            return false;
+        };
+        let mut rows = Rows { name, slices, file: &file, map: &map, rust: &rust, equal: true };
+        rows.all(&mut Seed::named(seed, name));
+        equal &= rows.equal;
+    }
+    equal
+}
+
+/// One side over a part of the inputs: the sum of its answers, and the visits where it knows them.
+type Side<'a, T> = Box<dyn FnMut(&[T]) -> (u64, u64) + 'a>;
+
+struct Rows<'a> {
+    name: &'static str,
+    slices: u64,
+    file: &'a [u8],
+    map: &'a [u32; 31],
+    rust: &'a Map,
+    equal: bool,
+}
+
+/// The crate's map, whose hulls are asked for by their numbers.
+#[cfg(feature = "safe")]
+type Crate<'a> = bsp29::Map<'a>;
+
+impl Rows<'_> {
+    fn all(&mut self, seed: &mut Seed) {
+        let anywhere: Vec<[f32; 3]> = (0..INPUTS).map(|_| self.place(seed)).collect();
+        let near = self.players(seed);
+        for (points, kind) in [(&anywhere, ""), (&near, ", near")] {
+            for index in 0..3 {
+                self.contents(index, points, kind);
+            }
+            self.leaves(points, kind);
+        }
+        for (points, kind) in [(&anywhere, ""), (&near, ", near")] {
+            for (length, long) in [(100.0, "short"), (1000.0, "long")] {
+                let segments: Vec<[f32; 6]> =
+                    points.iter().map(|p| segment(seed, *p, length)).collect();
+                for index in 0..3 {
+                    self.traces(index, &segments, &format!(", {long}{kind}"));
+                }
+            }
+        }
+    }
+
+    /// A point of the world's box.
+    fn place(&self, seed: &mut Seed) -> [f32; 3] {
+        let world = &self.rust.models()[0];
+        [0, 1, 2].map(|n| world.min[n] + (floats::half(seed) + 0.5) * (world.max[n] - world.min[n]))
+    }
+
+    /// Players who start where hull 1 is not solid, asked in turn; each moves up to four units along each
+    /// axis, and stays where the way is solid.
+    fn players(&self, seed: &mut Seed) -> Vec<[f32; 3]> {
+        const SOLID: u32 = 2;
+        let hull = self.rust.hull(0, 1).expect("a hull");
+        let mut now: Vec<[f32; 3]> = Vec::new();
+        while now.len() < PLAYERS {
+            let p = self.place(seed);
+            if hull.bare_contents(p) != SOLID {
+                now.push(p);
+            }
+        }
+        (0..INPUTS)
+            .map(|n| {
+                let player = &mut now[n % PLAYERS];
+                let next = player.map(|x| x + 8.0 * floats::half(seed));
+                if hull.bare_contents(next) != SOLID {
+                    *player = next;
+                }
+                *player
+            })
+            .collect()
+    }
+
+    fn contents(&mut self, index: usize, points: &[[f32; 3]], kind: &str) {
+        let hull = self.rust.hull(0, index).expect("a hull");
+        let words = words::hull(index.min(1) as u64, &hull);
+        let (file, map) = (self.file, self.map);
+        let mut out = [0; 2];
+        let by_c = move |points: &[[f32; 3]]| {
+            let mut sums = (0, 0);
+            for p in points {
+                let point = black_box(*p);
+                calls::contents(file, map, &words, &point, &mut out);
+                sums = (sums.0 + out[0], sums.1 + out[1]);
+            }
+            sums
+        };
+        #[cfg(feature = "safe")]
+        let by_crate = {
+            let (map, hull) = self.in_crate(index);
+            move |points: &[[f32; 3]]| {
+                let mut sums = (0, 0);
+                for p in points {
+                    let (contents, visits) = map.contents(&hull, black_box(*p)).expect("contents");
+                    sums = (sums.0 + code(contents), sums.1 + visits);
+                }
+                sums
+            }
+        };
+        #[cfg(not(feature = "safe"))]
+        let by_crate = none();
+        let name = format!("contents, hull {index}{kind}");
+        let sides: [Side<[f32; 3]>; 3] =
+            [Box::new(by_rust(&hull)), Box::new(by_c), Box::new(by_crate)];
+        self.row(&name, points, sides);
+    }
+
+    fn leaves(&mut self, points: &[[f32; 3]], kind: &str) {
+        let (file, map, rust) = (self.file, self.map, self.rust);
+        let mut out = [0; 2];
+        let by_c = move |points: &[[f32; 3]]| {
+            let mut sums = (0, 0);
+            for p in points {
+                let point = black_box(*p);
+                calls::find_leaf(file, map, 0, &point, &mut out);
+                sums = (sums.0 + out[0], sums.1 + out[1]);
+            }
+            sums
+        };
+        let by_rust = move |points: &[[f32; 3]]| {
+            (points.iter().map(|p| rust.bare_find_leaf(black_box(*p)) as u64).sum(), 0)
+        };
+        #[cfg(feature = "safe")]
+        let by_crate = {
+            let (map, _) = self.in_crate(0);
+            move |points: &[[f32; 3]]| {
+                let mut sums = (0, 0);
+                for p in points {
+                    let (leaf, visits) = map.find_leaf(black_box(*p)).expect("a leaf");
+                    sums = (sums.0 + leaf as u64, sums.1 + visits);
+                }
+                sums
+            }
+        };
+        #[cfg(not(feature = "safe"))]
+        let by_crate = none();
+        let sides: [Side<[f32; 3]>; 3] = [Box::new(by_rust), Box::new(by_c), Box::new(by_crate)];
+        self.row(&format!("find_leaf{kind}"), points, sides);
+    }
+
+    fn traces(&mut self, index: usize, segments: &[[f32; 6]], kind: &str) {
+        let hull = self.rust.hull(0, index).expect("a hull");
+        let words = words::hull(index.min(1) as u64, &hull);
+        let (file, map) = (self.file, self.map);
+        let ends = |s: [f32; 6]| ([s[0], s[1], s[2]], [s[3], s[4], s[5]]);
+        let mut out = [0; TRACE_WORDS];
+        let by_c = move |segments: &[[f32; 6]]| {
+            let mut sums = (0, 0);
+            for s in segments {
+                let segment = black_box(*s);
+                calls::trace(file, map, &words, &segment, &mut out);
+                sums = (sums.0 + out[2], sums.1 + out[0]);
+            }
+            sums
+        };
+        let by_rust = |segments: &[[f32; 6]]| {
+            let mut sum = 0;
+            for s in segments {
+                let (start, end) = ends(black_box(*s));
+                sum += black_box(hull.bare_trace(start, end)).start_solid() as u64;
+            }
+            (sum, 0)
+        };
+        #[cfg(feature = "safe")]
+        let by_crate = {
+            let (map, hull) = self.in_crate(index);
+            move |segments: &[[f32; 6]]| {
+                let mut sums = (0, 0);
+                for s in segments {
+                    let (start, end) = ends(black_box(*s));
+                    let trace = black_box(map.trace(&hull, start, end).expect("a trace"));
+                    sums = (sums.0 + trace.start_solid as u64, sums.1 + trace.visits);
+                }
+                sums
+            }
+        };
+        #[cfg(not(feature = "safe"))]
+        let by_crate = none();
+        let name = format!("trace, hull {index}{kind}");
+        let sides: [Side<[f32; 6]>; 3] = [Box::new(by_rust), Box::new(by_c), Box::new(by_crate)];
+        self.row(&name, segments, sides);
+    }
+
+    /// The map and a hull of the world as the crate has them.
+    #[cfg(feature = "safe")]
+    fn in_crate(&self, index: usize) -> (Crate<'_>, bsp29::Hull) {
+        let map = Crate::load(self.file).expect("the map loads");
+        let hull = map.hull(0, index).expect("a hull");
+        (map, hull)
+    }
+
+    /// Times the sides by turns on every part of the inputs and prints the sums of the least times.
+    fn row<T>(&self, name: &str, inputs: &[T], mut sides: [Side<T>; 3]) {
+        let told = sides.each_mut().map(|side| side(inputs));
+        let safe = cfg!(feature = "safe");
+        let equal = told[0].0 == told[1].0 && (!safe || told[1] == told[2]);
+        let mut least = vec![[f64::MAX; 3]; inputs.len().div_ceil(PART)];
+        for _ in 0..self.slices {
+            for (least, part) in least.iter_mut().zip(inputs.chunks(PART)) {
+                for (least, side) in least.iter_mut().zip(&mut sides) {
+                    *least = least.min(timed(&mut || side(part).0));
+                }
+            }
+        }
+        let count = inputs.len() as f64;
+        let [rust, by_c, by_crate] =
+            [0, 1, 2].map(|side| least.iter().map(|least| least[side]).sum::<f64>() / count);
+        let of_crate = |text: String| if safe { text } else { "-".to_string() };
+        println!(
+            "{:<10} {name:<26} {:>7.1} {rust:>8.1} {by_c:>8.1} {:>7.2} {:>8} {:>7}{}",
+            self.name,
+            told[1].1 as f64 / count,
+            by_c / rust,
+            of_crate(format!("{by_crate:.1}")),
+            of_crate(format!("{:.2}", by_crate / rust)),
+            if equal { "" } else { "  the answers differ" }
+        );
+        assert!(equal, "{} {name}", self.name);
+    }
+}
+
+fn by_rust(hull: &Hull) -> impl FnMut(&[[f32; 3]]) -> (u64, u64) + '_ {
+    |points| (points.iter().map(|p| hull.bare_contents(black_box(*p)) as u64).sum(), 0)
+}
+
+/// Without the crate there is no third side.
+#[cfg(not(feature = "safe"))]
+fn none<T>() -> impl FnMut(&[T]) -> (u64, u64) {
+    |_| (0, 0)
+}
+
+/// The code of contents as the calls for C give it.
+#[cfg(feature = "safe")]
+fn code(contents: bsp29::Contents) -> u64 {
+    use bsp29::Contents::*;
+    match contents {
+        Empty => 1,
+        Solid => 2,
+        Water => 3,
+        Slime => 4,
+        Lava => 5,
+        Sky => 6,
+        _ => 9,
+    }
+}
