@@ -1,0 +1,60 @@
+//! A file and its map, as the commands take them.
+
+use crate::failure::Failure;
+use crate::file;
+use bsp29::{Contents, NodeTable};
+use std::path::{Path, PathBuf};
+
+/// A map over the bytes of its file.
+pub type Map<'a> = bsp29::Map<'a>;
+
+/// The bytes of a file and where they came from.
+pub struct Source {
+    pub path: PathBuf,
+    pub bytes: Vec<u8>,
+}
+
+impl Source {
+    /// Reads a file whole.
+    pub fn read(path: &Path) -> Result<Source, Failure> {
+        Ok(Source { path: path.to_path_buf(), bytes: file::read(path)? })
+    }
+
+    /// The map of the file, where it loads.
+    pub fn map(&self) -> Result<Map<'_>, Failure> {
+        Map::load(&self.bytes).map_err(|refusal| Failure::refused(&self.path, "loading", refusal))
+    }
+}
+
+/// The name of contents.
+pub fn contents_name(contents: Contents) -> &'static str {
+    match contents {
+        Contents::Empty => "empty",
+        Contents::Solid => "solid",
+        Contents::Water => "water",
+        Contents::Slime => "slime",
+        Contents::Lava => "lava",
+        Contents::Sky => "sky",
+        Contents::Current0 => "current along x",
+        Contents::Current90 => "current along y",
+        Contents::Current180 => "current against x",
+        Contents::Current270 => "current against y",
+        Contents::CurrentUp => "current up",
+        Contents::CurrentDown => "current down",
+    }
+}
+
+/// The name of a node table.
+pub fn table_name(table: NodeTable) -> &'static str {
+    match table {
+        NodeTable::Render => "render",
+        NodeTable::Clip => "clip",
+        NodeTable::Box => "box",
+    }
+}
+
+/// How many leaves can be seen at all: those of model 0, and leaf 0, which is never listed.
+pub fn leaf_count(map: &Map<'_>) -> usize {
+    let world = map.models().get(0).map_or(0, |model| model.leaf_count);
+    world.saturating_add(1).min(map.leaves().len())
+}
