@@ -233,6 +233,22 @@ mod tests {
     }
 
     #[test]
+    fn the_manual_page_has_every_command_and_flag() {
+        let page = include_str!("../bsp29.1").replace("\\-", "-");
+        let shown = Args::command();
+        for command in shown.get_subcommands().filter(|command| !command.is_hide_set()) {
+            assert!(
+                page.contains(&format!(".BI {} ", command.get_name())),
+                "{}",
+                command.get_name()
+            );
+            for flag in command.get_arguments().filter_map(clap::Arg::get_long) {
+                assert!(page.contains(&format!("--{flag}")), "{flag}");
+            }
+        }
+    }
+
+    #[test]
     fn points_are_three_numbers() {
         assert_eq!("-64,0, 24.5".parse(), Ok(Point([-64.0, 0.0, 24.5])));
         for wrong in ["", "1,2", "1,2,3,4", "1,2,x", "1 2 3"] {

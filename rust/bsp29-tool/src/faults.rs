@@ -6,7 +6,7 @@ use crate::layout::{
     Directory, CLIP_NODES, EDGES, EDGE_LIST_SECTION, FACES, LEAVES, MODELS, RENDER_NODES, SECTIONS,
     VISIBILITY,
 };
-use crate::map::Map;
+use crate::map::{self, Map};
 use crate::place::{Mark, Place};
 use crate::rows;
 use crate::trees::{self, Bad};
@@ -209,12 +209,12 @@ impl Finder<'_> {
         let mut passed = HashSet::new();
         for model in 0..self.map.models().len() {
             for hull in 0..3 {
-                let root = self.map.hull(model, hull)?;
-                if !passed.insert((root.table, root.root)) {
+                let (table, root) = map::root(self.map, model, hull)?;
+                if !passed.insert((table, root)) {
                     continue;
                 }
-                if let Err(bad) = trees::walk(self.map, root.table, root.root) {
-                    return Ok(Some(self.in_tree((model, hull), root.table, bad)));
+                if let Err(bad) = trees::walk(self.map, table, root) {
+                    return Ok(Some(self.in_tree((model, hull), table, bad)));
                 }
             }
         }

@@ -2,7 +2,7 @@
 
 use crate::failure::Failure;
 use crate::file;
-use bsp29::{Contents, NodeTable};
+use bsp29::{Contents, Hull, NodeTable, Refusal};
 use std::path::{Path, PathBuf};
 
 /// A map over the bytes of its file.
@@ -24,6 +24,26 @@ impl Source {
     pub fn map(&self) -> Result<Map<'_>, Failure> {
         Map::load(&self.bytes).map_err(|refusal| Failure::refused(&self.path, "loading", refusal))
     }
+}
+
+/// Where a hull of a model begins: its table and its root there.
+pub fn root(map: &Map<'_>, model: usize, hull: usize) -> Result<(NodeTable, usize), Refusal> {
+    map.hull(model, hull).map(|hull| root_of(&hull))
+}
+
+/// The table of a hull and its root there.
+pub fn root_of(hull: &Hull) -> (NodeTable, usize) {
+    (hull.table, hull.root)
+}
+
+/// How many nodes the tree below a root has, and its height.
+pub fn tree_size(
+    map: &Map<'_>,
+    (table, root): (NodeTable, usize),
+) -> Result<(usize, usize), Refusal> {
+    let hull =
+        Hull { table, root, node_count: 0, mins: [0.0; 3], maxs: [0.0; 3], nodes: 0, height: 0 };
+    map.hull_check(&hull).map(|checked| (checked.nodes, checked.height))
 }
 
 /// The name of contents.

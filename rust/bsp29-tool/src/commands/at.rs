@@ -2,7 +2,7 @@
 
 use crate::args::At;
 use crate::failure::Failure;
-use crate::map::{contents_name, leaf_count, Map, Source};
+use crate::map::{self, contents_name, leaf_count, Map, Source};
 use crate::out::{self, Report};
 use crate::text::path_text;
 use bsp29::{Contents, Refusal};
@@ -100,7 +100,7 @@ fn in_leaf(map: &Map<'_>, model: usize, point: [f32; 3]) -> InLeaf {
 
 /// The leaf as far as the calls answer.
 fn look(map: &Map<'_>, model: usize, point: [f32; 3], leaf: &mut InLeaf) -> Result<(), Refusal> {
-    let (number, _) = map.find_leaf_from(map.hull(model, 0)?.root, point)?;
+    let (number, _) = map.find_leaf_from(map::root(map, model, 0)?.1, point)?;
     leaf.number = Some(number);
     let record = map.leaves().get(number)?;
     leaf.contents = Some(contents_name(record.contents));

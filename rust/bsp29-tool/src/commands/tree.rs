@@ -2,11 +2,11 @@
 
 use crate::args::OneFile;
 use crate::failure::Failure;
-use crate::map::{table_name, Map, Source};
+use crate::map::{self, table_name, Map, Source};
 use crate::out::{self, Report};
 use crate::text::path_text;
 use crate::trees::{nodes, walk};
-use bsp29::{Hull, NodeTable, Refusal};
+use bsp29::{NodeTable, Refusal};
 use serde::Serialize;
 use std::collections::HashMap;
 use std::io::{self, Write};
@@ -70,8 +70,8 @@ fn roots(map: &Map<'_>) -> Result<Vec<Root>, Refusal> {
     };
     for model in 0..map.models().len() {
         for index in 0..3 {
-            let hull = map.hull(model, index)?;
-            root(Some((model, index)), hull.table, hull.root);
+            let (table, node) = map::root(map, model, index)?;
+            root(Some((model, index)), table, node);
         }
     }
     root(None, NodeTable::Render, 0);
@@ -80,15 +80,13 @@ fn roots(map: &Map<'_>) -> Result<Vec<Root>, Refusal> {
 
 /// The library's own count and height, and the walk that has that height.
 fn below(map: &Map<'_>, table: NodeTable, root: usize) -> Below {
-    let hull =
-        Hull { table, root, node_count: 0, mins: [0.0; 3], maxs: [0.0; 3], nodes: 0, height: 0 };
     let walked = walk(map, table, root);
-    match (map.hull_check(&hull), walked) {
-        (Ok(checked), walked) => {
+    match (map::tree_size(map, (table, root)), walked) {
+        (Ok((nodes, height)), walked) => {
             let tree = walked.ok();
             Below {
-                nodes: Some(checked.nodes),
-                height: Some(checked.height),
+                nodes: Some(nodes),
+                height: Some(height),
                 deepest: tree.as_ref().map(|tree| tree.deepest.clone()),
                 end: tree.map(|tree| tree.end.to_string()),
                 ..Below::default()

@@ -2,7 +2,7 @@
 
 use super::scene::{At, Color, Scene, RED};
 use super::view::View;
-use crate::map::Map;
+use crate::map::{root_of, Map};
 use crate::trees::{node, Child};
 use bsp29::{Hull, LineTrace, Refusal, Trace};
 
@@ -56,11 +56,12 @@ fn crossings(
 ) -> Result<Vec<Crossing>, Refusal> {
     let reach = length(from, to) * fraction + 0.5;
     let mut crossed = Vec::new();
-    let mut left = vec![(Child::Node(hull.root), from, to)];
+    let (table, root) = root_of(hull);
+    let mut left = vec![(Child::Node(root), from, to)];
     for _ in 0..MOST {
         let Some((child, start, end)) = left.pop() else { break };
         let Child::Node(index) = child else { continue };
-        let record = node(map, hull.table, index)?;
+        let record = node(map, table, index)?;
         let plane = map.planes().get(record.plane)?;
         let distance = |point: [f32; 3]| {
             (0..3).map(|axis| point[axis] * plane.normal[axis]).sum::<f32>() - plane.dist

@@ -7,7 +7,7 @@ use super::sheet::{legend, Sheet, HEAD, MARGIN};
 use super::view::{corners, View};
 use super::{font, slice};
 use crate::entity;
-use crate::map::{leaf_count, Map};
+use crate::map::{self, leaf_count, Map};
 use bsp29::{Contents, Hull, Refusal};
 use std::collections::{BTreeMap, HashMap, HashSet};
 
@@ -114,7 +114,7 @@ fn squares(
         let color = |square: slice::Square| square.map_or(REFUSED, colors::number);
         return Ok((squares.into_iter().map(color).collect(), Vec::new()));
     }
-    let root = map.hull(asked.model, 0)?.root;
+    let (_, root) = map::root(map, asked.model, 0)?;
     let leaves = slice::leaves(map, root, view, height);
     let mut color = painter(map, asked.shown)?;
     let number = |(at, leaf): (usize, &Result<usize, Refusal>)| match leaf {
