@@ -2,7 +2,7 @@
 
 use crate::failure::Failure;
 use crate::file;
-use bsp29::{Contents, Hull, NodeTable, Refusal};
+use bsp29::{Hull, NodeTable, Refusal};
 use std::path::{Path, PathBuf};
 
 /// A map over the bytes of its file.
@@ -33,7 +33,7 @@ pub fn root(map: &Map<'_>, model: usize, hull: usize) -> Result<(NodeTable, usiz
 
 /// The table of a hull and its root there.
 pub fn root_of(hull: &Hull) -> (NodeTable, usize) {
-    (hull.table, hull.root)
+    (hull.table(), hull.root())
 }
 
 /// How many nodes the tree below a root has, and its height.
@@ -41,27 +41,8 @@ pub fn tree_size(
     map: &Map<'_>,
     (table, root): (NodeTable, usize),
 ) -> Result<(usize, usize), Refusal> {
-    let hull =
-        Hull { table, root, node_count: 0, mins: [0.0; 3], maxs: [0.0; 3], nodes: 0, height: 0 };
-    map.hull_check(&hull).map(|checked| (checked.nodes, checked.height))
-}
-
-/// The name of contents.
-pub fn contents_name(contents: Contents) -> &'static str {
-    match contents {
-        Contents::Empty => "empty",
-        Contents::Solid => "solid",
-        Contents::Water => "water",
-        Contents::Slime => "slime",
-        Contents::Lava => "lava",
-        Contents::Sky => "sky",
-        Contents::Current0 => "current along x",
-        Contents::Current90 => "current along y",
-        Contents::Current180 => "current against x",
-        Contents::Current270 => "current against y",
-        Contents::CurrentUp => "current up",
-        Contents::CurrentDown => "current down",
-    }
+    let checked = map.hull_check(&Hull::new(table, root))?;
+    Ok((checked.nodes(), checked.height()))
 }
 
 /// The name of a node table.

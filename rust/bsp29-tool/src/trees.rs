@@ -1,7 +1,7 @@
 //! The nodes below a root, walked as the tree check walks them: to say where it refused, and which way
 //! down is the longest. The numbers are the library's; this only finds the place that belongs to them.
 
-use crate::map::{contents_name, table_name, Map};
+use crate::map::{table_name, Map};
 use bsp29::{ClipChild, Contents, NodeTable, Refusal, RenderChild};
 use std::fmt;
 
@@ -21,7 +21,7 @@ impl fmt::Display for Child {
         match self {
             Child::Node(node) => write!(f, "node {node}"),
             Child::Leaf(leaf) => write!(f, "leaf {leaf}"),
-            Child::Contents(contents) => f.write_str(contents_name(*contents)),
+            Child::Contents(contents) => write!(f, "{contents}"),
         }
     }
 }

@@ -2,7 +2,7 @@
 
 use crate::args::At;
 use crate::failure::Failure;
-use crate::map::{self, contents_name, leaf_count, Map, Source};
+use crate::map::{self, leaf_count, Map, Source};
 use crate::out::{self, Report};
 use crate::text::path_text;
 use bsp29::{Contents, Refusal};
@@ -21,7 +21,7 @@ struct There {
 #[derive(Serialize)]
 struct InHull {
     hull: usize,
-    contents: Option<&'static str>,
+    contents: Option<String>,
     /// How many nodes were entered.
     visits: Option<u64>,
     #[serde(flatten)]
@@ -31,7 +31,7 @@ struct InHull {
 #[derive(Serialize)]
 struct InLeaf {
     number: Option<usize>,
-    contents: Option<&'static str>,
+    contents: Option<String>,
     /// The leaves that are seen from it; none where it has no row.
     sees: Option<Vec<u32>>,
     #[serde(flatten)]
@@ -80,7 +80,7 @@ fn in_hull(map: &Map<'_>, model: usize, hull: usize, point: [f32; 3]) -> InHull 
     match answer {
         Ok((contents, visits)) => InHull {
             hull,
-            contents: Some(contents_name(contents)),
+            contents: Some(contents.to_string()),
             visits: Some(visits),
             refused: Refused::default(),
         },
@@ -103,7 +103,7 @@ fn look(map: &Map<'_>, model: usize, point: [f32; 3], leaf: &mut InLeaf) -> Resu
     let (number, _) = map.find_leaf_from(map::root(map, model, 0)?.1, point)?;
     leaf.number = Some(number);
     let record = map.leaves().get(number)?;
-    leaf.contents = Some(contents_name(record.contents));
+    leaf.contents = Some(record.contents.to_string());
     if record.visibility.is_some() && number > 0 {
         leaf.sees = Some(map.visible_leaves(number, leaf_count(map))?);
     }
@@ -116,12 +116,12 @@ impl Report for There {
         writeln!(out, "point   {x} {y} {z}, model {}", self.model)?;
         for hull in &self.hulls {
             write!(out, "hull {}  ", hull.hull)?;
-            match (hull.contents, hull.visits) {
+            match (&hull.contents, hull.visits) {
                 (Some(contents), Some(visits)) => writeln!(out, "{contents}, {visits} visits")?,
                 _ => refused(out, &hull.refused)?,
             }
         }
-        match (self.leaf.number, self.leaf.contents) {
+        match (self.leaf.number, &self.leaf.contents) {
             (Some(number), Some(contents)) => writeln!(out, "leaf    {number}, {contents}")?,
             (Some(number), None) => writeln!(out, "leaf    {number}")?,
             _ => write!(out, "leaf    ")?,

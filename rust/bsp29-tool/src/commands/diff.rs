@@ -110,7 +110,7 @@ fn entities(source: &Source) -> Vec<String> {
     let (entities, _) = parse(map.entity_text().unwrap_or(""));
     let pair = |(key, value): &(&str, &str)| format!("\"{}\" \"{}\"", plain(key), plain(value));
     let line = |pairs: &[(&str, &str)]| pairs.iter().map(pair).collect::<Vec<_>>().join(" ");
-    entities.iter().map(|entity| line(&entity.0)).collect()
+    entities.iter().map(|entity| line(entity.pairs())).collect()
 }
 
 impl Report for Differs {

@@ -1,11 +1,12 @@
 //! `entities`: the entities of a map, all or those of a class.
 
 use crate::args::Entities;
-use crate::entity::{parse, Entity, Wrong};
+use crate::entity::{class, parse};
 use crate::failure::Failure;
 use crate::map::Source;
 use crate::out::{self, Report};
 use crate::text::{path_text, Plain};
+use bsp29::Entity;
 use serde::Serialize;
 use std::io::{self, Write};
 
@@ -23,7 +24,22 @@ struct Listed<'a> {
 struct Numbered<'a> {
     index: usize,
     class: &'a str,
-    pairs: Entity<'a>,
+    /// In the order of the text; a key may stand twice.
+    pairs: Vec<Pair<'a>>,
+}
+
+#[derive(Serialize)]
+struct Pair<'a> {
+    key: &'a str,
+    value: &'a str,
+}
+
+/// What is wrong with the text, and where in it.
+#[derive(Serialize)]
+struct Wrong {
+    byte: usize,
+    line: usize,
+    what: String,
 }
 
 /// Lists the entities; status 1 where the text is none of entities.
@@ -38,16 +54,23 @@ pub fn run(args: &Entities, json: bool) -> Result<u8, Failure> {
         file: path_text(&source.path),
         count: entities.len(),
         entities: numbered(entities, args.class.as_deref()),
-        wrong,
+        wrong: wrong.map(|wrong| Wrong {
+            byte: wrong.byte,
+            line: wrong.line,
+            what: wrong.to_string(),
+        }),
     };
     out::print(&listed, json)?;
     Ok(if listed.wrong.is_none() { crate::YES } else { crate::NO })
 }
 
-fn numbered<'a>(entities: Vec<Entity<'a>>, class: Option<&str>) -> Vec<Numbered<'a>> {
-    let numbered = entities.into_iter().enumerate();
-    let numbered = numbered.map(|(index, pairs)| Numbered { index, class: pairs.class(), pairs });
-    numbered.filter(|entity| class.map_or(true, |class| fits(class, entity.class))).collect()
+fn numbered<'a>(entities: Vec<Entity<'a>>, asked: Option<&str>) -> Vec<Numbered<'a>> {
+    let numbered = |(index, entity): (usize, Entity<'a>)| {
+        let pairs = entity.pairs().iter().map(|&(key, value)| Pair { key, value });
+        Numbered { index, class: class(&entity), pairs: pairs.collect() }
+    };
+    let numbered = entities.into_iter().enumerate().map(numbered);
+    numbered.filter(|entity| asked.map_or(true, |asked| fits(asked, entity.class))).collect()
 }
 
 /// Whether a name fits a pattern, in which a star stands for any characters. The parts between the
@@ -70,17 +93,13 @@ impl Report for Listed<'_> {
     fn text(&self, out: &mut dyn Write) -> io::Result<()> {
         for entity in &self.entities {
             writeln!(out, "entity {}  {}", entity.index, Plain(entity.class))?;
-            for (key, value) in &entity.pairs.0 {
+            for Pair { key, value } in &entity.pairs {
                 writeln!(out, "  \"{}\" \"{}\"", Plain(key), Plain(value))?;
             }
         }
         writeln!(out, "{} of {} entities", self.entities.len(), self.count)?;
         match &self.wrong {
-            Some(wrong) => writeln!(
-                out,
-                "the text is no row of entities from its byte {} on: {}",
-                wrong.byte, wrong.what
-            ),
+            Some(wrong) => writeln!(out, "the text goes wrong at {}", wrong.what),
             None => Ok(()),
         }
     }

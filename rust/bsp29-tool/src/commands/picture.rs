@@ -31,7 +31,7 @@ struct Written {
     squares: Squares,
 }
 
-struct Squares(Vec<(&'static str, usize)>);
+struct Squares(Vec<(String, usize)>);
 
 impl Serialize for Squares {
     fn serialize<S: Serializer>(&self, serializer: S) -> Result<S::Ok, S::Error> {

@@ -2,7 +2,7 @@
 
 use crate::args::Trace;
 use crate::failure::Failure;
-use crate::map::{contents_name, Source};
+use crate::map::Source;
 use crate::out::{self, Report};
 use crate::text::path_text;
 use bsp29::{LineTrace, TraceEnd};
@@ -42,7 +42,7 @@ struct Step {
     /// Along the part of the line that was left at the plane's node; 1 for a terminal end.
     ratio: f32,
     plane: Option<Plane>,
-    contents: &'static str,
+    contents: String,
     start_solid: bool,
     visits: u64,
 }
@@ -108,7 +108,7 @@ impl Step {
             end: trace.end,
             ratio: trace.ratio(),
             plane,
-            contents: contents_name(trace.contents),
+            contents: trace.contents.to_string(),
             start_solid: trace.start_solid,
             visits: trace.visits,
         }

@@ -3,7 +3,7 @@
 use crate::args::Vis;
 use crate::failure::Failure;
 use crate::layout::{Directory, VISIBILITY};
-use crate::map::{contents_name, leaf_count, Map, Source};
+use crate::map::{leaf_count, Map, Source};
 use crate::out::{self, Report};
 use crate::rows;
 use crate::text::path_text;
@@ -28,7 +28,7 @@ struct Seen {
 #[derive(Clone, Serialize)]
 struct Row {
     leaf: usize,
-    contents: &'static str,
+    contents: String,
     /// Where the row begins in the visibility data, and its bytes.
     offset: Option<usize>,
     bytes: Option<usize>,
@@ -100,7 +100,7 @@ impl<'a> Rows<'a> {
         };
         Ok(Row {
             leaf,
-            contents: contents_name(record.contents),
+            contents: record.contents.to_string(),
             offset,
             bytes: read.map(|read| read.bytes),
             seen: read.map(|read| read.seen),

@@ -1,7 +1,6 @@
 //! The colors of squares, by their numbers.
 
 use super::scene::Color;
-use crate::map::contents_name;
 use bsp29::Contents;
 
 /// The numbers of squares that are no contents; those are numbered by their codes, 1 to 14.
@@ -10,21 +9,6 @@ pub const BORDER: u8 = 15;
 pub const FROM_HERE: u8 = 16;
 pub const SEEN: u8 = 17;
 pub const UNSEEN: u8 = 18;
-
-const KINDS: [Contents; 12] = [
-    Contents::Empty,
-    Contents::Solid,
-    Contents::Water,
-    Contents::Slime,
-    Contents::Lava,
-    Contents::Sky,
-    Contents::Current0,
-    Contents::Current90,
-    Contents::Current180,
-    Contents::Current270,
-    Contents::CurrentUp,
-    Contents::CurrentDown,
-];
 
 /// The number of contents.
 pub fn number(contents: Contents) -> u8 {
@@ -54,15 +38,12 @@ fn color(number: u8) -> Color {
 }
 
 /// The name of a square's color in the legend.
-pub fn name(number: u8) -> Option<&'static str> {
-    Some(match number {
-        REFUSED => "refused",
-        FROM_HERE => "the leaf",
-        SEEN => "seen from it",
-        UNSEEN => "not seen",
-        _ => {
-            let contents = KINDS.iter().find(|contents| contents.code() == u32::from(number))?;
-            contents_name(*contents)
-        }
-    })
+pub fn name(number: u8) -> Option<String> {
+    match number {
+        REFUSED => Some("refused".to_string()),
+        FROM_HERE => Some("the leaf".to_string()),
+        SEEN => Some("seen from it".to_string()),
+        UNSEEN => Some("not seen".to_string()),
+        _ => Contents::from_code(number.into()).map(|contents| contents.to_string()),
+    }
 }

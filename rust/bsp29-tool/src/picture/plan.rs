@@ -8,7 +8,7 @@ use super::view::{corners, View};
 use super::{font, slice};
 use crate::entity;
 use crate::map::{self, leaf_count, Map};
-use bsp29::{Contents, Hull, Refusal};
+use bsp29::{Contents, Entity, Hull, Refusal};
 use std::collections::{BTreeMap, HashMap, HashSet};
 
 /// What squares show.
@@ -39,7 +39,7 @@ pub struct Drawn {
     pub view: View,
     pub height: f32,
     /// How many squares have each color of the legend.
-    pub counts: Vec<(&'static str, usize)>,
+    pub counts: Vec<(String, usize)>,
 }
 
 /// Draws a map; `over` draws over it.
@@ -94,8 +94,9 @@ fn level(map: &Map<'_>, asked: &Asked) -> Result<f32, Refusal> {
 /// The height at which players start.
 fn start(map: &Map<'_>) -> Option<f32> {
     let (entities, _) = entity::parse(map.entity_text().ok()?);
-    let mut starts = entities.iter().filter(|entity| entity.class().starts_with("info_player_"));
-    starts.find_map(|entity| entity.point("origin")).map(|origin| origin[2])
+    let is_start = |entity: &&Entity<'_>| entity::class(entity).starts_with("info_player_");
+    let mut starts = entities.iter().filter(is_start);
+    starts.find_map(|entity| entity::point(entity, "origin")).map(|origin| origin[2])
 }
 
 /// A place in the picture and what is written there.
@@ -219,7 +220,7 @@ fn label(&Run { leaf, length, column, row }: &Run, view: &View) -> Option<Label>
 }
 
 /// How many squares have each color that the legend names.
-fn counts(cells: &Cells) -> Vec<(&'static str, usize)> {
+fn counts(cells: &Cells) -> Vec<(String, usize)> {
     let mut counts = [0_usize; 256];
     cells.cells.iter().for_each(|cell| counts[usize::from(*cell)] += 1);
     let named = |number: usize| {

@@ -131,7 +131,7 @@ pub fn legend(cells: &Cells) -> Vec<(Color, String)> {
     cells.cells.iter().for_each(|cell| there[usize::from(*cell)] = true);
     let entry = |(number, color): (usize, &Color)| {
         let name = colors::name(number as u8).filter(|_| there[number])?;
-        Some((*color, name.to_string()))
+        Some((*color, name))
     };
     cells.colors.iter().enumerate().filter_map(entry).collect()
 }
