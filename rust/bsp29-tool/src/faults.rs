@@ -195,9 +195,10 @@ impl Finder<'_> {
         let what = match start > length {
             true => format!("leaf {leaf}'s row begins at {start} of {length} bytes"),
             false => format!(
-                "leaf {leaf}'s row begins at {start} of {length} bytes and runs off their end: it says {} of {} leaves",
+                "leaf {leaf}'s row begins at {start} of {length} bytes and runs off their end: it says {} of {} leaves, of which model 0 has {}",
                 row.leaves,
-                count - 1
+                count - 1,
+                map::leaf_count(self.map).saturating_sub(1)
             ),
         };
         let fault = self.astray((LEAVES, leaf, "visibility"), what, Mark::Leaf(leaf));

@@ -2,7 +2,7 @@
 
 use crate::failure::Failure;
 use crate::file;
-use bsp29::{Hull, NodeTable, Refusal};
+use bsp29::{Hull, LineTrace, NodeTable, Refusal, Trace};
 use std::path::{Path, PathBuf};
 
 /// A map over the bytes of its file.
@@ -34,6 +34,20 @@ pub fn root(map: &Map<'_>, model: usize, hull: usize) -> Result<(NodeTable, usiz
 /// The table of a hull and its root there.
 pub fn root_of(hull: &Hull) -> (NodeTable, usize) {
     (hull.table(), hull.root())
+}
+
+/// What both traces say of a line in a hull. They are asked only where the nodes below the hull's root
+/// are a tree: over nodes that are reached by many ways a trace ends, too, but each node on its way may
+/// double its time.
+pub fn traces(
+    map: &Map<'_>,
+    hull: &Hull,
+    from: [f32; 3],
+    to: [f32; 3],
+) -> Result<(LineTrace, Trace), Refusal> {
+    let (table, root) = root_of(hull);
+    map.tree_check(table, root)?;
+    Ok((map.trace_line(hull, from, to)?, map.trace(hull, from, to)?))
 }
 
 /// How many nodes the tree below a root has, and its height.

@@ -15,7 +15,7 @@ pub trait Report: Serialize {
 pub fn print(report: &impl Report, json: bool) -> Result<(), Failure> {
     let mut out = BufWriter::new(io::stdout().lock());
     let written = match json {
-        true => writeln!(out, "{}", as_json(report)?),
+        true => write_json(report, &mut out),
         false => report.text(&mut out),
     };
     written.and_then(|()| out.flush()).or_else(closed_is_fine)
@@ -29,22 +29,33 @@ fn closed_is_fine(error: io::Error) -> Result<(), Failure> {
     }
 }
 
-/// The JSON of an answer, in ASCII.
-pub fn as_json(value: &impl Serialize) -> Result<String, Failure> {
-    let text = serde_json::to_string_pretty(value).map_err(io::Error::from)?;
-    Ok(ascii(&text))
+/// Writes JSON in ASCII, as it is made: an answer may be long.
+fn write_json(value: &impl Serialize, out: &mut dyn Write) -> io::Result<()> {
+    serde_json::to_writer_pretty(InAscii(out), value)?;
+    writeln!(out)
+}
+
+/// Hands JSON on in ASCII. What is written to it are whole parts of a text.
+struct InAscii<'a>(&'a mut dyn Write);
+
+impl Write for InAscii<'_> {
+    fn write(&mut self, bytes: &[u8]) -> io::Result<usize> {
+        let text = std::str::from_utf8(bytes).map_err(|_| io::ErrorKind::InvalidData)?;
+        self.0.write_all(ascii(text).as_bytes())?;
+        Ok(bytes.len())
+    }
+
+    fn flush(&mut self) -> io::Result<()> {
+        self.0.flush()
+    }
 }
 
 /// Says why a command has no answer: on standard error, or as JSON on standard output.
 pub fn failure(failure: &Failure, json: bool) {
-    let said = match json {
-        true => as_json(&failure.said()).unwrap_or_default(),
-        false => format!("bsp29: {}", plain_lines(&failure.to_string())),
-    };
     // there is nobody left to tell where this fails, too
     let _ = match json {
-        true => writeln!(io::stdout(), "{said}"),
-        false => writeln!(io::stderr(), "{said}"),
+        true => write_json(&failure.said(), &mut io::stdout()),
+        false => writeln!(io::stderr(), "bsp29: {}", plain_lines(&failure.to_string())),
     };
 }
 

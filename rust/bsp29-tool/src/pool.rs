@@ -77,7 +77,9 @@ fn one(worker: &mut Option<Worker>, asked: &Asked, limit: Duration) -> Done {
     };
     let mut hand = match started {
         Ok(hand) => hand,
-        Err(error) => return ended(format!("a worker could not be started: {error}")),
+        Err(error) => {
+            return without(Word::Ended, format!("a worker could not be started: {error}"));
+        }
     };
     match hand.verdict(asked, limit) {
         Ok(verdict) if asked.picture.is_none() || verdict.passes() => {
@@ -89,12 +91,13 @@ fn one(worker: &mut Option<Worker>, asked: &Asked, limit: Duration) -> Done {
             *worker = alive.then_some(hand);
             Done { verdict, picture: Some(picture) }
         }
-        Err(done) => done,
+        Err((word, why)) => without(word, why),
     }
 }
 
-fn ended(why: String) -> Done {
-    Done { verdict: Verdict::other(Word::Ended, why), picture: None }
+/// A map about which no worker answered.
+fn without(word: Word, why: String) -> Done {
+    Done { verdict: Verdict::other(word, why), picture: None }
 }
 
 /// A process that answers about maps.
@@ -148,15 +151,14 @@ impl Worker {
         }
     }
 
-    fn verdict(&mut self, asked: &Asked, limit: Duration) -> Result<Verdict, Done> {
-        self.ask(asked).map_err(|error| ended(format!("a worker could not be asked: {error}")))?;
+    /// The verdict, or why there is none.
+    fn verdict(&mut self, asked: &Asked, limit: Duration) -> Result<Verdict, (Word, String)> {
+        self.ask(asked)
+            .map_err(|error| (Word::Ended, format!("a worker could not be asked: {error}")))?;
         match self.hear(limit) {
             Heard::Answer(Answer::Verdict(verdict)) => Ok(verdict),
-            Heard::Late => {
-                let why = format!("no answer within {} s", limit.as_secs());
-                Err(Done { verdict: Verdict::other(Word::Time, why), picture: None })
-            }
-            Heard::Answer(_) | Heard::Gone => Err(ended(self.gone())),
+            Heard::Late => Err((Word::Time, format!("no answer within {} s", limit.as_secs()))),
+            Heard::Answer(_) | Heard::Gone => Err((Word::Ended, self.gone())),
         }
     }
 
@@ -170,7 +172,9 @@ impl Worker {
         }
     }
 
+    /// How the worker ended; one that answers what it was not asked is ended.
     fn gone(&mut self) -> String {
+        let _ = self.child.kill();
         match self.child.wait() {
             Ok(status) => format!("the process that looked at it ended: {status}"),
             Err(error) => format!("the process that looked at it ended: {error}"),

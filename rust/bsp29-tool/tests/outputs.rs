@@ -198,6 +198,8 @@ fn what_cannot_be_read_is_1() {
         "records maps/rooms.bsp planes 38",
         "at maps/rooms.bsp 0 0 0 --model 2",
         "trace @/loop.bsp 0,0,0 1,1,1 --hull 1",
+        "trace @/shared.bsp 0,0,0 1,1,1 --hull 1",
+        "picture @/shared.bsp --hull 1 --trace 0,0,0 1,1,1 -o rust/bsp29-tool/target/none.png",
         "trace maps/rooms.bsp 0,0,0 1,1,1 --model 9",
         "vis maps/rooms.bsp --leaf 6",
         "check no-such-file",

@@ -166,7 +166,8 @@ impl Sheet {
     fn print(&mut self) -> io::Result<()> {
         while let Some(checked) = self.early.remove(&self.report.maps.len()) {
             self.report.summary.count(checked.verdict.verdict);
-            if !self.json && !(self.quiet && checked.verdict.passes()) {
+            let left_out = self.json || self.quiet && checked.verdict.passes();
+            if !left_out {
                 self.bar.suspend(|| line(&mut io::stdout().lock(), &checked))?;
             }
             self.report.maps.push(checked);

@@ -77,8 +77,7 @@ fn asked(args: &Picture) -> Asked {
         height: args.height,
         shown,
         trace,
-        squares: args.size,
-        side: 1,
+        size: args.size,
         notes: Vec::new(),
     }
 }

@@ -7,18 +7,28 @@ use crate::map::{Map, Source};
 use crate::out::{self, Report};
 use crate::text::path_text;
 use bsp29::Refusal;
-use serde::Serialize;
+use serde::{Serialize, Serializer};
 use std::io::{self, Write};
+use std::ops::Range;
 
 #[derive(Serialize)]
-struct Listed {
+struct Listed<'a> {
     file: String,
     section: &'static str,
     /// How many the section says it has.
     count: usize,
-    records: Vec<Row>,
+    records: Rows<'a>,
     /// What loading makes of the one record that was asked for; none where the map does not load.
     loaded: Option<String>,
+}
+
+/// The records that were asked for, as far as they lie in the file. Each is read when it is printed:
+/// a section may have very many.
+struct Rows<'a> {
+    directory: Directory,
+    bytes: &'a [u8],
+    section: usize,
+    asked: Range<usize>,
 }
 
 #[derive(Serialize)]
@@ -26,6 +36,22 @@ struct Row {
     index: usize,
     byte: usize,
     fields: Fields,
+}
+
+impl Rows<'_> {
+    fn iter(&self) -> impl Iterator<Item = Row> + '_ {
+        self.asked.clone().map_while(|index| {
+            let byte = self.directory.position(self.section, index)?;
+            let fields = self.directory.record(self.bytes, self.section, index)?;
+            Some(Row { index, byte, fields })
+        })
+    }
+}
+
+impl Serialize for Rows<'_> {
+    fn serialize<S: Serializer>(&self, serializer: S) -> Result<S::Ok, S::Error> {
+        serializer.collect_seq(self.iter())
+    }
 }
 
 /// Lists the records; status 1 where not all that the section says are in the file.
@@ -42,20 +68,17 @@ pub fn run(args: &Records, json: bool) -> Result<u8, Failure> {
         Some(number) => number..number + 1,
         None => 0..count,
     };
-    let due = asked.len();
-    let rows: Vec<Row> =
-        asked.map_while(|index| row(&directory, &source.bytes, section, index)).collect();
-    let whole = rows.len() == due;
-    let loaded = args.number.and_then(|number| loaded(&source.bytes, section, number));
-    let file = path_text(&source.path);
-    let listed = Listed { file, section: SECTIONS[section].name, count, records: rows, loaded };
+    let last = asked.end.checked_sub(1);
+    let whole = last.map_or(true, |last| directory.record(&source.bytes, section, last).is_some());
+    let listed = Listed {
+        file: path_text(&source.path),
+        section: SECTIONS[section].name,
+        count,
+        records: Rows { directory, bytes: &source.bytes, section, asked },
+        loaded: args.number.and_then(|number| loaded(&source.bytes, section, number)),
+    };
     out::print(&listed, json)?;
     Ok(if whole { crate::YES } else { crate::NO })
-}
-
-fn row(directory: &Directory, bytes: &[u8], section: usize, index: usize) -> Option<Row> {
-    let byte = directory.position(section, index)?;
-    Some(Row { index, byte, fields: directory.record(bytes, section, index)? })
 }
 
 /// The record as the library gives it, in Rust's words: with the names of contents, the sides of
@@ -78,17 +101,16 @@ fn loaded(bytes: &[u8], section: usize, index: usize) -> Option<String> {
     record.ok()
 }
 
-impl Report for Listed {
+impl Report for Listed<'_> {
     fn text(&self, out: &mut dyn Write) -> io::Result<()> {
-        for row in &self.records {
+        let mut shown = 0;
+        for row in self.records.iter() {
             writeln!(out, "{} {} at {}: {}", self.section, row.index, row.byte, row.fields)?;
+            shown += 1;
         }
-        if let Some(loaded) = &self.loaded {
-            writeln!(out, "loaded: {loaded}")?;
+        match &self.loaded {
+            Some(loaded) => writeln!(out, "loaded: {loaded}"),
+            None => writeln!(out, "{shown} of {} {}", self.count, self.section),
         }
-        if self.loaded.is_none() || self.records.is_empty() {
-            writeln!(out, "{} of {} {}", self.records.len(), self.count, self.section)?;
-        }
-        Ok(())
     }
 }

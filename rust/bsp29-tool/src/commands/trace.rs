@@ -2,7 +2,7 @@
 
 use crate::args::Trace;
 use crate::failure::Failure;
-use crate::map::Source;
+use crate::map::{self, Source};
 use crate::out::{self, Report};
 use crate::text::path_text;
 use bsp29::{LineTrace, TraceEnd};
@@ -57,16 +57,12 @@ struct Plane {
 pub fn run(args: &Trace, json: bool) -> Result<u8, Failure> {
     let source = Source::read(&args.file)?;
     let map = source.map()?;
-    let failed = |what| move |refusal| (what, refusal);
     let traced = || {
-        let hull = map.hull(args.hull.model, args.hull.hull.into()).map_err(failed("the hull"))?;
-        let (from, to) = (args.from.0, args.to.0);
-        let line = map.trace_line(&hull, from, to).map_err(failed("the line"))?;
-        let trace = map.trace(&hull, from, to).map_err(failed("the trace"))?;
-        Ok((line, trace))
+        let hull = map.hull(args.hull.model, args.hull.hull.into())?;
+        map::traces(&map, &hull, args.from.0, args.to.0)
     };
     let (line, trace) =
-        traced().map_err(|(what, refusal)| Failure::refused(&source.path, what, refusal))?;
+        traced().map_err(|refusal| Failure::refused(&source.path, "the trace", refusal))?;
     let traced = Traced {
         file: path_text(&source.path),
         model: args.hull.model,

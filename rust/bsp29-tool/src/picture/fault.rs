@@ -11,8 +11,8 @@ use crate::text::{cut, path_text};
 use crate::verdict::Judged;
 use bsp29::Refusal;
 
-/// Where walks may run in circles a square can cost a walk of the whole table, so there are fewer.
-const SQUARES: u32 = 200;
+/// The pixels of the longer side.
+const SIZE: u32 = 400;
 
 /// The picture of what was refused.
 pub fn scene(source: &Source, judged: &Judged<'_>) -> Scene {
@@ -43,8 +43,7 @@ fn in_map(map: &Map<'_>, mark: &Mark, title: String, notes: Vec<String>) -> Resu
         height: corners.map(|(mins, maxs)| (mins[2] + maxs[2]) / 2.0),
         shown: Shown::Contents,
         trace: None,
-        squares: SQUARES,
-        side: 2,
+        size: SIZE,
         notes,
     };
     let drawn = plan::draw(map, &asked, |scene: &mut Scene, view: &View| {

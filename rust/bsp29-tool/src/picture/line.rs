@@ -2,14 +2,14 @@
 
 use super::scene::{At, Color, Scene, RED};
 use super::view::View;
-use crate::map::{root_of, Map};
+use crate::map::{root_of, traces, Map};
 use crate::trees::{node, Child};
 use bsp29::{Hull, LineTrace, Refusal, Trace};
 
 const PLANES: Color = [0x20, 0x90, 0x30];
 const RICHTER: Color = [0x70, 0x20, 0xb0];
 
-/// The most nodes that are looked at: a map that was not accepted may have nodes that lead in a circle.
+/// The most nodes that are looked at for crossings, which is more than a picture can show.
 const MOST: usize = 4_096;
 
 /// How far a plane's line is drawn on either side of the crossing, in pixels.
@@ -32,8 +32,7 @@ struct Crossing {
 
 /// Traces a line in a hull.
 pub fn shoot(map: &Map<'_>, hull: &Hull, from: [f32; 3], to: [f32; 3]) -> Result<Shot, Refusal> {
-    let line = map.trace_line(hull, from, to)?;
-    let trace = map.trace(hull, from, to)?;
+    let (line, trace) = traces(map, hull, from, to)?;
     let crossed = crossings(map, hull, from, to, line.fraction)?;
     Ok(Shot { from, to, line, trace, crossed })
 }

@@ -27,9 +27,8 @@ pub struct Asked {
     pub height: Option<f32>,
     pub shown: Shown,
     pub trace: Option<([f32; 3], [f32; 3])>,
-    /// The squares of the longer side, and the side of a square in pixels.
-    pub squares: u32,
-    pub side: u32,
+    /// The pixels of the longer side.
+    pub size: u32,
     pub notes: Vec<String>,
 }
 
@@ -49,7 +48,8 @@ pub fn draw(
     over: impl FnOnce(&mut Scene, &View),
 ) -> Result<Drawn, Refusal> {
     let hull = map.hull(asked.model, asked.hull)?;
-    let view = View::of(corners(map, asked.model), asked.squares, asked.side, [MARGIN, HEAD]);
+    let side = side(map, &hull, asked)?;
+    let view = View::of(corners(map, asked.model), asked.size / side, side, [MARGIN, HEAD]);
     let height = match asked.height {
         Some(height) => height,
         None => level(map, asked)?,
@@ -74,6 +74,22 @@ pub fn draw(
         shot.iter().for_each(|shot| shot.draw(scene, &view));
     });
     Ok(Drawn { scene, view, height, counts })
+}
+
+/// The most squares of the longer side where the nodes are no tree: a walk that goes in a circle enters
+/// as many nodes as the table has before it is refused, at every square.
+const FEWER: u32 = 200;
+
+/// The side of a square in pixels.
+fn side(map: &Map<'_>, hull: &Hull, asked: &Asked) -> Result<u32, Refusal> {
+    let (table, root) = match asked.shown {
+        Shown::Contents => map::root_of(hull),
+        _ => map::root(map, asked.model, 0)?,
+    };
+    match map.tree_check(table, root) {
+        Ok(_) => Ok(1),
+        Err(_) => Ok(asked.size.div_ceil(FEWER)),
+    }
 }
 
 /// The height that is drawn where none is asked for: that of the leaf that is seen from, of the line's
@@ -170,7 +186,7 @@ struct Run {
     row: usize,
 }
 
-/// The number of each leaf on a long run of its squares near its middle row, where there is room.
+/// The number of each leaf on a long run of its squares near its middle row, where there is room for it.
 fn labels(leaves: &[Result<usize, Refusal>], view: &View) -> Vec<Label> {
     let runs = runs(leaves, view.columns);
     // of each leaf its squares, and their rows added up
@@ -189,7 +205,9 @@ fn labels(leaves: &[Result<usize, Refusal>], view: &View) -> Vec<Label> {
             _ => drop(best.insert(run.leaf, (score, run))),
         }
     }
-    best.values().filter_map(|(_, run)| label(run, view)).collect()
+    let high = |run: &Run| sums[&run.leaf].0 / run.length * view.side as usize;
+    let roomy = best.into_values().map(|(_, run)| run).filter(|run| high(run) > font::HIGH);
+    roomy.filter_map(|run| label(&run, view)).collect()
 }
 
 fn runs(leaves: &[Result<usize, Refusal>], columns: usize) -> Vec<Run> {

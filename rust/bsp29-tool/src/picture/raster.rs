@@ -13,6 +13,9 @@ pub fn png(scene: &Scene) -> Result<Vec<u8>, png::EncodingError> {
     let mut encoder = png::Encoder::new(&mut bytes, scene.width, scene.height);
     encoder.set_color(png::ColorType::Rgb);
     encoder.set_depth(png::BitDepth::Eight);
+    // a line is mostly the one above it
+    encoder.set_filter(png::FilterType::Up);
+    encoder.set_compression(png::Compression::Best);
     let mut writer = encoder.write_header()?;
     writer.write_image_data(&sheet.pixels)?;
     writer.finish()?;
