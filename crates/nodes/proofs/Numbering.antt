@@ -1,20 +1,23 @@
 -- Planes by their number: each way through the readers, and that they are the file's planes.
 -- Assumes nothing.
-use Prim.Native.Nat.{ℕ, _+_, _-_, _*_, _/_, _<_, _≤_, min}
+use Prim.Native.Nat.{ℕ, zero, suc, _+_, _-_, _*_, _/_, _<_, _≤_, min}
 use mathlib.Core.Path.{_≡_, refl, sym, ap, _∙_, fun-ext}
-use mathlib.Core.Bool.{Bool, true, false}
+use mathlib.Core.Bool.{Bool, true, false, cond}
 use mathlib.Core.List.{List, [], _∷_}
 use native.Mathlib.Omega.{arith}
 use borrow.Author.Tests.{lt-ltb, le-ltb, lt-leb, le-leb, leb-true, leb-false}
 use lib.Dec.{leb}
-use lib.ListN.{length, take, drop, length-take, length-drop}
+use lib.Ieee.{Float}
+use lib.ListN.{length, getD, take, drop, length-take, length-drop}
 use lib.Seq.{getD-take, getD-drop, take-all}
 use Rattle.format.specs.Answer.{Answer, answer, refused}
 use Rattle.format.specs.declared.section.BspData.{BspData}
 use Rattle.format.specs.declared.section.BspFileSection.{BspFileSection}
+use Rattle.math.specs.Plane as Pl
 use Rattle.math.specs.declared.Vector3.{Vector3}
-use Rattle.nodes.specs.Fast.{Within, partOf, placeIn, hereAt, planeHere, planeRead, planeOfIndex, tablesOf}
-use Rattle.nodes.specs.Numbered.{allowed, readable, planeOf, planeNumbered}
+use Rattle.math.specs.declared.Hyperplane.{Hyperplane}
+use Rattle.nodes.specs.Fast.{Within, along, sideFrom, partOf, placeIn, hereAt, planeHere, planeRead, planeOfIndex, tablesOf}
+use Rattle.nodes.specs.Numbered.{allowed, readable, planeOf, planeNumbered, sideOf, pickedBy}
 use Rattle.nodes.specs.declared.table.Part.{Part}
 use Rattle.nodes.specs.declared.table.HullTable.the-variants.{Clip}
 use Rattle.nodes.proofs.Places.{none, unreadable, inside, outside}
@@ -36,6 +39,34 @@ module _ (bs : List ℕ) (count i : ℕ) where
     pub there : i * 20 + 20 ≤ length bs → planeNumbered bs count i ≡ answer (planeHere bs (i * 20))
     unfolding planeNumbered planeOf
     there g = simp (lt-ltb i count h, lt-leb count i h, le-leb (i * 20 + 20) (length bs) g)
+
+  -- one of two numbers by the side of a point; so many planes are known to be there
+  module _ (p : Vector3) (f b : ℕ) where
+    abbrev all : Answer ℕ
+    all = pickedBy f b (sideFrom p (planeNumbered bs count i))
+
+    pub picked-30 : count ≤ i → refused 30 ≡ all
+    picked-30 h = sym (ap (λ (a : Answer Hyperplane). pickedBy f b (sideFrom p a)) (outside-30 h))
+
+    module _ (known : ℕ) (is-known : known ≡ min count (length bs / 20)) where
+      pub picked-23 : known ≤ i → i < count → refused 23 ≡ all
+      picked-23 h g = sym (ap (λ (a : Answer Hyperplane). pickedBy f b (sideFrom p a)) (unread-23 g (omega (arith, is-known, h, g))))
+
+      pub picked : i < known → (x : Bool) → Pl.sideIf x ≡ Pl.pointSide (planeHere bs (i * 20)) p → (w : ℕ) → w ≡ cond x f b → answer w ≡ all
+      picked h x e w is-w =
+          ap answer (is-w ∙ go x ∙ ap (sideOf f b) e)
+          ∙ sym (ap (λ (a : Answer Hyperplane). pickedBy f b (sideFrom p a)) (there (omega (arith, is-known, h)) (omega (arith, is-known, h))))
+        where
+          go : (x : Bool) → cond x f b ≡ sideOf f b (Pl.sideIf x)
+          go true = refl
+          go false = refl
+
+-- a point's coordinates by axis
+pub coordinate : (p : Vector3) (k : ℕ) (d : Float) → k < 3 → getD (p .x ∷ p .y ∷ p .z ∷ []) k d ≡ along p k
+coordinate p zero d h = refl
+coordinate p (suc zero) d h = refl
+coordinate p (suc (suc zero)) d h = refl
+coordinate p (suc (suc (suc k))) d h = absurd (omega arith)
 
 -- ---- the bytes that can be read
 

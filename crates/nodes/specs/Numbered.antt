@@ -5,10 +5,15 @@ use mathlib.Core.Bool.{cond}
 use mathlib.Core.List.{List}
 use lib.Dec.{ltb, leb}
 use lib.ListN.{length, take, drop}
-use Rattle.format.specs.Answer.{Answer, answer, refused}
+use Rattle.format.specs.Answer.{Answer, answer, refused, mapped}
+use Rattle.format.specs.Refusal.{numberOf}
 use Rattle.format.specs.declared.section.BspFileSection.{BspFileSection}
 use Rattle.math.specs.declared.Hyperplane.{Hyperplane}
+use Rattle.math.specs.declared.HyperplaneSide.{HyperplaneSide}
+use Rattle.math.specs.declared.HyperplaneSide.the-variants.{Positive, Negative}
 use Rattle.nodes.specs.Fast.{planeHere}
+use Rattle.nodes.specs.declared.numbered.Picked.{Picked}
+use Rattle.nodes.specs.declared.numbered.Picked.the-variants as P
 
 -- the limit allows all planes or none
 abbrev pub allowed : ℕ → ℕ
@@ -27,3 +32,15 @@ planeOf bs count i =
 -- its number (30), then the plane
 unfoldable pub planeNumbered : List ℕ → ℕ → ℕ → Answer Hyperplane
 planeNumbered bs count i = cond (ltb i count) (planeOf bs count i) (refused 30)
+
+-- of two numbers the one on a side
+abbrev pub sideOf : ℕ → ℕ → HyperplaneSide → ℕ
+sideOf f b Positive = f
+sideOf f b Negative = b
+
+abbrev pub pickedBy : ℕ → ℕ → Answer HyperplaneSide → Answer ℕ
+pickedBy f b a = mapped (sideOf f b) a
+
+abbrev pub pickedAnswer : Picked → Answer ℕ
+pickedAnswer (P.Word w) = answer w
+pickedAnswer (P.Refused e) = refused (numberOf e)

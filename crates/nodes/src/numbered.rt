@@ -1,6 +1,7 @@
 // Planes of the file by their number, from the bytes of those that can be read: for a node table that a caller lends, whose planes are the
 // file's. One test of the number (30) and one of the bytes (23) a plane.
 ghost use mathlib.Core.Path.{_≡_};
+ghost use mathlib.Core.Bool.{cond};
 ghost use Prim.Native.Nat.{_/_, min};
 ghost use Rattle.records.specs.Plane.{planeAnswer};
 ghost use Rattle.nodes.specs.Fast as Fast;
@@ -10,13 +11,18 @@ use crate::bytes::u32_at;
 use crate::here::along;
 use crate::here::normal_at;
 use crate::read::Dists;
-use crate::read::Sided;
 use crate::read::is_front;
 use format::refusal::Refusal;
 use format::section::BspFileSection;
 use math::Hyperplane;
 use math::Vector3;
 use records::plane::PlaneAnswer;
+
+// One of two numbers, or why the plane that decides cannot be read.
+pub enum Picked {
+    Word(u32),
+    Refused(Refusal),
+}
 
 // How many planes a section has.
 pub fn plane_count(section: BspFileSection) -> u32
@@ -51,23 +57,44 @@ pub fn readable_planes(file: &[u8], section: BspFileSection) -> &[u8]
     &file[at..end]
 }
 
-// On which side of the plane of a number a point lies.
-pub fn side_by_number(planes: &[u8], count: u32, number: u32, point: Vector3) -> Sided
-    ensures { λ r. ⌜ Fast.sidedAnswer r ≡ Fast.sideFrom point (Numbered.planeNumbered (now (planes .entry)) count number) ⌝ }
+// The number on a side, of two.
+fn of_two(front: u32, back: u32, in_front: bool) -> u32
+    ensures { λ r. ⌜ r ≡ cond in_front front back ⌝ }
 {
-    if count <= number {
-        return Sided::Refused(Refusal::IndexOutsideTable);
+    if in_front { front } else { back }
+}
+
+// Of two numbers the one on the point's side of the plane of a number: the side picks where it is found, so that it is one branch. One test
+// finds the planes that can be read; the coordinate comes from a list by the plane's type, and is no branch.
+pub fn pick_by_number(
+    planes: &[u8],
+    count: u32,
+    number: u32,
+    point: Vector3,
+    front: u32,
+    back: u32,
+) -> Picked
+    ensures { λ r. ⌜ Numbered.pickedAnswer r ≡ Numbered.pickedBy front back (Fast.sideFrom point (Numbered.planeNumbered (now (planes .entry)) count number)) ⌝ }
+{
+    let known = lesser(count as usize, planes.len() / 20);
+    if known <= (number as usize) {
+        if count <= number {
+            return Picked::Refused(Refusal::IndexOutsideTable);
+        }
+        return Picked::Refused(Refusal::Unreadable);
     }
     let at = (number as usize) * 20;
-    if planes.len() < at + 20 {
-        return Sided::Refused(Refusal::Unreadable);
-    }
     let dist = f32_at(planes, at + 12);
     let kind = u32_at(planes, at + 16);
     if kind < 3 {
-        return Sided::Front(along(point, kind) >= dist);
+        let coordinates = [point.x, point.y, point.z];
+        return Picked::Word(of_two(front, back, coordinates[kind as usize] >= dist));
     }
-    Sided::Front(is_front(Hyperplane::new(normal_at(planes, at), dist).point_side(point)))
+    let plane = Hyperplane::new(normal_at(planes, at), dist);
+    if is_front(plane.point_side(point)) {
+        return Picked::Word(front);
+    }
+    Picked::Word(back)
 }
 
 // How far two points are from the plane of a number.
