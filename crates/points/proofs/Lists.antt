@@ -14,6 +14,7 @@ use borrow.Rule.Slice.PartMut.{midOf, postOf, putMid, mid-len, post-is}
 use lib.Ieee.{Float, nan, le}
 use Rattle.math.specs.Plane as Pl
 use Rattle.ways.specs.Groups.{kept, fill, isFront, inFront}
+use Rattle.ways.proofs.Divided.{kept-length}
 use Rattle.math.specs.declared.Axis.{Axis}
 use Rattle.math.specs.declared.Axis.the-variants.{X, Y, Z}
 use Rattle.math.specs.declared.Alignment.{Alignment}
@@ -192,11 +193,61 @@ module _ (cs : List Float) (d : Float) (q : ℕ) where
   by-axis Y = sym (side-front (le d (getD cs (q * 3 + 1) nan)))
   by-axis Z = sym (side-front (le d (getD cs (q * 3 + 2) nan)))
 
-pub along-axis : (cs : List Float) (h : Hyperplane) (a : Axis) → h .alignment ≡ Aligned a → (k : ℕ) → k ≡ axisNumber a → (ids l aside : List ℕ) (n : ℕ) → Sided (reaches cs k (h .dist)) ids l aside n → Sided (inFront (pointAt cs) h) ids l aside n
+reaches-is : (cs : List Float) (h : Hyperplane) (a : Axis) → h .alignment ≡ Aligned a → (k : ℕ) → k ≡ axisNumber a → (q : ℕ) → reaches cs k (h .dist) q ≡ inFront (pointAt cs) h q
 unfolding inFront
-along-axis cs h a e k is-k ids l aside n p = sided-same (reaches cs k (h .dist)) (inFront (pointAt cs) h) same ids l aside n p
-  where
-    same : (q : ℕ) → reaches cs k (h .dist) q ≡ inFront (pointAt cs) h q
-    same q =
-        ap (λ (j : ℕ). reaches cs j (h .dist) q) is-k ∙ by-axis cs (h .dist) q a
-        ∙ sym (ap (λ (x : Alignment). isFront (Pl.sideOf x (h .dist) (pointAt cs q))) e)
+reaches-is cs h a e k is-k q =
+    ap (λ (j : ℕ). reaches cs j (h .dist) q) is-k ∙ by-axis cs (h .dist) q a
+    ∙ sym (ap (λ (x : Alignment). isFront (Pl.sideOf x (h .dist) (pointAt cs q))) e)
+
+pub along-axis : (cs : List Float) (h : Hyperplane) (a : Axis) → h .alignment ≡ Aligned a → (k : ℕ) → k ≡ axisNumber a → (ids l aside : List ℕ) (n : ℕ) → Sided (reaches cs k (h .dist)) ids l aside n → Sided (inFront (pointAt cs) h) ids l aside n
+along-axis cs h a e k is-k ids l aside n p = sided-same (reaches cs k (h .dist)) (inFront (pointAt cs) h) (reaches-is cs h a e k is-k) ids l aside n p
+
+-- ---- counted, and left as they are where all go one way
+
+pub count-axis : (cs : List Float) (h : Hyperplane) (a : Axis) → h .alignment ≡ Aligned a → (k : ℕ) → k ≡ axisNumber a → (ids : List ℕ) → length (kept (reaches cs k (h .dist)) ids) ≡ length (kept (inFront (pointAt cs) h) ids)
+count-axis cs h a e k is-k ids = ap length (kept-same (reaches cs k (h .dist)) (inFront (pointAt cs) h) (reaches-is cs h a e k is-k) ids)
+
+module _ (f : ℕ → Bool) where
+  pub count-next : (ids : List ℕ) (n i : ℕ) → i < length ids → n ≡ length (kept f (take i ids)) → (b : Bool) → b ≡ f (getD ids i 0) → (n′ : ℕ) → ((b ≡ true) × (n′ ≡ n + 1)) ⊎ ((b ≡ false) × (n′ ≡ n)) → n′ ≡ length (kept f (take (i + 1) ids))
+  count-next ids n i h e b is-b n′ w = go w ∙ sym (ap (λ (l : List ℕ). length (kept f l)) one-on)
+    where
+      x : ℕ
+      x = getD ids i 0
+
+      one-on : take (i + 1) ids ≡ take i ids ++ (x ∷ [])
+      one-on = rw (add-one) (take-suc ids i 0 h)
+
+      go : ((b ≡ true) × (n′ ≡ n + 1)) ⊎ ((b ≡ false) × (n′ ≡ n)) → n′ ≡ length (kept f (take i ids ++ (x ∷ [])))
+      go (inl w) = w .1 ∙ ap (λ (j : ℕ). j + 1) e ∙ sym (ap length (kept-in f (take i ids) x (sym is-b ∙ w .0)) ∙ length-append (kept f (take i ids)) (x ∷ []))
+      go (inr w) = w .1 ∙ e ∙ sym (ap length (kept-out f (take i ids) x (sym is-b ∙ w .0)))
+
+  pub count-all : (ids : List ℕ) (n i : ℕ) → length ids ≤ i → n ≡ length (kept f (take i ids)) → n ≡ length (kept f ids)
+  count-all ids n i h e = e ∙ ap (λ (l : List ℕ). length (kept f l)) (take-all i ids h)
+
+  none-kept : (g : ℕ → Bool) (l : List ℕ) → length (kept g l) ≡ 0 → (kept g l ≡ []) × (kept (λ q. not (g q)) l ≡ l)
+  none-kept g [] e = (refl, refl)
+  none-kept g (x ∷ l) e = go (g x) e (none-kept g l)
+    where
+      go : (b : Bool) → length (cond b (x ∷ kept g l) (kept g l)) ≡ 0 → (length (kept g l) ≡ 0 → (kept g l ≡ []) × (kept (λ q. not (g q)) l ≡ l))
+          → (cond b (x ∷ kept g l) (kept g l) ≡ []) × (cond (not b) (x ∷ kept (λ q. not (g q)) l) (kept (λ q. not (g q)) l) ≡ x ∷ l)
+      go true e ih = absurd (omega (arith, e))
+      go false e ih = (ih e .0, ap (λ (k : List ℕ). x ∷ k) (ih e .1))
+
+  all-kept : (l : List ℕ) → length (kept f l) ≡ length l → (kept f l ≡ l) × (kept (λ q. not (f q)) l ≡ [])
+  all-kept [] e = (refl, refl)
+  all-kept (x ∷ l) e = go (f x) e (all-kept l)
+    where
+      short : length (kept f l) + length (kept (λ q. not (f q)) l) ≡ length l
+      short = kept-length f l
+
+      go : (b : Bool) → length (cond b (x ∷ kept f l) (kept f l)) ≡ suc (length l) → (length (kept f l) ≡ length l → (kept f l ≡ l) × (kept (λ q. not (f q)) l ≡ []))
+          → (cond b (x ∷ kept f l) (kept f l) ≡ x ∷ l) × (cond (not b) (x ∷ kept (λ q. not (f q)) l) (kept (λ q. not (f q)) l) ≡ [])
+      go true e ih = let h : length (kept f l) ≡ length l = omega (arith, e) in (ap (λ (k : List ℕ). x ∷ k) (ih h .0), ih h .1)
+      go false e ih = absurd (omega (arith, e, short))
+
+  -- the list as it is, where none or all are in front
+  pub all-behind : (ids : List ℕ) (n : ℕ) → n ≡ length (kept f ids) → n ≡ 0 → (ids ≡ kept f ids ++ kept (λ q. not (f q)) ids) × (0 ≡ length (kept f ids))
+  all-behind ids n e z = let k = none-kept f ids (sym e ∙ z) in (sym (ap (λ (l : List ℕ). l ++ kept (λ q. not (f q)) ids) (k .0) ∙ k .1), sym z ∙ e)
+
+  pub all-in-front : (ids : List ℕ) (n : ℕ) → n ≡ length (kept f ids) → n ≡ length ids → (ids ≡ kept f ids ++ kept (λ q. not (f q)) ids) × (n ≡ length (kept f ids))
+  all-in-front ids n e z = let k = all-kept ids (sym e ∙ z) in (sym (ap (λ (l : List ℕ). l ++ kept (λ q. not (f q)) ids) (k .0) ∙ ap (λ (l : List ℕ). ids ++ l) (k .1) ∙ append-nil ids), e)

@@ -3,7 +3,7 @@ ghost use mathlib.Core.Path.{_≡_};
 ghost use mathlib.Core.List.{_++_};
 ghost use Prim.Native.Nat.{_≤_};
 ghost use lib.ListN.{length, take};
-ghost use Rattle.ways.specs.Groups.{inFront, fronts, backs, fill};
+ghost use Rattle.ways.specs.Groups.{kept, inFront, fronts, backs, fill};
 ghost use Rattle.points.specs.Going as Going;
 use math::Alignment;
 use math::Axis;
@@ -109,14 +109,84 @@ fn put_back(aside: &[u16], list: &mut [u16])
     }
 }
 
+// How many points of a list reach a distance along an axis. Nothing is written, and the side is no branch.
+fn count_along(coords: &[f32], axis: u16, dist: f32, ids: &[u16]) -> usize
+    ensures { λ r. ⌜ r ≡ length (kept (Going.reaches (now (coords .entry)) axis dist) (now (ids .entry))) ⌝ }
+{
+    let mut front = 0;
+    let mut i = 0;
+    while i < ids.len() {
+        if reaches(coords, axis, dist, ids[i]) {
+            front = front + 1;
+        }
+        i = i + 1;
+    }
+    front
+}
+
+// The same for any plane.
+fn count_any(coords: &[f32], plane: Hyperplane, ids: &[u16]) -> usize
+    ensures { λ r. ⌜ r ≡ length (fronts (Going.pointAt (now (coords .entry))) plane (now (ids .entry))) ⌝ }
+{
+    let mut front = 0;
+    let mut i = 0;
+    while i < ids.len() {
+        if in_front(coords, plane, ids[i]) {
+            front = front + 1;
+        }
+        i = i + 1;
+    }
+    front
+}
+
+fn count(coords: &[f32], plane: Hyperplane, ids: &[u16]) -> usize
+    ensures { λ r. ⌜ r ≡ length (fronts (Going.pointAt (now (coords .entry))) plane (now (ids .entry))) ⌝ }
+{
+    let alignment = plane.alignment;
+    match alignment {
+        Alignment::Axis(a) => count_along(coords, axis_number(a), plane.dist, ids),
+        Alignment::Normal(_) => count_any(coords, plane, ids),
+    }
+}
+
 // The points in front of the plane first, then those behind it, each in their order; how many are in front.
-pub fn divide(coords: &[f32], plane: Hyperplane, ids: &mut [u16], aside: &mut [u16]) -> usize
+fn reorder(coords: &[f32], plane: Hyperplane, ids: &mut [u16], aside: &mut [u16]) -> usize
     requires { ⌜ length (now ids) ≤ length (now aside) ⌝ }
     ensures { λ r. ⌜ (now (ids .exit) ≡ fronts (Going.pointAt (now (coords .entry))) plane (now (ids .entry)) ++ backs (Going.pointAt (now (coords .entry))) plane (now (ids .entry))) × (r ≡ length (fronts (Going.pointAt (now (coords .entry))) plane (now (ids .entry)))) ⌝ }
 {
     let front = part(coords, plane, ids, aside);
     put_back(aside, &mut ids[front..]);
     front
+}
+
+// Whether the first eight of many points say that there are some on either side, so that it is not worth counting all.
+fn are_mixed(coords: &[f32], plane: Hyperplane, ids: &[u16]) -> bool {
+    if ids.len() <= 8 {
+        return false;
+    }
+    let few = count(coords, plane, &ids[..8]);
+    if few == 0 {
+        return false;
+    }
+    few < 8
+}
+
+// The same as `reorder`. Points that all go one way, as most groups do where points are near one another, stay as they are.
+pub fn divide(coords: &[f32], plane: Hyperplane, ids: &mut [u16], aside: &mut [u16]) -> usize
+    requires { ⌜ length (now ids) ≤ length (now aside) ⌝ }
+    ensures { λ r. ⌜ (now (ids .exit) ≡ fronts (Going.pointAt (now (coords .entry))) plane (now (ids .entry)) ++ backs (Going.pointAt (now (coords .entry))) plane (now (ids .entry))) × (r ≡ length (fronts (Going.pointAt (now (coords .entry))) plane (now (ids .entry)))) ⌝ }
+{
+    if are_mixed(coords, plane, ids) {
+        return reorder(coords, plane, ids, aside);
+    }
+    let front = count(coords, plane, ids);
+    if front == 0 {
+        return 0;
+    }
+    if front == ids.len() {
+        return front;
+    }
+    reorder(coords, plane, ids, aside)
 }
 
 // The same byte for each point of a list.

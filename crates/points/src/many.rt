@@ -122,6 +122,32 @@ fn answer_all(
     PointsAnswer::Reads(reads)
 }
 
+// One point: the walk that it takes alone. `contents_alone` with a second caller would be a call.
+fn answer_one(
+    s: &[u8],
+    map: BspData,
+    hull: BspCollisionHull,
+    coords: &[f32],
+    list: &mut [u8],
+) -> PointsAnswer
+    requires { ⌜ Going.Asked 1 (now coords) (length (now list)) ⌝ }
+    ensures { λ r. ⌜ listed (Points.pointsAnswer r) (now (list .exit)) ≡ Points.answered (hullTable (now (s .entry)) map hull) (hull .«node_id») (now (coords .entry)) (now (list .entry)) ⌝ }
+{
+    let table = hull.table;
+    let t = tables_of(map, table, hull.mins, hull.maxs);
+    let p = point_at(coords, 0);
+    match walk_to_end(s, t, hull.node_id, p.x, p.y, p.z) {
+        WalkEnd::Refused(e) => PointsAnswer::Refused(e),
+        WalkEnd::Word(word, visits) => match end_contents(s, t, word) {
+            EndContents::Refused(e) => PointsAnswer::Refused(e),
+            EndContents::Contents(c) => {
+                list[0] = c.code() as u8;
+                PointsAnswer::Reads(visits)
+            }
+        },
+    }
+}
+
 // A few points: fewer entries to clear.
 fn answer_few(
     s: &[u8],
@@ -199,6 +225,9 @@ pub fn contents_at_points(
     }
     if count == 0 {
         return PointsAnswer::Reads(0);
+    }
+    if count == 1 {
+        return answer_one(s, map, hull, coords, list);
     }
     if count <= 32 {
         return answer_few(s, map, hull, coords, list);

@@ -1,29 +1,17 @@
--- `divide` meets its contract: the two parts, put together.
+-- `divide` meets its contract: the list as it is where all go one way, else in its new order.
 -- Assumes nothing.
 use Rattle.ways.specs.Groups.{inFront}
 use Rattle.points.specs.Going.{pointAt}
-use Rattle.points.proofs.Lists.{together}
+use Rattle.points.proofs.Lists.{all-behind, all-in-front}
 use borrow.Author.Needs.{needs}
 use Rattle.points.proofs.divide.divide.Statement.{statement}
 use Rattle.points.proofs.divide.divide.Tie as tie
 
-part-requires : tie.Need-part-requires
-part-requires c κs = search needs
+are-mixed-requires : tie.Need-are-mixed-requires
+are-mixed-requires c κs = search needs
 
-mul-put-back : tie.Need-mul-put-back
-mul-put-back c = search needs
-
-sub-put-back : tie.Need-sub-put-back
-sub-put-back c = search needs
-
-part-put-back-start : tie.Need-part-put-back-start
-part-put-back-start c = search needs
-
-part-put-back-end : tie.Need-part-put-back-end
-part-put-back-end c = search needs
-
-put-back-requires : tie.Need-put-back-requires
-put-back-requires c κs = search needs
+reorder-requires : tie.Need-reorder-requires
+reorder-requires c κs = search needs
 
 same-length : tie.Need-same-length
 same-length c = search needs
@@ -32,18 +20,50 @@ same-length-2 : tie.Need-same-length-2
 same-length-2 c = search needs
 
 returns : tie.Need-returns
-returns c = let a = c .before .before .before .before .before .before .before .before .before .before .before .before .before .before .before .args in let p = c .before .before .before .before .before .before .before .before .before .part in together (inFront (pointAt (a .coords .now)) (a .plane)) (a .ids .now) (p .last .1 .1 .0) (p .last .1 .1 .1 .0) (p .result) (p .ensures) (c .before .before .put-back .last .1 .0) (c .before .before .put-back .ensures)
+returns c = search needs
+
+count-requires : tie.Need-count-requires
+count-requires c κs = search needs
+
+same-length-3 : tie.Need-same-length-3
+same-length-3 c = search needs
+
+returns-2 : tie.Need-returns-2
+returns-2 c = let a = c .before .before .before .before .before .before .before .before .before .args in all-behind (inFront (pointAt (a .coords .now)) (a .plane)) (a .ids .now) _ (c .before .count .ensures) (c .if2 .taken)
+
+same-length-4 : tie.Need-same-length-4
+same-length-4 c = search needs
+
+returns-3 : tie.Need-returns-3
+returns-3 c = let a = c .before .before .before .before .before .before .before .before .before .before .args in all-in-front (inFront (pointAt (a .coords .now)) (a .plane)) (a .ids .now) _ (c .before .before .count .ensures) (c .if3 .taken)
+
+reorder-requires-2 : tie.Need-reorder-requires-2
+reorder-requires-2 c κs = search needs
+
+same-length-5 : tie.Need-same-length-5
+same-length-5 c = search needs
+
+same-length-6 : tie.Need-same-length-6
+same-length-6 c = search needs
+
+returns-4 : tie.Need-returns-4
+returns-4 c = search needs
 
 pub divide-spec : {M : Type 1} → statement M
 divide-spec =
     tie.close
     (tie.spec
-    part-requires
-    mul-put-back
-    sub-put-back
-    part-put-back-start
-    part-put-back-end
-    put-back-requires
+    are-mixed-requires
+    reorder-requires
     same-length
     same-length-2
-    returns)
+    returns
+    count-requires
+    same-length-3
+    returns-2
+    same-length-4
+    returns-3
+    reorder-requires-2
+    same-length-5
+    same-length-6
+    returns-4)
