@@ -14,7 +14,7 @@
  * any time.
  *
  * Stack, measured on a chain of 512 nodes, the deepest there can be, and not proved: bsp_trace and
- * bsp_trace_nodes need up to 574,000 bytes, bsp_trace_line 607,000, bsp_order_trace 427,000,
+ * bsp_trace_nodes need up to 574,000 bytes, bsp_trace_line 517,000, bsp_order_trace 427,000,
  * bsp_accept 329,000, bsp_contents_box 262,000, bsp_tree_check, bsp_hull_check and bsp_order 165,000.
  * bsp_load, bsp_record of a texture info, bsp_texture_frame and bsp_texture_static need up to 553,000
  * bytes, whatever the nodes. The other calls have no such depth.

@@ -8,7 +8,7 @@ use borrow.Author.Tests.{lt-ltb, le-ltb}
 use lib.Ieee as Ieee
 use lib.Ieee.{Float}
 use Rattle.format.specs.Answer as Ans
-use Rattle.format.specs.Answer.{answer}
+use Rattle.format.specs.Answer.{Answer, answer}
 use Rattle.format.specs.Contents as Contents
 use Rattle.format.specs.Refusal.{numberOf}
 use Rattle.format.specs.declared.refusal.Refusal.{Refusal}
@@ -33,15 +33,19 @@ use Rattle.nodes.specs.declared.read.EndContents.{EndContents}
 use Rattle.nodes.specs.declared.read.EndContents.the-variants as E
 use Rattle.nodes.proofs.Entering.{child-node, child-end}
 use Rattle.line.specs.Line.{Went, onward, stopped, refused, nearPart, farPart, pointAt, crossing, into, planeFrom, withPlane, contentsBelow, backOff, intoLeaf, onChild, blocked, beyond, past, across, lineAt, lineFrom}
-use Rattle.line.specs.Answers.{wentOf, Crossed, Comes, childAt, contentsBeside, childWent}
+use Rattle.line.specs.Answers.{wentOf, Crossed, Comes, Beyond, childAt, contentsBeside, childWent, farWent}
+use Rattle.line.specs.declared.contents.Ground.{Ground}
 use Rattle.line.specs.declared.state.Stretch.{Stretch}
 use Rattle.line.specs.declared.state.LinePlane.{LinePlane}
 use Rattle.line.specs.declared.state.LineTrace.{LineTrace}
 use Rattle.line.specs.declared.tracing.Going.{Going}
 use Rattle.line.specs.declared.tracing.Going.the-variants as G
+use Rattle.line.specs.declared.tracing.Far.{Far}
+use Rattle.line.specs.declared.tracing.Far.the-variants as F
 use Rattle.line.specs.declared.tracing.Descent.{Descent}
 use Rattle.line.specs.declared.tracing.Descent.the-variants as D
 use Rattle.line.proofs.States.{pick-true, pick-false}
+use Rattle.line.proofs.Looks.{beside-end}
 use Rattle.line.proofs.Seen.{Opened, Closed, outside, spent, unread}
 
 -- ---- the two sides by the distances
@@ -189,34 +193,71 @@ module _ (f : List ℕ) (t : Tables) (i k : ℕ) (s : Stretch) (r : Descent) (is
   pub comes-across : (w : WordsT) (a b : Float) (left : ℕ) → r ≡ D.Crossing w a b left → Crossed f t i k s w a b left
   comes-across w a b left e = subst (Comes f t i k s) e is-r
 
+-- ---- beyond a plane, by the contents of the far side at the crossing
+
+module _ (f : List ℕ) (g : Ground) (w : WordsT) (front : Bool) (s : Stretch) (k : Float) (l : LineTrace) (p : Vector3) (is-p : p ≡ pointAt s k) (e : EndContents) (is-e : endAnswer e ≡ contentsBeside f (g .t) w (not front) p) (h : Hyperplane) (go : ℕ → Stretch → LineTrace → Went) where
+  abbrev T₂ : Table End BspLeafContents
+  T₂ = Fast.table f (g .t)
+
+  abbrev rest : Answer BspLeafContents → Went
+  rest = beyond T₂ go (g .root) (nodeOf (g .t .table) w) h s (Pl.sideIf front) k l
+
+  abbrev far : Went
+  far = rest (contentsBeside f (g .t) w (not front) (pointAt s k))
+
+  pub far-unread : (n : Refusal) → e ≡ E.Refused n → refused (numberOf n) ≡ far
+  far-unread n q = sym (ap (λ (y : EndContents). rest (endAnswer y)) q) ∙ ap rest (is-e ∙ ap (contentsBeside f (g .t) w (not front)) is-p)
+
+  module _ (c : BspLeafContents) (q : e ≡ E.Contents c) where
+    met : rest (answer c) ≡ far
+    met = sym (ap (λ (y : EndContents). rest (endAnswer y)) q) ∙ ap rest (is-e ∙ ap (contentsBeside f (g .t) w (not front)) is-p)
+
+    pub far-solid : Contents.equal c Solid ≡ true → blocked T₂ (g .root) h (Pl.sideIf front) s k l ≡ far
+    far-solid y = pick-true _ _ _ y ∙ met
+
+    module _ (y : Contents.equal c Solid ≡ false) (word : ℕ) (is-word : word ≡ wordOn w (not front)) where
+      far-open : onChild T₂ go (childAt (g .t) w (not front)) (farPart s k) l ≡ far
+      far-open =
+          ap (λ (u : HyperplaneSide). onChild T₂ go (childOn (nodeOf (g .t .table) w) u) (farPart s k) l) (other-side front) ∙ pick-false _ _ _ y ∙ met
+
+      pub far-node : word < 32768 → go word (farPart s k) l ≡ far
+      far-node h = sym (ap (λ (c : Child End). onChild T₂ go c (farPart s k) l) (child-node (g .t .table) w (not front) word is-word h)) ∙ far-open
+
+      -- a leaf has the contents that were looked for
+      pub far-leaf : 32768 ≤ word → onward (into c l) ≡ far
+      unfolding contentsMet
+      far-leaf h =
+          ap (intoLeaf T₂ l) (sym (ap endAnswer q) ∙ is-e ∙ sym (beside-end f (g .t) w (not front) p word is-word h))
+          ∙ sym (ap (λ (c : Child End). onChild T₂ go c (farPart s k) l) (child-end (g .t .table) w (not front) word is-word h)) ∙ far-open
+
 -- ---- at a crossing
 
-module _ (f : List ℕ) (t : Tables) (root k i : ℕ) (s : Stretch) (l : LineTrace) (w : WordsT) (a b : Float) (left : ℕ) (C : Crossed f t i k s w a b left) where
+module _ (f : List ℕ) (g : Ground) (k i : ℕ) (s : Stretch) (l : LineTrace) (w : WordsT) (a b : Float) (left : ℕ) (C : Crossed f (g .t) i k s w a b left) where
   abbrev T₁ : Table End BspLeafContents
-  T₁ = Fast.table f t
+  T₁ = Fast.table f (g .t)
 
   abbrev go₁ : ℕ → Stretch → LineTrace → Went
-  go₁ = λ n s l. lineFrom T₁ root left n s l
+  go₁ = λ n s l. lineFrom T₁ (g .root) left n s l
 
   abbrev nd : Node End
-  nd = nodeOf (t .table) w
+  nd = nodeOf (g .t .table) w
 
   abbrev front : Bool
   front = Ieee.le zero32 a
 
   abbrev whole : Went
-  whole = lineFrom T₁ root k i s l
+  whole = lineFrom T₁ (g .root) k i s l
 
-  module _ (x : Float) (is-x : x ≡ crossing a b) (np : Stretch) (is-np : np ≡ nearPart s x) (near : Going) (is-near : wentOf near ≡ childWent f t root left w front np l) where
-    passed : past T₁ go₁ root nd (C .plane) s (Pl.sideIf front) x (wentOf near) ≡ whole
+  module _ (x : Float) (is-x : x ≡ crossing a b) (near : Going) (is-near : wentOf near ≡ childWent f (g .t) (g .root) left w front (nearPart s x) l) where
+    passed : past T₁ go₁ (g .root) nd (C .plane) s (Pl.sideIf front) x (wentOf near) ≡ whole
     unfolding childWent
     passed =
-        ap (past T₁ go₁ root nd (C .plane) s (Pl.sideIf front) x) (is-near ∙ ap (λ (y : Stretch). onChild T₁ go₁ (childAt t w front) y l) is-np)
-        ∙ ap (λ (y : Float). past T₁ go₁ root nd (C .plane) s (Pl.sideIf front) y (onChild T₁ go₁ (childAt t w front) (nearPart s y) l)) is-x
-        ∙ pick-false _ _ _ (C .differ) ∙ C .says root l
+        ap (past T₁ go₁ (g .root) nd (C .plane) s (Pl.sideIf front) x) is-near
+        ∙ ap (λ (y : Float). past T₁ go₁ (g .root) nd (C .plane) s (Pl.sideIf front) y (onChild T₁ go₁ (childAt (g .t) w front) (nearPart s y) l)) is-x
+        ∙ pick-false _ _ _ (C .differ) ∙ C .says (g .root) l
 
     -- the near side ends the trace
-    by-near : (y : Going) → ((m : LineTrace) → y ≡ G.On m → ⊥) → wentOf y ≡ past T₁ go₁ root nd (C .plane) s (Pl.sideIf front) x (wentOf y)
+    by-near : (y : Going) → ((m : LineTrace) → y ≡ G.On m → ⊥) → wentOf y ≡ past T₁ go₁ (g .root) nd (C .plane) s (Pl.sideIf front) x (wentOf y)
     by-near (G.On m) none = absurd (none m refl)
     by-near (G.Stopped m) none = refl
     by-near (G.Refused e) none = refl
@@ -224,27 +265,17 @@ module _ (f : List ℕ) (t : Tables) (root k i : ℕ) (s : Stretch) (l : LineTra
     pub near-ends : ((m : LineTrace) → near ≡ G.On m → ⊥) → wentOf near ≡ whole
     near-ends none = by-near near none ∙ passed
 
-    module _ (m : LineTrace) (is-on : near ≡ G.On m) (p : Vector3) (is-p : p ≡ pointAt s x) (e : EndContents) (is-e : endAnswer e ≡ contentsBeside f t w (not front) p) where
-      looked : beyond T₁ go₁ root nd (C .plane) s (Pl.sideIf front) x m (endAnswer e) ≡ whole
+    -- the near side was traced: what `beyond` says of the far side
+    module _ (m : LineTrace) (is-on : near ≡ G.On m) (r : Far) (is-r : Beyond f g w front s x m r) where
+      goes : farWent go₁ (farPart s x) m r ≡ whole
       unfolding contentsBeside
-      looked =
-          ap (beyond T₁ go₁ root nd (C .plane) s (Pl.sideIf front) x m)
-          (is-e ∙ ap (contentsBeside f t w (not front)) is-p
-          ∙ ap (λ (y : HyperplaneSide). contentsBelow T₁ (childOn nd y) (pointAt s x)) (other-side front))
-          ∙ sym (ap (λ (y : Going). past T₁ go₁ root nd (C .plane) s (Pl.sideIf front) x (wentOf y)) is-on) ∙ passed
+      goes =
+          is-r (C .plane) (C .read) go₁
+          ∙ ap (λ (y : HyperplaneSide). beyond T₁ go₁ (g .root) nd (C .plane) s (Pl.sideIf front) x m (contentsBelow T₁ (childOn nd y) (pointAt s x))) (other-side front)
+          ∙ sym (ap (λ (y : Going). past T₁ go₁ (g .root) nd (C .plane) s (Pl.sideIf front) x (wentOf y)) is-on) ∙ passed
 
-      pub far-unread : (n : Refusal) → e ≡ E.Refused n → refused (numberOf n) ≡ whole
-      far-unread n q = sym (ap (λ (y : EndContents). beyond T₁ go₁ root nd (C .plane) s (Pl.sideIf front) x m (endAnswer y)) q) ∙ looked
+      pub far-ends : (y : Going) → r ≡ F.Ended y → wentOf y ≡ whole
+      far-ends y q = sym (ap (farWent go₁ (farPart s x) m) q) ∙ goes
 
-      module _ (c : BspLeafContents) (q : e ≡ E.Contents c) where
-        met : beyond T₁ go₁ root nd (C .plane) s (Pl.sideIf front) x m (endAnswer (E.Contents c)) ≡ whole
-        met = sym (ap (λ (y : EndContents). beyond T₁ go₁ root nd (C .plane) s (Pl.sideIf front) x m (endAnswer y)) q) ∙ looked
-
-        pub far-solid : Contents.equal c Solid ≡ true → blocked T₁ root (C .plane) (Pl.sideIf front) s x m ≡ whole
-        far-solid y = pick-true _ _ _ y ∙ met
-
-        pub far-open : Contents.equal c Solid ≡ false → (fp : Stretch) → fp ≡ farPart s x → childWent f t root left w (not front) fp m ≡ whole
-        unfolding childWent
-        far-open y fp is-fp =
-            ap (λ (u : Stretch). onChild T₁ go₁ (childAt t w (not front)) u m) is-fp
-            ∙ ap (λ (u : HyperplaneSide). onChild T₁ go₁ (childOn nd u) (farPart s x) m) (other-side front) ∙ pick-false _ _ _ y ∙ met
+      pub far-goes : (n : ℕ) → r ≡ F.Node n → (fp : Stretch) → fp ≡ farPart s x → lineFrom T₁ (g .root) left n fp m ≡ whole
+      far-goes n q fp is-fp = ap (λ (y : Stretch). lineFrom T₁ (g .root) left n y m) is-fp ∙ sym (ap (farWent go₁ (farPart s x) m) q) ∙ goes

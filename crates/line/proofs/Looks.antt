@@ -5,25 +5,22 @@ use mathlib.Core.Path.{_≡_, sym, ap, _∙_}
 use mathlib.Core.Bool.{Bool}
 use mathlib.Core.List.{List}
 use borrow.Author.Tests.{lt-ltb, le-ltb}
-use lib.Ieee as Ieee
-use lib.Ieee.{Float}
 use Rattle.format.specs.Answer as Ans
 use Rattle.format.specs.Answer.{Answer}
 use Rattle.format.specs.declared.contents.BspLeafContents.{BspLeafContents}
-use Rattle.math.specs.Vector.{zero32}
-use Rattle.math.specs.Plane as Pl
 use Rattle.math.specs.declared.Vector3.{Vector3}
 use Rattle.walk.specs.Table.{node, end, Table}
 use Rattle.walk.specs.Walk.{enter}
 use Rattle.nodes.specs.Tables.{End}
 use Rattle.nodes.specs.Fast.{childOf, endOf, wordOn, contentsMet}
 use Rattle.nodes.specs.Fast as Fast
+use Rattle.nodes.specs.Walks.{childByDistance}
 use Rattle.nodes.specs.declared.table.HullTable.{HullTable}
 use Rattle.nodes.specs.declared.table.Tables.{Tables}
 use Rattle.nodes.specs.declared.read.Words.{Words as WordsT}
 use Rattle.nodes.proofs.Entering.{child-node, child-end}
 use Rattle.line.specs.Line.{contentsOn, contentsAt, contentsFrom}
-use Rattle.line.specs.Answers.{childAt, childToward, contentsBeside}
+use Rattle.line.specs.Answers.{childAt, contentsBeside}
 use Rattle.line.proofs.Seen.{Made, Closed, outside, spent, unread}
 
 module _ {E : Type 0} (T : Table E BspLeafContents) (p : Vector3) where
@@ -69,7 +66,7 @@ module _ (f : List ℕ) (t : Tables) (k i : ℕ) (p : Vector3) where
   look-closed n (spent h z e) = ap Ans.refused e ∙ sym (look-spent T p k i z h)
   look-closed n (unread h z m) = sym (look-unread T p k (k - 1) i (omega (arith, z)) h n m)
 
-  module _ (word : ℕ) (M : Made (childToward p) f t i k (childOf (t .table) word)) where
+  module _ (word : ℕ) (M : Made (childByDistance p) f t i k (childOf (t .table) word)) where
     goes : contentsFrom T k i p ≡ contentsOn T (λ n. contentsFrom T (k - 1) n p) (childOf (t .table) word)
     goes =
         look-step T p k (k - 1) i (omega (arith, M .left)) (M .in-range) ∙ ap (contentsAt T (λ n. contentsFrom T (k - 1) n p) p) (M .entered)

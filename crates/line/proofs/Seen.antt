@@ -20,7 +20,7 @@ use Rattle.math.specs.Vector.{zero32}
 use Rattle.records.specs.Plane.{planeAnswer}
 use Rattle.records.specs.declared.plane.PlaneAnswer.{PlaneAnswer}
 use Rattle.records.specs.declared.plane.PlaneAnswer.the-variants as P
-use Rattle.walk.specs.Table.{Child, Node, childOn}
+use Rattle.walk.specs.Table.{Node, childOn}
 use Rattle.walk.specs.Walk.{Entered, enter}
 use Rattle.nodes.specs.Tables.{End}
 use Rattle.nodes.specs.Fast.{nodeOf, childOf, wordOn, planeIn, wordsAnswer, twoDists, distsFrom, distsAnswer}
@@ -35,9 +35,9 @@ use Rattle.nodes.specs.declared.walking.SegmentAt.{SegmentAt}
 use Rattle.nodes.specs.declared.walking.SegmentAt.the-variants as G
 use Rattle.nodes.specs.declared.walking.Onward.{Onward}
 use Rattle.nodes.specs.declared.walking.Onward.the-variants as O
-use Rattle.nodes.specs.Walks.{madeFrom, nodeAndDists, segmentAnswer, onwardAnswer}
+use Rattle.nodes.specs.Walks.{madeFrom, childByDistance, nodeAndDists, segmentAnswer, onwardAnswer}
 use Rattle.nodes.proofs.Entering.{planed, child-is, enter-not, enter-is, enter-no-plane}
-use Rattle.line.specs.Answers.{nodeFor, childToward}
+use Rattle.line.specs.Answers.{nodeFor}
 
 -- ---- what the readers say of a node
 
@@ -64,13 +64,13 @@ module _ (f : List ℕ) (t : Tables) (i : ℕ) (r : ReadWords) (is-r : wordsAnsw
 
     -- the child on a point's side
     module _ (p : Vector3) (a : PlaneAnswer) (is-a : planeAnswer a ≡ planeIn f t (w .plane)) where
-      pub no-side : (x : Refusal) → a ≡ P.Refused x → Ans.refused (numberOf x) ≡ madeFrom (childToward p) f t i
-      no-side x e = without (childToward p) (numberOf x) (sym is-a ∙ ap planeAnswer e)
+      pub no-side : (x : Refusal) → a ≡ P.Refused x → Ans.refused (numberOf x) ≡ madeFrom (childByDistance p) f t i
+      no-side x e = without (childByDistance p) (numberOf x) (sym is-a ∙ ap planeAnswer e)
 
-      pub one-side : (h : Hyperplane) → a ≡ P.Value h → (d : Float) → d ≡ Pl.pointDist h p → (word : ℕ) → word ≡ wordOn w (Ieee.le zero32 d) → answer (childOf (t .table) word) ≡ madeFrom (childToward p) f t i
+      pub one-side : (h : Hyperplane) → a ≡ P.Value h → (d : Float) → d ≡ Pl.pointDist h p → (word : ℕ) → word ≡ wordOn w (Ieee.le zero32 d) → answer (childOf (t .table) word) ≡ madeFrom (childByDistance p) f t i
       one-side h e d is-d word is-word =
           ap (λ (n : ℕ). answer (childOf (t .table) n)) is-word ∙ ap answer (sym (child-is (t .table) w (Ieee.le zero32 d)))
-          ∙ ap (λ (x : Float). answer (childOn (nodeOf (t .table) w) (Pl.fromDist x))) is-d ∙ with-plane (childToward p) h (sym is-a ∙ ap planeAnswer e)
+          ∙ ap (λ (x : Float). answer (childOn (nodeOf (t .table) w) (Pl.fromDist x))) is-d ∙ with-plane (childByDistance p) h (sym is-a ∙ ap planeAnswer e)
 
 -- ---- with the calls left
 
@@ -161,9 +161,9 @@ module _ (f : List ℕ) (t : Tables) (i k : ℕ) (p q : Vector3) (r : SegmentAt)
 
 -- ---- a node with the child on a point's side
 
-module _ (f : List ℕ) (t : Tables) (i k : ℕ) (p : Vector3) (r : Onward) (is-r : onwardAnswer (t .table) r ≡ nodeFor (childToward p) f t i k) where
-  pub toward : (word : ℕ) → r ≡ O.Word word → Made (childToward p) f t i k (childOf (t .table) word)
-  toward word e = made (childToward p) f t i k (onwardAnswer (t .table) r) is-r (childOf (t .table) word) (ap (onwardAnswer (t .table)) e)
+module _ (f : List ℕ) (t : Tables) (i k : ℕ) (p : Vector3) (r : Onward) (is-r : onwardAnswer (t .table) r ≡ nodeFor (childByDistance p) f t i k) where
+  pub toward : (word : ℕ) → r ≡ O.Word word → Made (childByDistance p) f t i k (childOf (t .table) word)
+  toward word e = made (childByDistance p) f t i k (onwardAnswer (t .table) r) is-r (childOf (t .table) word) (ap (onwardAnswer (t .table)) e)
 
   pub not-toward : (x : Refusal) → r ≡ O.Refused x → Closed f t i k (numberOf x)
-  not-toward x e = closes (childToward p) f t i k (onwardAnswer (t .table) r) is-r (numberOf x) (ap (onwardAnswer (t .table)) e)
+  not-toward x e = closes (childByDistance p) f t i k (onwardAnswer (t .table) r) is-r (numberOf x) (ap (onwardAnswer (t .table)) e)

@@ -1,5 +1,5 @@
 -- What the answers of `line` say, in document 01's terms. The definitions after the first are cited by private contracts alone.
-use mathlib.Core.Bool.{Bool, false, cond}
+use mathlib.Core.Bool.{Bool, false, not, cond}
 use mathlib.Core.List.{List}
 use mathlib.Core.Path.{_≡_}
 use Prim.Native.Nat.{ℕ, suc, _≤_}
@@ -16,16 +16,19 @@ use Rattle.walk.specs.Table.{Child, childOn}
 use Rattle.walk.specs.Walk.{Entered}
 use Rattle.nodes.specs.Tables.{End}
 use Rattle.nodes.specs.Fast as Fast
-use Rattle.nodes.specs.Walks.{madeFrom}
+use Rattle.nodes.specs.Walks.{madeFrom, Read}
 use Rattle.nodes.specs.declared.table.Tables.{Tables}
 use Rattle.nodes.specs.declared.read.Words.{Words}
-use Rattle.line.specs.Line.{Went, onward, stopped, refused, into, contentsBelow, lineFrom, across, onChild}
+use Rattle.line.specs.Line.{Went, onward, stopped, refused, pointAt, farPart, into, contentsBelow, lineFrom, across, onChild, beyond}
+use Rattle.line.specs.declared.contents.Ground.{Ground}
 use Rattle.line.specs.declared.state.Stretch.{Stretch}
 use Rattle.line.specs.declared.state.LineTrace.{LineTrace}
 use Rattle.line.specs.declared.tracing.LineAnswer.{LineAnswer}
 use Rattle.line.specs.declared.tracing.LineAnswer.the-variants as L
 use Rattle.line.specs.declared.tracing.Going.{Going}
 use Rattle.line.specs.declared.tracing.Going.the-variants as G
+use Rattle.line.specs.declared.tracing.Far.{Far}
+use Rattle.line.specs.declared.tracing.Far.the-variants as F
 use Rattle.line.specs.declared.tracing.Descent.{Descent}
 use Rattle.line.specs.declared.tracing.Descent.the-variants as D
 
@@ -45,9 +48,9 @@ wentOf (G.Refused e) = refused (numberOf e)
 unfoldable pub nodeFor : {X : Type 0} → (Entered End → X) → List ℕ → Tables → ℕ → ℕ → Answer X
 nodeFor make f t i left = cond (ltb i (t .nodes .count)) (cond (eqb left 0) (Ans.refused 32) (madeFrom make f t i)) (Ans.refused 30)
 
--- a descent for contents makes the child on the side of the point's distance
-abbrev pub childToward : Vector3 → Entered End → Child End
-childToward p m = childOn (m .nd) (Pl.fromDist (Pl.pointDist (m .plane) p))
+-- the bytes of the nodes and the planes, as they are lent with what a line goes through
+abbrev pub Lent : List ℕ → List ℕ → List ℕ → Ground → Type 0
+Lent f n m g = Read f (g .t) n m (g .whole)
 
 -- a node whose plane the part s crosses, met on the way down from the node i with k calls left: its words, the distances of the ends of s
 -- from its plane, the calls left below it; whatever is set before it, what becomes of s at this node is what becomes of s at the node i
@@ -76,3 +79,15 @@ contentsBeside f t w front p = contentsBelow (Fast.table f t) (childAt t w front
 -- a child traced with so many calls left
 unfoldable pub childWent : List ℕ → Tables → ℕ → ℕ → Words → Bool → Stretch → LineTrace → Went
 childWent f t root left w front s l = onChild (Fast.table f t) (λ n s l. lineFrom (Fast.table f t) root left n s l) (childAt t w front) s l
+
+-- beyond a plane: on to the node by `go`, for the part past the crossing, or tracing ends
+abbrev pub farWent : (ℕ → Stretch → LineTrace → Went) → Stretch → LineTrace → Far → Went
+farWent go s l (F.Node i) = go i s l
+farWent go s l (F.Ended r) = wentOf r
+
+-- what becomes of the part s beyond the plane of a node that it crosses at k
+abbrev pub Beyond : List ℕ → Ground → Words → Bool → Stretch → Float → LineTrace → Far → Type 0
+Beyond f g w front s k l r =
+    (h : Hyperplane) → Fast.planeIn f (g .t) (w .plane) ≡ answer h → (go : ℕ → Stretch → LineTrace → Went)
+    → farWent go (farPart s k) l r
+    ≡ beyond (Fast.table f (g .t)) go (g .root) (Fast.nodeOf (g .t .table) w) h s (Pl.sideIf front) k l (contentsBeside f (g .t) w (not front) (pointAt s k))

@@ -1,4 +1,5 @@
-// The contents at a point, by the side of its distance at each plane: where the distance is a NaN, the back.
+// The contents at a point, by the side of its distance at each plane: where the distance is a NaN, the back. The bytes of the nodes and the
+// planes are lent to each function as `node_bytes` and `plane_bytes` of `nodes` give them.
 ghost use mathlib.Core.Path.{_≡_};
 ghost use Rattle.nodes.specs.Fast as Fast;
 ghost use Rattle.nodes.specs.Walks as Walks;
@@ -17,18 +18,21 @@ use nodes::read::read_words;
 use nodes::table::Tables;
 use nodes::walking::Onward;
 use nodes::walking::SegmentAt;
+use nodes::walking::ends_in;
+use nodes::walking::look_in;
 use records::plane::PlaneAnswer;
 
-// A node's words, and how far two points are from its plane, with so many calls left. 30: the node is outside its table; 32: no call is left.
-pub fn node_at(s: &[u8], t: Tables, index: usize, left: u32, p: Vector3, q: Vector3) -> SegmentAt
-    ensures { λ r. ⌜ Walks.segmentAnswer (t .table) r ≡ Answers.nodeFor (Walks.nodeAndDists p q) (now (s .entry)) t index left ⌝ }
+// What a line goes through: the tables, whether the file has all of their nodes and planes, and the root.
+pub struct Ground {
+    pub t: Tables,
+    pub whole: bool,
+    pub root: usize,
+}
+
+// A node's words, and how far two points are from its plane, from any table, record by record.
+fn node_any(s: &[u8], t: Tables, index: usize, p: Vector3, q: Vector3) -> SegmentAt
+    ensures { λ r. ⌜ Walks.segmentAnswer (t .table) r ≡ Walks.madeFrom (Walks.nodeAndDists p q) (now (s .entry)) t index ⌝ }
 {
-    if (t.nodes.count as usize) <= index {
-        return SegmentAt::Refused(Refusal::IndexOutsideTable);
-    }
-    if left == 0 {
-        return SegmentAt::Refused(Refusal::TooDeep);
-    }
     match read_words(s, t, index) {
         ReadWords::Refused(e) => SegmentAt::Refused(e),
         ReadWords::Words(w) => match dists_at(s, t, w.plane as usize, p, q) {
@@ -38,16 +42,38 @@ pub fn node_at(s: &[u8], t: Tables, index: usize, left: u32, p: Vector3, q: Vect
     }
 }
 
-// The word of a node's child on a point's side of its plane, by the point's distance, with so many calls left. Refused as `node_at`.
-fn look_at(s: &[u8], t: Tables, index: usize, left: u32, point: Vector3) -> Onward
-    ensures { λ r. ⌜ Walks.onwardAnswer (t .table) r ≡ Answers.nodeFor (Answers.childToward point) (now (s .entry)) t index left ⌝ }
+// The same with so many calls left, whole tables or not. 30: the node is outside its table; 32: no call is left.
+pub fn node_at(
+    s: &[u8],
+    nodes: &[u8],
+    planes: &[u8],
+    g: Ground,
+    index: usize,
+    left: u32,
+    p: Vector3,
+    q: Vector3,
+) -> SegmentAt
+    requires { ⌜ Answers.Lent (now s) (now nodes) (now planes) g ⌝ }
+    ensures { λ r. ⌜ Walks.segmentAnswer (g .t .table) r ≡ Answers.nodeFor (Walks.nodeAndDists p q) (now (s .entry)) (g .t) index left ⌝ }
 {
+    let t = g.t;
     if (t.nodes.count as usize) <= index {
-        return Onward::Refused(Refusal::IndexOutsideTable);
+        return SegmentAt::Refused(Refusal::IndexOutsideTable);
     }
     if left == 0 {
-        return Onward::Refused(Refusal::TooDeep);
+        return SegmentAt::Refused(Refusal::TooDeep);
     }
+    if g.whole {
+        let table = t.table;
+        return ends_in(nodes, planes, table.is_render(), index, p, q);
+    }
+    node_any(s, t, index, p, q)
+}
+
+// The word of a node's child on a point's side of its plane, by the point's distance, from any table, record by record.
+fn look_any(s: &[u8], t: Tables, index: usize, point: Vector3) -> Onward
+    ensures { λ r. ⌜ Walks.onwardAnswer (t .table) r ≡ Walks.madeFrom (Walks.childByDistance point) (now (s .entry)) t index ⌝ }
+{
     match read_words(s, t, index) {
         ReadWords::Refused(e) => Onward::Refused(e),
         ReadWords::Words(w) => match plane_at(s, t, w.plane as usize) {
@@ -57,19 +83,54 @@ fn look_at(s: &[u8], t: Tables, index: usize, left: u32, point: Vector3) -> Onwa
     }
 }
 
+// The same with so many calls left, whole tables or not. Refused as `node_at`.
+fn look_at(
+    s: &[u8],
+    nodes: &[u8],
+    planes: &[u8],
+    g: Ground,
+    index: usize,
+    left: u32,
+    point: Vector3,
+) -> Onward
+    requires { ⌜ Answers.Lent (now s) (now nodes) (now planes) g ⌝ }
+    ensures { λ r. ⌜ Walks.onwardAnswer (g .t .table) r ≡ Answers.nodeFor (Walks.childByDistance point) (now (s .entry)) (g .t) index left ⌝ }
+{
+    let t = g.t;
+    if (t.nodes.count as usize) <= index {
+        return Onward::Refused(Refusal::IndexOutsideTable);
+    }
+    if left == 0 {
+        return Onward::Refused(Refusal::TooDeep);
+    }
+    if g.whole {
+        let table = t.table;
+        return look_in(nodes, planes, table.is_render(), index, point);
+    }
+    look_any(s, t, index, point)
+}
+
 // The contents at a point from a node on, at most 512 nodes deep.
-pub fn contents_from(s: &[u8], t: Tables, top: usize, point: Vector3) -> EndContents
-    ensures { λ r. ⌜ Fast.endAnswer r ≡ Line.contentsFrom (Fast.table (now (s .entry)) t) 512 top point ⌝ }
+pub fn contents_from(
+    s: &[u8],
+    nodes: &[u8],
+    planes: &[u8],
+    g: Ground,
+    top: usize,
+    point: Vector3,
+) -> EndContents
+    requires { ⌜ Answers.Lent (now s) (now nodes) (now planes) g ⌝ }
+    ensures { λ r. ⌜ Fast.endAnswer r ≡ Line.contentsFrom (Fast.table (now (s .entry)) (g .t)) 512 top point ⌝ }
 {
     let mut node = top;
     let mut left: u32 = 512;
     loop {
-        match look_at(s, t, node, left, point) {
+        match look_at(s, nodes, planes, g, node, left, point) {
             Onward::Refused(e) => return EndContents::Refused(e),
             Onward::Word(word) => {
                 left -= 1;
                 if 32768 <= word {
-                    return end_contents(s, t, word);
+                    return end_contents(s, g.t, word);
                 }
                 node = word as usize;
             }
@@ -78,12 +139,21 @@ pub fn contents_from(s: &[u8], t: Tables, top: usize, point: Vector3) -> EndCont
 }
 
 // The contents at a point from a node's child on, which is the top of this descent.
-pub fn contents_beside(s: &[u8], t: Tables, w: Words, front: bool, point: Vector3) -> EndContents
-    ensures { λ r. ⌜ Fast.endAnswer r ≡ Answers.contentsBeside (now (s .entry)) t w front point ⌝ }
+pub fn contents_beside(
+    s: &[u8],
+    nodes: &[u8],
+    planes: &[u8],
+    g: Ground,
+    w: Words,
+    front: bool,
+    point: Vector3,
+) -> EndContents
+    requires { ⌜ Answers.Lent (now s) (now nodes) (now planes) g ⌝ }
+    ensures { λ r. ⌜ Fast.endAnswer r ≡ Answers.contentsBeside (now (s .entry)) (g .t) w front point ⌝ }
 {
     let word = w.on(front);
     if word < 32768 {
-        return contents_from(s, t, word as usize, point);
+        return contents_from(s, nodes, planes, g, word as usize, point);
     }
-    end_contents(s, t, word)
+    end_contents(s, g.t, word)
 }

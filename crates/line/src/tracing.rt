@@ -7,6 +7,7 @@ ghost use Rattle.nodes.specs.Fast as Fast;
 ghost use Rattle.hull.specs.Hull as Hull;
 ghost use Rattle.line.specs.Line as Line;
 ghost use Rattle.line.specs.Answers as Answers;
+use crate::contents::Ground;
 use crate::contents::contents_beside;
 use crate::contents::contents_from;
 use crate::contents::node_at;
@@ -23,9 +24,11 @@ use nodes::read::EndContents;
 use nodes::read::Words;
 use nodes::read::end_contents;
 use nodes::read::plane_at;
-use nodes::table::Tables;
 use nodes::table::tables_of;
 use nodes::walking::SegmentAt;
+use nodes::walking::are_whole;
+use nodes::walking::node_bytes;
+use nodes::walking::plane_bytes;
 use records::plane::PlaneAnswer;
 
 // What `trace_line` answers.
@@ -49,14 +52,29 @@ enum Descent {
     Refused(Refusal),
 }
 
+// Where a part of the line goes on to beyond a plane: to a node, or tracing ends.
+enum Far {
+    Node(usize),
+    Ended(Going),
+}
+
 // Down from a node, with so many calls left, its own included, as long as the part lies on one side of each plane.
-fn descend(s: &[u8], t: Tables, top: usize, calls: u32, part: Stretch) -> Descent
-    ensures { λ r. ⌜ Answers.Comes (now (s .entry)) t top calls part r ⌝ }
+fn descend(
+    s: &[u8],
+    nodes: &[u8],
+    planes: &[u8],
+    g: Ground,
+    top: usize,
+    calls: u32,
+    part: Stretch,
+) -> Descent
+    requires { ⌜ Answers.Lent (now s) (now nodes) (now planes) g ⌝ }
+    ensures { λ r. ⌜ Answers.Comes (now (s .entry)) (g .t) top calls part r ⌝ }
 {
     let mut node = top;
     let mut left = calls;
     loop {
-        match node_at(s, t, node, left, part.start, part.end) {
+        match node_at(s, nodes, planes, g, node, left, part.start, part.end) {
             SegmentAt::Refused(e) => return Descent::Refused(e),
             SegmentAt::Dists(w, a, b) => {
                 left -= 1;
@@ -66,7 +84,7 @@ fn descend(s: &[u8], t: Tables, top: usize, calls: u32, part: Stretch) -> Descen
                 }
                 let word = w.on(front);
                 if 32768 <= word {
-                    return match end_contents(s, t, word) {
+                    return match end_contents(s, g.t, word) {
                         EndContents::Contents(c) => Descent::Leaf(c),
                         EndContents::Refused(e) => Descent::Refused(e),
                     };
@@ -78,13 +96,22 @@ fn descend(s: &[u8], t: Tables, top: usize, calls: u32, part: Stretch) -> Descen
 }
 
 // The impact at k along a part, backed off by steps of 0.1 while it is solid from the root.
-fn back_off(s: &[u8], t: Tables, root: usize, part: Stretch, k0: f32, line: LineTrace) -> Going
-    ensures { λ r. ⌜ Answers.wentOf r ≡ Line.backOff (Fast.table (now (s .entry)) t) 10 root part k0 line ⌝ }
+fn back_off(
+    s: &[u8],
+    nodes: &[u8],
+    planes: &[u8],
+    g: Ground,
+    part: Stretch,
+    k0: f32,
+    line: LineTrace,
+) -> Going
+    requires { ⌜ Answers.Lent (now s) (now nodes) (now planes) g ⌝ }
+    ensures { λ r. ⌜ Answers.wentOf r ≡ Line.backOff (Fast.table (now (s .entry)) (g .t)) 10 (g .root) part k0 line ⌝ }
 {
     let mut k = k0;
     let mut left: u32 = 10;
     while 0 < left {
-        match contents_from(s, t, root, part.point_at(k)) {
+        match contents_from(s, nodes, planes, g, g.root, part.point_at(k)) {
             EndContents::Refused(e) => return Going::Refused(e),
             EndContents::Contents(c) => {
                 let next = k - 0.1;
@@ -106,25 +133,28 @@ fn back_off(s: &[u8], t: Tables, root: usize, part: Stretch, k0: f32, line: Line
 // The far side is solid at the crossing, k along a part: the trace ends, here if not all was solid.
 fn blocked(
     s: &[u8],
-    t: Tables,
-    root: usize,
+    nodes: &[u8],
+    planes: &[u8],
+    g: Ground,
     w: Words,
     front: bool,
     part: Stretch,
     k: f32,
     line: LineTrace,
 ) -> Going
-    ensures { λ r. ⌜ ((h : Hyperplane) → Fast.planeIn (now (s .entry)) t (w .plane) ≡ answer h → Answers.wentOf r ≡ Line.blocked (Fast.table (now (s .entry)) t) root h (Pl.sideIf front) part k line) ⌝ }
+    requires { ⌜ Answers.Lent (now s) (now nodes) (now planes) g ⌝ }
+    ensures { λ r. ⌜ ((h : Hyperplane) → Fast.planeIn (now (s .entry)) (g .t) (w .plane) ≡ answer h → Answers.wentOf r ≡ Line.blocked (Fast.table (now (s .entry)) (g .t)) (g .root) h (Pl.sideIf front) part k line) ⌝ }
 {
     if line.all_solid {
         return Going::Stopped(line);
     }
-    match plane_at(s, t, w.plane as usize) {
+    match plane_at(s, g.t, w.plane as usize) {
         PlaneAnswer::Refused(e) => Going::Refused(e),
         PlaneAnswer::Value(plane) => back_off(
             s,
-            t,
-            root,
+            nodes,
+            planes,
+            g,
             part,
             k,
             line.with_plane(plane_from(plane, front)),
@@ -132,58 +162,99 @@ fn blocked(
     }
 }
 
-// The child on a side: a node is traced with the calls left, a leaf is traced into.
-fn line_child(
+// Beyond the plane that a part crosses at k, where the near side was traced: by the contents of the far side there.
+fn beyond(
     s: &[u8],
-    t: Tables,
-    root: usize,
+    nodes: &[u8],
+    planes: &[u8],
+    g: Ground,
+    w: Words,
+    front: bool,
+    part: Stretch,
+    k: f32,
+    line: LineTrace,
+) -> Far
+    requires { ⌜ Answers.Lent (now s) (now nodes) (now planes) g ⌝ }
+    ensures { λ r. ⌜ Answers.Beyond (now (s .entry)) g w front part k line r ⌝ }
+{
+    match contents_beside(s, nodes, planes, g, w, !front, part.point_at(k)) {
+        EndContents::Refused(e) => Far::Ended(Going::Refused(e)),
+        EndContents::Contents(c) => {
+            if c.equals(BspLeafContents::Solid) {
+                return Far::Ended(blocked(s, nodes, planes, g, w, front, part, k, line));
+            }
+            let word = w.on(!front);
+            if word < 32768 {
+                return Far::Node(word as usize);
+            }
+            Far::Ended(Going::On(line.into_leaf(c)))
+        }
+    }
+}
+
+// The near side of a plane that a part crosses at k: a node is traced with the calls left, a leaf is traced into.
+fn child(
+    s: &[u8],
+    nodes: &[u8],
+    planes: &[u8],
+    g: Ground,
     w: Words,
     front: bool,
     left: u32,
     part: Stretch,
+    k: f32,
     line: LineTrace,
 ) -> Going
-    ensures { λ r. ⌜ Answers.wentOf r ≡ Answers.childWent (now (s .entry)) t root left w front part line ⌝ }
+    requires { ⌜ Answers.Lent (now s) (now nodes) (now planes) g ⌝ }
+    ensures { λ r. ⌜ Answers.wentOf r ≡ Answers.childWent (now (s .entry)) (g .t) (g .root) left w front (Line.nearPart part k) line ⌝ }
 {
     let word = w.on(front);
     if word < 32768 {
-        return line_node(s, t, root, word as usize, left, part, line);
+        let near = part.near_part(k);
+        return line_from(s, nodes, planes, g, word as usize, left, near, line);
     }
-    match end_contents(s, t, word) {
+    match end_contents(s, g.t, word) {
         EndContents::Contents(c) => Going::On(line.into_leaf(c)),
         EndContents::Refused(e) => Going::Refused(e),
     }
 }
 
-// A node with so many calls left, its own included, for a part of the line.
-fn line_node(
+// A node with so many calls left, its own included, for a part of the line. The far side of each plane is gone on to in the loop.
+fn line_from(
     s: &[u8],
-    t: Tables,
-    root: usize,
-    node: usize,
-    left: u32,
-    part: Stretch,
-    line: LineTrace,
+    nodes: &[u8],
+    planes: &[u8],
+    g: Ground,
+    top: usize,
+    calls: u32,
+    all: Stretch,
+    before: LineTrace,
 ) -> Going
-    ensures { λ r. ⌜ Answers.wentOf r ≡ Line.lineFrom (Fast.table (now (s .entry)) t) root left node part line ⌝ }
+    requires { ⌜ Answers.Lent (now s) (now nodes) (now planes) g ⌝ }
+    ensures { λ r. ⌜ Answers.wentOf r ≡ Line.lineFrom (Fast.table (now (s .entry)) (g .t)) (g .root) calls top all before ⌝ }
 {
-    match descend(s, t, node, left, part) {
-        Descent::Refused(e) => Going::Refused(e),
-        Descent::Leaf(c) => Going::On(line.into_leaf(c)),
-        Descent::Crossing(w, a, b, below) => {
-            let front = a >= 0.0;
-            let k = crossing(a, b);
-            let near = line_child(s, t, root, w, front, below, part.near_part(k), line);
-            let Going::On(so_far) = near else {
-                return near;
-            };
-            match contents_beside(s, t, w, !front, part.point_at(k)) {
-                EndContents::Refused(e) => Going::Refused(e),
-                EndContents::Contents(c) => {
-                    if c.equals(BspLeafContents::Solid) {
-                        return blocked(s, t, root, w, front, part, k, so_far);
+    let mut node = top;
+    let mut left = calls;
+    let mut part = all;
+    let mut line = before;
+    loop {
+        match descend(s, nodes, planes, g, node, left, part) {
+            Descent::Refused(e) => return Going::Refused(e),
+            Descent::Leaf(c) => return Going::On(line.into_leaf(c)),
+            Descent::Crossing(w, a, b, below) => {
+                let k = crossing(a, b);
+                let near = child(s, nodes, planes, g, w, a >= 0.0, below, part, k, line);
+                let Going::On(so_far) = near else {
+                    return near;
+                };
+                match beyond(s, nodes, planes, g, w, a >= 0.0, part, k, so_far) {
+                    Far::Ended(r) => return r,
+                    Far::Node(i) => {
+                        node = i;
+                        left = below;
+                        part = part.far_part(k);
+                        line = so_far;
                     }
-                    line_child(s, t, root, w, !front, below, part.far_part(k), so_far)
                 }
             }
         }
@@ -202,21 +273,18 @@ pub fn trace_line(
 {
     let table = hull.table;
     let t = tables_of(map, table, hull.mins, hull.maxs);
+    let whole = are_whole(t, s.len());
+    let nodes = node_bytes(s, t, whole);
+    let planes = plane_bytes(s, t, whole);
+    let root = hull.node_id;
+    let g = Ground { t, whole, root };
     let part = Stretch {
         from: 0.0,
         to: 1.0,
         start,
         end,
     };
-    match line_node(
-        s,
-        t,
-        hull.node_id,
-        hull.node_id,
-        512,
-        part,
-        LineTrace::unset(end),
-    ) {
+    match line_from(s, nodes, planes, g, root, 512, part, LineTrace::unset(end)) {
         Going::On(line) => LineAnswer::Line(line),
         Going::Stopped(line) => LineAnswer::Line(line),
         Going::Refused(e) => LineAnswer::Refused(e),

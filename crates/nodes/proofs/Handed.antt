@@ -1,4 +1,4 @@
--- What `segment_from` says of whatever bytes it is handed.
+-- What `segment_from`, `ends_in` and `look_in` say of whatever bytes they are handed.
 -- Assumes nothing.
 use Prim.Native.Nat.{ℕ, zero, suc, _+_, _*_, _/_, _<_, _≤_}
 use native.Mathlib.Omega.{arith}
@@ -12,9 +12,10 @@ use Rattle.format.specs.Answer as Ans
 use Rattle.format.specs.Answer.{Answer, answer}
 use Rattle.math.specs.declared.Vector3.{Vector3}
 use Rattle.walk.specs.Table.{Node}
+use Rattle.walk.specs.Walk.{Entered}
 use Rattle.nodes.specs.Tables.{End}
 use Rattle.nodes.specs.Fast.{Within, isRender, fileTable, nodeSize}
-use Rattle.nodes.specs.Walks.{madeFrom, madeAt, MadeIn, nodeAndDists, segmentAnswer, segmentFrom}
+use Rattle.nodes.specs.Walks.{madeFrom, madeAt, madeOf, MadeIn, nodeAndDists, segmentAnswer, segmentFrom}
 use Rattle.nodes.specs.declared.table.HullTable.{HullTable}
 use Rattle.nodes.specs.declared.table.HullTable.the-variants.{Render, Clip, Box}
 use Rattle.nodes.specs.declared.table.Tables.{Tables}
@@ -41,6 +42,18 @@ first-within n m = record {
 second-within : (n m : List ℕ) → Within m (n ++ m) (length n)
 second-within n m = record { inside = rw (length-append n m) (omega arith); same = λ i h. second-same n m i }
 
+-- ---- what is made of a node in any bytes
+
+module _ {X : Type 0} (make : Entered End → X) (k : Bool) (n m : List ℕ) (i : ℕ) where
+  pub of-bytes : ltb i (length n / nodeSize k) ≡ true → (x : Answer X) → MadeIn make k n m (i * nodeSize k) x → x ≡ madeOf make k n m i
+  of-bytes f x g =
+      rw f
+      (g (n ++ m) 0 (length n) (first-within n m) (second-within n m)
+      ∙ ap (λ (at : ℕ). madeAt make k (n ++ m) at (length n) (length m / 20)) (omega arith))
+
+  pub of-none : ltb i (length n / nodeSize k) ≡ false → Ans.refused 20 ≡ madeOf make k n m i
+  of-none f = rw f refl
+
 -- ---- a box's words stand for what a clip node's do
 
 as-file : (tab : HullTable) (r : SegmentAt) → segmentAnswer tab r ≡ segmentAnswer (fileTable (isRender tab)) r
@@ -61,11 +74,10 @@ module _ (s : List ℕ) (t : Tables) (n m : List ℕ) (whole : Bool) (i : ℕ) (
     by-bytes f r g =
         let f′ : ltb i (length n / nodeSize (isRender (t .table))) ≡ true = rw is-k at f in
         let g′ : MadeIn (nodeAndDists p q) (isRender (t .table)) n m (i * nodeSize (isRender (t .table))) (segmentAnswer (fileTable (isRender (t .table))) r) = rw is-k at g in
-        rw (on, f′)
-        (as-file (t .table) r
-        ∙ g′ (n ++ m) 0 (length n) (first-within n m) (second-within n m)
-        ∙ ap (λ (at : ℕ). madeAt (nodeAndDists p q) (isRender (t .table)) (n ++ m) at (length n) (length m / 20)) (omega arith))
+        rw on (as-file (t .table) r ∙ of-bytes (nodeAndDists p q) (isRender (t .table)) n m i f′ _ g′)
 
     pub by-none : ltb i (length n / nodeSize k) ≡ false → Ans.refused 20 ≡ segmentFrom s t n m whole i p q
     unfolding segmentFrom
-    by-none f = let f′ : ltb i (length n / nodeSize (isRender (t .table))) ≡ false = rw is-k at f in rw (on, f′) refl
+    by-none f =
+        let f′ : ltb i (length n / nodeSize (isRender (t .table))) ≡ false = rw is-k at f in
+        rw on (of-none (nodeAndDists p q) (isRender (t .table)) n m i f′)

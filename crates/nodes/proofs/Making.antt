@@ -123,8 +123,8 @@ pub toward : (tab : HullTable) (w : WordsT) (p : Vector3) (h : Hyperplane) (b : 
     → childOf tab word ≡ childToward p (record { nd = nodeOf tab w; plane = h })
 toward tab w p h b e word is-word = ap (childOf tab) is-word ∙ sym (ap (childOn (nodeOf tab w)) e ∙ child-is tab w b)
 
-pub toward-at : (tab : HullTable) (w : WordsT) (p : Vector3) (h : Hyperplane) (word : ℕ) → word ≡ wordAt w (Pl.pointSide h p) → childOf tab word ≡ childToward p (record { nd = nodeOf tab w; plane = h })
-toward-at tab w p h word is-word = ap (childOf tab) is-word ∙ child-at tab w (Pl.pointSide h p)
+pub at-side : (tab : HullTable) (w : WordsT) (sd : HyperplaneSide) (word : ℕ) → word ≡ wordAt w sd → childOf tab word ≡ childOn (nodeOf tab w) sd
+at-side tab w sd word is-word = ap (childOf tab) is-word ∙ child-at tab w sd
 
 pub with-dists : (nd : Node End) (p q : Vector3) (h : Hyperplane) (x y : Float) → _≡_ {A = Float × Float} (twoDists p q h) (x, y) → _≡_ {A = Node End × (Float × Float)} (nd, (x, y)) (nodeAndDists p q (record { nd = nd; plane = h }))
 with-dists nd p q h x y e = ap (λ (z : Float × Float). (nd, z)) (sym e)

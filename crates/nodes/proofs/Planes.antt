@@ -89,6 +89,10 @@ module _ (s : List ℕ) (at k : ℕ) (d : Float) (is-d : d ≡ f32 s (at + 12)) 
   unfolding planeHere
   here-axis-side p x is-x h = rw (← is-d, ← is-k, is-x) (axis-side k (normal s at) d p h)
 
+  pub here-axis-dist : (p : Vector3) (x : Float) → x ≡ along p k → k < 3 → Ieee.sub binary32 x d ≡ Pl.pointDist (planeHere s at) p
+  unfolding planeHere
+  here-axis-dist p x is-x h = rw (← is-d, ← is-k, is-x) (axis-dist k (normal s at) d p h)
+
   pub here-axis-dists : (p q : Vector3) (x y : Float) → x ≡ along p k → y ≡ along q k → k < 3
       → answer (Ieee.sub binary32 x d, Ieee.sub binary32 y d) ≡ answer (twoDists p q (planeHere s at))
   unfolding planeHere

@@ -16,7 +16,7 @@ use Rattle.math.specs.declared.HyperplaneSide.the-variants.{Positive, Negative}
 use Rattle.walk.specs.Table.{Child, Node, Table, childOn}
 use Rattle.walk.specs.Walk.{Entered, enter}
 use Rattle.nodes.specs.Tables.{End}
-use Rattle.nodes.specs.Fast.{Within, isRender, isBox, childOf, endOf, nodeOf, wordOn, nodeHere, nodeSize, planeHere, twoDists, table}
+use Rattle.nodes.specs.Fast.{Within, isRender, isBox, fileTable, childOf, endOf, nodeOf, wordOn, nodeHere, nodeSize, planeHere, twoDists, table}
 use Rattle.nodes.specs.declared.table.HullTable.{HullTable}
 use Rattle.nodes.specs.declared.table.Part.{Part}
 use Rattle.nodes.specs.declared.table.Tables.{Tables}
@@ -65,6 +65,10 @@ MadeIn make render n m at x =
 -- a walk makes the child on the point's side
 abbrev pub childToward : Vector3 → Entered End → Child End
 childToward p m = childOn (m .nd) (Pl.pointSide (m .plane) p)
+
+-- a look of a whole-line trace makes the child on the side of the point's distance
+abbrev pub childByDistance : Vector3 → Entered End → Child End
+childByDistance p m = childOn (m .nd) (Pl.fromDist (Pl.pointDist (m .plane) p))
 
 abbrev pub onwardAnswer : HullTable → Onward → Answer (Child End)
 onwardAnswer t (O.Word w) = answer (childOf t w)
@@ -121,6 +125,12 @@ pub record Read (s : List ℕ) (t : Tables) (nodes planes : List ℕ) (whole : B
 abbrev pub madeOf : {X : Type 0} → (Entered End → X) → Bool → List ℕ → List ℕ → ℕ → Answer X
 madeOf make render n m i =
     cond (ltb i (length n / nodeSize render)) (madeAt make render (n ++ m) (i * nodeSize render) (length n) (length m / 20)) (refused 20)
+
+-- what `ends_in` and `look_in` answer, x, is made so; and where the bytes are those of a table that is whole, it is what the table says
+abbrev pub MadeOf : {X : Type 0} → (Entered End → X) → Bool → List ℕ → List ℕ → ℕ → (HullTable → Answer X) → Type 0
+MadeOf make render n m i x =
+    (x (fileTable render) ≡ madeOf make render n m i)
+    × ((s : List ℕ) (t : Tables) (whole : Bool) → Read s t n m whole → whole ≡ true → render ≡ isRender (t .table) → x (t .table) ≡ madeFrom make s t i)
 
 -- `segment_from`: by these bytes, or record by record
 unfoldable pub segmentFrom : List ℕ → Tables → List ℕ → List ℕ → Bool → ℕ → Vector3 → Vector3 → Answer (Node End × (Float × Float))

@@ -104,6 +104,20 @@ pub fn dists_here(s: &[u8], at: usize, p: Vector3, q: Vector3) -> Dists
     Dists::Two(plane.point_dist(p), plane.point_dist(q))
 }
 
+// The same for a whole-line trace, which has readers of its own (docs/DECISIONS.md 64).
+pub fn ends_here(s: &[u8], at: usize, p: Vector3, q: Vector3) -> Dists
+    requires { ⌜ at + 20 ≤ length (now s) ⌝ }
+    ensures { λ r. ⌜ Fast.distsAnswer r ≡ answer (Fast.twoDists p q (Fast.planeHere (now (s .entry)) at)) ⌝ }
+{
+    let dist = f32_at(s, at + 12);
+    let kind = u32_at(s, at + 16);
+    if kind < 3 {
+        return Dists::Two(along(p, kind) - dist, along(q, kind) - dist);
+    }
+    let plane = Hyperplane::new(normal_at(s, at), dist);
+    Dists::Two(plane.point_dist(p), plane.point_dist(q))
+}
+
 pub fn plane_here(s: &[u8], at: usize) -> Hyperplane
     requires { ⌜ at + 20 ≤ length (now s) ⌝ }
     ensures { λ r. ⌜ r ≡ Fast.planeHere (now (s .entry)) at ⌝ }

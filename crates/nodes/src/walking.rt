@@ -14,6 +14,7 @@ use crate::bytes::u32_at;
 use crate::here::along;
 use crate::here::clip_words;
 use crate::here::dists_here;
+use crate::here::ends_here;
 use crate::here::normal_at;
 use crate::here::render_words;
 use crate::read::Dists;
@@ -255,6 +256,91 @@ pub fn segment_from(
         return SegmentAt::Refused(Refusal::NoSuchRecord);
     }
     segment_any(s, t, index, p, q)
+}
+
+// The same for a whole-line trace, which has readers of its own (docs/DECISIONS.md 64).
+fn ends_at(
+    nodes: &[u8],
+    planes: &[u8],
+    render: bool,
+    index: usize,
+    p: Vector3,
+    q: Vector3,
+) -> SegmentAt
+    requires { ⌜ index * Fast.nodeSize render + Fast.nodeSize render ≤ length (now nodes) ⌝ }
+    ensures { λ r. ⌜ Walks.MadeIn (Walks.nodeAndDists p q) render (now (nodes .entry)) (now (planes .entry)) (index * Fast.nodeSize render) (Walks.segmentAnswer (Fast.fileTable render) r) ⌝ }
+{
+    match words_in(nodes, render, index) {
+        ReadWords::Refused(e) => SegmentAt::Refused(e),
+        ReadWords::Words(words) => {
+            let plane = words.plane as usize;
+            if planes.len() / 20 <= plane {
+                return SegmentAt::Refused(Refusal::IndexOutsideTable);
+            }
+            match ends_here(planes, plane * 20, p, q) {
+                Dists::Refused(e) => SegmentAt::Refused(e),
+                Dists::Two(a, b) => SegmentAt::Dists(words, a, b),
+            }
+        }
+    }
+}
+
+// A node's words, and how far two points are from its plane, from the bytes of nodes and planes, whatever they are. 20: there is no such node.
+pub fn ends_in(
+    nodes: &[u8],
+    planes: &[u8],
+    render: bool,
+    index: usize,
+    p: Vector3,
+    q: Vector3,
+) -> SegmentAt
+    ensures { λ r. ⌜ Walks.MadeOf (Walks.nodeAndDists p q) render (now (nodes .entry)) (now (planes .entry)) index (λ t. Walks.segmentAnswer t r) ⌝ }
+{
+    if has_node(nodes, render, index) {
+        return ends_at(nodes, planes, render, index, p, q);
+    }
+    SegmentAt::Refused(Refusal::NoSuchRecord)
+}
+
+// The child's word on the side of the point's distance from the plane at a place: 0 is the front, a NaN the back.
+fn word_by_distance(planes: &[u8], at: usize, words: Words, point: Vector3) -> u16
+    requires { ⌜ at + 20 ≤ length (now planes) ⌝ }
+    ensures { λ r. ⌜ r ≡ Walks.wordAt words (Pl.fromDist (Pl.pointDist (Fast.planeHere (now (planes .entry)) at) point)) ⌝ }
+{
+    let dist = f32_at(planes, at + 12);
+    let kind = u32_at(planes, at + 16);
+    if kind < 3 {
+        return words.on(along(point, kind) - dist >= 0.0);
+    }
+    words.on(Hyperplane::new(normal_at(planes, at), dist).point_dist(point) >= 0.0)
+}
+
+// That word at a node.
+fn look_at(nodes: &[u8], planes: &[u8], render: bool, index: usize, point: Vector3) -> Onward
+    requires { ⌜ index * Fast.nodeSize render + Fast.nodeSize render ≤ length (now nodes) ⌝ }
+    ensures { λ r. ⌜ Walks.MadeIn (Walks.childByDistance point) render (now (nodes .entry)) (now (planes .entry)) (index * Fast.nodeSize render) (Walks.onwardAnswer (Fast.fileTable render) r) ⌝ }
+{
+    match words_in(nodes, render, index) {
+        ReadWords::Refused(e) => Onward::Refused(e),
+        ReadWords::Words(words) => {
+            let plane = words.plane as usize;
+            if planes.len() / 20 <= plane {
+                return Onward::Refused(Refusal::IndexOutsideTable);
+            }
+            Onward::Word(word_by_distance(planes, plane * 20, words, point))
+        }
+    }
+}
+
+// The child's word on the side of the point's distance from a node's plane, from the bytes of nodes and planes, whatever they are. 20: there
+// is no such node.
+pub fn look_in(nodes: &[u8], planes: &[u8], render: bool, index: usize, point: Vector3) -> Onward
+    ensures { λ r. ⌜ Walks.MadeOf (Walks.childByDistance point) render (now (nodes .entry)) (now (planes .entry)) index (λ t. Walks.onwardAnswer t r) ⌝ }
+{
+    if has_node(nodes, render, index) {
+        return look_at(nodes, planes, render, index, point);
+    }
+    Onward::Refused(Refusal::NoSuchRecord)
 }
 
 // The walk of the point (x, y, z). 30: the node is outside its table; 31: as many nodes as the table holds were entered; then its record

@@ -10,10 +10,10 @@ use Rattle.line.proofs.contents.contents_from.Statement.{statement}
 use Rattle.line.proofs.contents.contents_from.Tie as tie
 
 abbrev Inv-loop : tie.InvT-loop
-Inv-loop s t top point node₀ left₀ node left = contentsFrom (Fast.table s t) left node point ≡ contentsFrom (Fast.table s t) 512 top point
+Inv-loop s nodes planes g top point node₀ left₀ node left = contentsFrom (Fast.table s (g .t)) left node point ≡ contentsFrom (Fast.table s (g .t)) 512 top point
 
 abbrev μ-loop : tie.MeasureT-loop
-μ-loop s t top point node₀ left₀ node left = left
+μ-loop s nodes planes g top point node₀ left₀ node left = left
 
 loop-holds : tie.Need-loop-holds Inv-loop μ-loop
 loop-holds c = refl

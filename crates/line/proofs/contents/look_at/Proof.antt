@@ -1,6 +1,7 @@
 -- `line::contents::look_at` meets its contract. Assumes nothing.
 use mathlib.Core.Path.{_∙_}
-use Rattle.line.proofs.Seen.{note-outside, note-spent, note-read, no-node, no-side, one-side}
+use denote.Ref.{now}
+use Rattle.line.proofs.Seen.{note-outside, note-spent, note-read}
 use borrow.Author.Needs.{needs}
 use Rattle.line.proofs.contents.look_at.Statement.{statement}
 use Rattle.line.proofs.contents.look_at.Tie as tie
@@ -14,44 +15,20 @@ returns c = note-outside _ _ _ _ _ (c .if1 .taken)
 returns-2 : tie.Need-returns-2
 returns-2 c = note-spent _ _ _ _ _ (c .before .if1 .left) (c .if2 .taken)
 
-read-words-requires : tie.Need-read-words-requires
-read-words-requires c κs = search needs
+is-render-requires : tie.Need-is-render-requires
+is-render-requires c κs = search needs
 
-enum-known-e : tie.Need-enum-known-e
-enum-known-e c = search needs
-
-enum-known-w : tie.Need-enum-known-w
-enum-known-w c = search needs
-
-cast-plane-at : tie.Need-cast-plane-at
-cast-plane-at c = search needs
-
-plane-at-requires : tie.Need-plane-at-requires
-plane-at-requires c κs = search needs
-
-enum-known-e-2 : tie.Need-enum-known-e-2
-enum-known-e-2 c = search needs
-
-enum-known-plane : tie.Need-enum-known-plane
-enum-known-plane c = search needs
-
-point-dist-requires : tie.Need-point-dist-requires
-point-dist-requires c κs = search needs
-
-on-requires : tie.Need-on-requires
-on-requires c κs = search needs
+look-in-requires : tie.Need-look-in-requires
+look-in-requires c κs = search needs
 
 returns-3 : tie.Need-returns-3
-returns-3 c = no-node _ _ _ _ (c .before .before .before .read-words .ensures) _ _ (c .before .e .given .1)
-    ∙ note-read _ _ _ _ _ (c .before .before .before .before .before .if1 .left) (c .before .before .before .before .if2 .left)
+returns-3 c = let a = c .before .before .before .before .before .before .before .before .before .before .args in c .look-in .ensures .1 (now (a .s)) (a .g .t) (a .g .whole) (c .before .before .before .before .before .before .before .before .before .before .pre) (c .before .before .if3 .taken) (c .before .is-render .ensures) ∙ note-read _ _ _ _ _ (c .before .before .before .before .if1 .left) (c .before .before .before .if2 .left)
+
+look-any-requires : tie.Need-look-any-requires
+look-any-requires c κs = search needs
 
 returns-4 : tie.Need-returns-4
-returns-4 c = no-side _ _ _ _ (c .before .before .before .before .before .before .before .before .read-words .ensures) _ (c .before .before .before .before .before .before .w .given .1) _ _ (c .before .before .before .plane-at .ensures) _ (c .before .e2 .given .1)
-    ∙ note-read _ _ _ _ _ (c .before .before .before .before .before .before .before .before .before .before .if1 .left) (c .before .before .before .before .before .before .before .before .before .if2 .left)
-
-returns-5 : tie.Need-returns-5
-returns-5 c = one-side _ _ _ _ (c .before .before .before .before .before .before .before .before .before .before .read-words .ensures) _ (c .before .before .before .before .before .before .before .before .w .given .1) _ _ (c .before .before .before .before .before .plane-at .ensures) _ (c .before .before .before .plane .given .1) _ (c .before .point-dist .ensures) _ (c .on .ensures)
-    ∙ note-read _ _ _ _ _ (c .before .before .before .before .before .before .before .before .before .before .before .before .if1 .left) (c .before .before .before .before .before .before .before .before .before .before .before .if2 .left)
+returns-4 c = c .look-any .ensures ∙ note-read _ _ _ _ _ (c .before .before .before .if1 .left) (c .before .before .if2 .left)
 
 pub look-at-spec : {M : Type 1} → statement M
 look-at-spec =
@@ -60,15 +37,8 @@ look-at-spec =
     cast-if1
     returns
     returns-2
-    read-words-requires
-    enum-known-e
-    enum-known-w
-    cast-plane-at
-    plane-at-requires
-    enum-known-e-2
-    enum-known-plane
-    point-dist-requires
-    on-requires
+    is-render-requires
+    look-in-requires
     returns-3
-    returns-4
-    returns-5)
+    look-any-requires
+    returns-4)

@@ -13,11 +13,11 @@ use Rattle.line.proofs.tracing.descend.Statement.{statement}
 use Rattle.line.proofs.tracing.descend.Tie as tie
 
 abbrev Inv-loop : tie.InvT-loop
-Inv-loop s t top calls part node₀ left₀ node left =
-    (left ≤ calls) × ((root : ℕ) (l : LineTrace) → lineFrom (Fast.table s t) root left node part l ≡ lineFrom (Fast.table s t) root calls top part l)
+Inv-loop s nodes planes g top calls part node₀ left₀ node left =
+    (left ≤ calls) × ((root : ℕ) (l : LineTrace) → lineFrom (Fast.table s (g .t)) root left node part l ≡ lineFrom (Fast.table s (g .t)) root calls top part l)
 
 abbrev μ-loop : tie.MeasureT-loop
-μ-loop s t top calls part node₀ left₀ node left = left
+μ-loop s nodes planes g top calls part node₀ left₀ node left = left
 
 loop-holds : tie.Need-loop-holds Inv-loop μ-loop
 loop-holds c = (search needs, λ root l. refl)

@@ -2,9 +2,10 @@
 -- Assumes nothing.
 use Prim.Native.Nat.{_*_}
 use denote.Ref.{now}
+use Rattle.math.specs.Plane.{pointSide}
 use Rattle.nodes.specs.Fast.{fileTable, nodeSize, planeHere}
 use Rattle.nodes.specs.Walks.{childToward}
-use Rattle.nodes.proofs.Making.{in-unread, in-outside, in-made, toward-at}
+use Rattle.nodes.proofs.Making.{in-unread, in-outside, in-made, at-side}
 use borrow.Author.Needs.{needs}
 use Rattle.nodes.proofs.walking.onward_in.Statement.{statement}
 use Rattle.nodes.proofs.walking.onward_in.Tie as tie
@@ -34,7 +35,7 @@ returns-2 : tie.Need-returns-2
 returns-2 c = let a = c .before .before .before .before .before .before .args in in-unread (childToward (a .point)) (a .render) (now (a .nodes)) (now (a .planes)) (a .index * nodeSize (a .render)) (c .before .before .before .words-in .result) (c .before .before .before .words-in .ensures) _ (c .before .e .given .1)
 
 returns-3 : tie.Need-returns-3
-returns-3 c = let a = c .before .before .before .before .before .before .before .before .before .args in let w = c .before .before .before .before .words .given .0 .0 in in-made (childToward (a .point)) (a .render) (now (a .nodes)) (now (a .planes)) (a .index * nodeSize (a .render)) (c .before .before .before .before .before .before .words-in .result) (c .before .before .before .before .before .before .words-in .ensures) w (c .before .before .before .before .words .given .1) (c .before .if1 .left) _ (toward-at (fileTable (a .render)) w (a .point) (planeHere (now (a .planes)) (w .plane * 20)) _ (c .word-on .ensures))
+returns-3 c = let a = c .before .before .before .before .before .before .before .before .before .args in let w = c .before .before .before .before .words .given .0 .0 in in-made (childToward (a .point)) (a .render) (now (a .nodes)) (now (a .planes)) (a .index * nodeSize (a .render)) (c .before .before .before .before .before .before .words-in .result) (c .before .before .before .before .before .before .words-in .ensures) w (c .before .before .before .before .words .given .1) (c .before .if1 .left) _ (at-side (fileTable (a .render)) w (pointSide (planeHere (now (a .planes)) (w .plane * 20)) (a .point)) _ (c .word-on .ensures))
 
 pub onward-in-spec : {M : Type 1} → statement M
 onward-in-spec =
