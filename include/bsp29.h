@@ -787,6 +787,20 @@ uint32_t bsp_texture(const uint8_t *file, size_t file_length,
                      uint64_t *out, size_t out_length);
 
 /*
+ * The new numbers of all textures: how many there are in out[0], and at the front of list the new number
+ * of each texture, by its number in the file. A list of as many entries as the map's texture count is
+ * enough.
+ *   map: 31 words or more; out: 1 word or more.
+ *   Refuses: 22; 23 as bsp_texture_frame; 22, a list too short for the textures.
+ * Time: the names of all textures are read a few times, as bsp_texture_static reads them, and then those
+ * from a part on whose stem no part had yet once more for every part of 12,287 stems.
+ */
+uint32_t bsp_texture_numbers(const uint8_t *file, size_t file_length,
+                             const uint32_t *map, size_t map_length,
+                             uint32_t *list, size_t list_length,
+                             uint64_t *out, size_t out_length);
+
+/*
  * The file of a made-up map, for load tests on maps that nobody drew: at the front of buffer, and its
  * length, 249 + 52 * nodes, in out[0]. The same seed and number of nodes give the same bytes. The map
  * is a chain of 1 to 500 nodes with a plane each, as render nodes and as clip nodes; docs/SCOPE.md says

@@ -16,5 +16,5 @@ pub use Rattle.ffi_accept.specs.Calls.{bspAccept}
 pub use Rattle.ffi_points.specs.Calls.{bspContentsPoints}
 pub use Rattle.ffi_line.specs.Calls.{bspTraceLine}
 pub use Rattle.ffi_order.specs.Calls.{Ordering, ordering, bspOrder, bspOrderContents, bspOrderTrace}
-pub use Rattle.ffi_textures.specs.Calls.{bspTextureFrame, bspTextureStatic, bspTexture}
+pub use Rattle.ffi_textures.specs.Calls.{bspTextureFrame, bspTextureStatic, bspTexture, bspTextureNumbers}
 pub use Rattle.ffi_made.specs.Calls.{bspMadeUp}

@@ -364,6 +364,19 @@ pub extern "C" fn bsp_texture(file: &[u8], map: &[u32], index: u64, out: &mut [u
     ffi_textures::texture(file, map, index, out)
 }
 
+// The new numbers of all textures, by their numbers in the file, at the front of `list`, and their count.
+#[no_mangle]
+pub extern "C" fn bsp_texture_numbers(
+    file: &[u8],
+    map: &[u32],
+    list: &mut [u32],
+    out: &mut [u64],
+) -> u32
+    ensures { λ r. ⌜ left r (now (list .exit)) (now (out .exit)) ≡ Calls.bspTextureNumbers (now (file .entry)) (now (map .entry)) (now (list .entry)) (now (out .entry)) ⌝ }
+{
+    ffi_textures::numbers(file, map, list, out)
+}
+
 // The file of a made-up map from a seed and a node count, at the front of `buffer`, and its length.
 #[no_mangle]
 pub extern "C" fn bsp_made_up(seed: u32, nodes: u64, buffer: &mut [u8], out: &mut [u64]) -> u32

@@ -1,10 +1,12 @@
--- What the calls about textures say, and what they leave in the lent list.
+-- What the calls about textures say, and what they leave in the lent lists.
 use Prim.Native.Nat.{ℕ}
 use mathlib.Core.List.{List, [], _∷_}
 use Rattle.format.specs.Answer.{mapped}
-use Rattle.words.specs.Words.{Written, given, atLeast, mapOf, numberWords, flagWord}
+use Rattle.format.specs.Listed.{into}
+use Rattle.words.specs.Words.{Written, Left, given, atLeast, enough, listedIn, mapOf, numberWords, flagWord}
 use Rattle.textures.specs.Access.{frameTexture, staticTexture, textureOf}
 use Rattle.textures.specs.declared.answer.BspTexture.{BspTexture}
+use Rattle.texture_numbers.specs.Numbers.{textureNumbers}
 
 -- a frame's number in the file, by new number, group and place
 unfoldable pub bspTextureFrame : List ℕ → List ℕ → ℕ → ℕ → ℕ → List ℕ → Written
@@ -22,3 +24,7 @@ textureWords x = flagWord (x .present) ∷ x .«name_start» ∷ x .«name_end»
 -- a texture by its number in the file
 unfoldable pub bspTexture : List ℕ → List ℕ → ℕ → List ℕ → Written
 bspTexture s map i out = atLeast 31 map out (atLeast 5 out out (given (mapped textureWords (textureOf s (mapOf map) i)) out))
+
+-- the new numbers of all textures in the list, by their numbers in the file, and their count in `out`
+unfoldable pub bspTextureNumbers : List ℕ → List ℕ → List ℕ → List ℕ → Left
+bspTextureNumbers s map list out = enough 31 map list out (enough 1 out list out (listedIn (into (textureNumbers s (mapOf map)) list) out))

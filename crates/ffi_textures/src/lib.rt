@@ -3,15 +3,17 @@ ghost use mathlib.Core.Path.{_≡_};
 ghost use Prim.Native.Nat.{_≤_};
 ghost use lib.ListN.{length};
 ghost use Rattle.format.specs.Answer.{mapped};
-ghost use Rattle.words.specs.Words.{written, given, numberWords};
-ghost use Rattle.textures.specs.Frame.{fileNumber};
+ghost use Rattle.words.specs.Words.{written, left, given, numberWords};
+ghost use Rattle.textures.specs.Frame.{fileNumber, listLength};
 ghost use Rattle.textures.specs.Access.{textureAnswer};
 ghost use Rattle.ffi_textures.specs.Calls as Calls;
+use texture_numbers::texture_numbers;
 use textures::access::frame_texture;
 use textures::access::static_texture;
 use textures::answer::BspTexture;
 use textures::answer::FileNumber;
 use textures::answer::TextureAnswer;
+use textures::answer::TextureList;
 use words::LIST_TOO_SHORT;
 use words::flag_word;
 use words::give;
@@ -24,6 +26,16 @@ fn give_number(number: FileNumber, out: &mut [u64]) -> u32
     match number {
         FileNumber::Refused(e) => e.number(),
         FileNumber::Value(n) => give(&[n as u64], out),
+    }
+}
+
+fn give_length(listed: TextureList, out: &mut [u64]) -> u32
+    requires { ⌜ 1 ≤ length (now out) ⌝ }
+    ensures { λ r. ⌜ written r (now (out .exit)) ≡ given (mapped numberWords (listLength listed)) (now (out .entry)) ⌝ }
+{
+    match listed {
+        TextureList::Refused(e) => e.number(),
+        TextureList::Length(n) => give(&[n as u64], out),
     }
 }
 
@@ -88,4 +100,18 @@ pub fn texture(file: &[u8], map: &[u32], index: u64, out: &mut [u64]) -> u32
         return LIST_TOO_SHORT;
     }
     give_texture(textures::access::texture(file, map_of(map), index), out)
+}
+
+// The new numbers of all textures, by their numbers in the file, at the front of `list`, and their count. 22: a map of fewer than 31 words or
+// no word for the count; 22 again, last of all: a list of too few entries.
+pub fn numbers(file: &[u8], map: &[u32], list: &mut [u32], out: &mut [u64]) -> u32
+    ensures { λ r. ⌜ left r (now (list .exit)) (now (out .exit)) ≡ Calls.bspTextureNumbers (now (file .entry)) (now (map .entry)) (now (list .entry)) (now (out .entry)) ⌝ }
+{
+    if map.len() < 31 {
+        return LIST_TOO_SHORT;
+    }
+    if out.len() < 1 {
+        return LIST_TOO_SHORT;
+    }
+    give_length(texture_numbers(file, map_of(map), list), out)
 }

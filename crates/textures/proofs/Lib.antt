@@ -4,16 +4,17 @@ mod Offsets
 mod Walk
 mod Digits
 mod Keys
-mod Tables
+pub mod Tables
 mod Fills
-mod Marks
+pub mod Marks
 mod Steps
 mod Alone
 mod Sequence
 mod Loading
-mod Firsts
+pub mod Firsts
 mod Frames
 mod Numbers
+pub mod Leads
 mod Places
-mod Accesses
+pub mod Accesses
 mod Trials

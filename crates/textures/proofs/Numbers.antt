@@ -26,7 +26,7 @@ use Rattle.textures.proofs.Firsts.{count-same, count-below, lowest-at, 
 pub both : {a b c d : Bool} → a ≡ b → c ≡ d → (a && c) ≡ (b && d)
 both e f = rw (e, f) refl
 
-lowest-same : (p q : ℕ → Bool) (n : ℕ) → ((i : ℕ) → p i ≡ q i) → lowest p n ≡ lowest q n
+pub lowest-same : (p q : ℕ → Bool) (n : ℕ) → ((i : ℕ) → p i ≡ q i) → lowest p n ≡ lowest q n
 unfolding lowest
 lowest-same p q zero h = refl
 lowest-same p q (suc n) h = rw (any-same p q n h, lowest-same p q n h, h n) refl
@@ -50,12 +50,12 @@ module _ (p : ℕ → Bool) (n i : ℕ) (none : any p i ≡ false) where
   pub finds-no-lowest : i ≤ n → n ≤ i → i ≡ lowest p n
   finds-no-lowest h k = let e : i ≡ n = omega arith in e ∙ sym (lowest-none p n (subst (λ (x : ℕ). any p x ≡ false) e none))
 
-animated-is : (s : List ℕ) (base i : ℕ) → isAnimated (namesOf s base i) ≡ passing s base Animated i
+pub animated-is : (s : List ℕ) (base i : ℕ) → isAnimated (namesOf s base i) ≡ passing s base Animated i
 unfolding isOf
 animated-is s base i = kind-is Animated s base i
 
 module _ (s : List ℕ) (bytes : (i : ℕ) → getD s i 0 < 256) (base : ℕ) where
-  like-is : (i j : ℕ) → alike isAnimated (namesOf s base) i j ≡ (passing s base Animated j && (eqb (starts s base i) (starts s base j) && eqb (ends s base i) (ends s base j)))
+  pub like-is : (i j : ℕ) → alike isAnimated (namesOf s base) i j ≡ (passing s base Animated j && (eqb (starts s base i) (starts s base j) && eqb (ends s base i) (ends s base j)))
   like-is i j = both (animated-is s base j) (same-is s bytes base i j)
 
   pub statics-are : (n : ℕ) → count (isStatic (namesOf s base)) n ≡ count (λ i. not (passing s base Animated i)) n

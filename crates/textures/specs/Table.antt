@@ -8,7 +8,7 @@ use mathlib.Core.List.{List}
 use lib.Dec.{eqb, leb, ltb}
 use lib.ListN.{length, getD, set}
 use Rattle.format.specs.Step.{when}
-use Rattle.textures.specs.Count.{any, count}
+use Rattle.textures.specs.Count.{any, count, lowest}
 use Rattle.textures.specs.declared.table.Located.{Located}
 use Rattle.textures.specs.declared.table.Located.the-variants.{At, Free, Deep}
 
@@ -102,6 +102,33 @@ isLone p q ka kb n i = p i && not (any (λ j. q j && (eqb (ka i) (ka j) && eqb (
 -- texture i passes a test, and none before it that does has its stem
 abbrev pub isEarliest : (ℕ → Bool) → (ℕ → ℕ) → (ℕ → ℕ) → ℕ → Bool
 isEarliest p ka kb i = isLone p p ka kb i i
+
+-- ---- the first texture with the stem of each
+
+-- the lowest number below m that passes a test; 2^32 - 1 where there is none
+unfoldable pub earliestOf : (ℕ → Bool) → ℕ → ℕ
+earliestOf q m = when (any q m) (lowest q m) 4294967295
+
+-- texture j passes a test and has the stem of texture i
+abbrev pub isLike : (ℕ → Bool) → (ℕ → ℕ) → (ℕ → ℕ) → ℕ → ℕ → Bool
+isLike p ka kb i j = p j && (eqb (ka i) (ka j) && eqb (kb i) (kb j))
+
+-- what is known of texture i when the stems of the first m textures have been gone through: the first texture with its stem, if it is one of them
+unfoldable pub knownOf : (ℕ → Bool) → (ℕ → ℕ) → (ℕ → ℕ) → ℕ → ℕ → ℕ
+knownOf p ka kb m i = when (p i) (earliestOf (isLike p ka kb i) m) 4294967295
+
+-- a list of this for n textures
+abbrev pub Known : (ℕ → Bool) → (ℕ → ℕ) → (ℕ → ℕ) → ℕ → ℕ → List ℕ → Type 0
+Known p ka kb n m list = (i : ℕ) → i < n → getD list i 0 ≡ knownOf p ka kb m i
+
+-- the same where a part of the textures, from `from` to `to`, has been gone through for the first j textures
+abbrev pub KnownTo : (ℕ → Bool) → (ℕ → ℕ) → (ℕ → ℕ) → ℕ → ℕ → ℕ → ℕ → List ℕ → Type 0
+KnownTo p ka kb n from to j list = (i : ℕ) → i < n → getD list i 0 ≡ knownOf p ka kb (when (ltb i j) to from) i
+
+-- Of each node of the table of a part that starts at `from`: the first texture with its stem, of the first j. Nothing is said of a stem that a
+-- texture before the part has.
+abbrev pub Heads : (ℕ → Bool) → (ℕ → ℕ) → (ℕ → ℕ) → List ℕ → ℕ → ℕ → List ℕ → ℕ → Type 0
+Heads p ka kb t w from heads j = (v : ℕ) → 0 < v → v < w → any (hits p ka kb t v) from ≡ false → getD heads v 0 ≡ earliestOf (hits p ka kb t v) j
 
 -- Where a search for the number with k others before it, of those below n that pass a test, has come to: `seen` of them are before `at`,
 -- which is that number unless it is n.

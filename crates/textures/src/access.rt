@@ -33,7 +33,7 @@ use records::texinfo::texinfo;
 use sections::position::Position;
 
 // Whether the section reads as it does on loading, its end position aside.
-fn is_sound(s: &[u8], base: u32, count: u32) -> bool
+pub fn is_sound(s: &[u8], base: u32, count: u32) -> bool
     ensures { λ r. ⌜ r ≡ Access.soundAt (now (s .entry)) base count ⌝ }
 {
     if 2097152 < count {

@@ -7,6 +7,12 @@ pub enum FileNumber {
     Refused(Refusal),
 }
 
+// How many textures a lent list tells of, or a refusal.
+pub enum TextureList {
+    Length(u32),
+    Refused(Refusal),
+}
+
 // A texture by its number in the file: whether it is there; the 16 bytes of its name, lowered, with zeros from the first zero on, as two
 // numbers whose lowest byte comes first; its width and height. An absent one has zeros.
 pub struct BspTexture {

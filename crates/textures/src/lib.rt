@@ -1,6 +1,7 @@
 // The texture section: its names, its groups of frames, and the numbers that textures get.
 pub mod access;
 pub mod answer;
+pub mod earliest;
 mod frame;
 mod group;
 mod kind;

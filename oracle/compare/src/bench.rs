@@ -18,6 +18,7 @@ use richter::{Hull, Trace};
 use crate::board::Plan;
 use crate::calls;
 use crate::calls_stub::{LINE_WORDS, TRACE_WORDS};
+use crate::texture_times;
 use crate::words;
 
 /// Points and segments asked a slice: more than a processor's branch prediction remembers. With a
@@ -76,6 +77,7 @@ pub fn run(plan: &Plan, folder: Option<&str>) -> bool {
     equal &= table.equal;
     equal &= run_real(plan, folder);
     equal &= run_points(plan);
+    texture_times::run();
     for call in [
         "bsp_load",
         "bsp_contents",
@@ -86,6 +88,7 @@ pub fn run(plan: &Plan, folder: Option<&str>) -> bool {
         "bsp_order",
         "bsp_trace_line",
         "bsp_accept",
+        "bsp_texture_numbers",
     ] {
         if !calls::is_linked(call) {
             println!("{call} and its group are the stub's");

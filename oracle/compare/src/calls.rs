@@ -50,6 +50,7 @@ extern "C" {
     fn bsp_texture_frame(file: Bytes, file_len: usize, map: Words, map_len: usize, number: u64, group: u32, place: u64, out: LongsOut, out_len: usize) -> u32;
     fn bsp_texture_static(file: Bytes, file_len: usize, map: Words, map_len: usize, number: u64, out: LongsOut, out_len: usize) -> u32;
     fn bsp_texture(file: Bytes, file_len: usize, map: Words, map_len: usize, index: u64, out: LongsOut, out_len: usize) -> u32;
+    fn bsp_texture_numbers(file: Bytes, file_len: usize, map: Words, map_len: usize, list: WordsOut, list_len: usize, out: LongsOut, out_len: usize) -> u32;
     fn bsp_made_up(seed: u32, nodes: u64, buffer: BytesOut, buffer_len: usize, out: LongsOut, out_len: usize) -> u32;
     fn bsp_hull_check(file: Bytes, file_len: usize, map: Words, map_len: usize, hull: Longs, hull_len: usize, marks: BytesOut, marks_len: usize, out: LongsOut, out_len: usize) -> u32;
 }
@@ -96,6 +97,7 @@ pub struct Calls {
     pub texture_frame: fn(&[u8], &[u32], u64, u32, u64, &mut [u64]) -> u32,
     pub texture_static: fn(&[u8], &[u32], u64, &mut [u64]) -> u32,
     pub texture: fn(&[u8], &[u32], u64, &mut [u64]) -> u32,
+    pub texture_numbers: fn(&[u8], &[u32], &mut [u32], &mut [u64]) -> u32,
     pub hull_check: fn(&[u8], &[u32], &[u64], &mut [u8], &mut [u64]) -> u32,
     pub made_up: fn(u32, u64, &mut [u8], &mut [u64]) -> u32,
 }
@@ -130,6 +132,7 @@ impl Calls {
             texture_frame,
             texture_static,
             texture,
+            texture_numbers,
             hull_check,
             made_up,
         }
@@ -151,7 +154,7 @@ pub fn is_linked(call: &str) -> bool {
         "bsp_trace_line" => cfg!(feature = "ffi_line"),
         "bsp_made_up" => cfg!(feature = "ffi_made"),
         "bsp_order" | "bsp_order_contents" | "bsp_order_trace" => cfg!(feature = "ffi_order"),
-        "bsp_texture_frame" | "bsp_texture_static" | "bsp_texture" => {
+        "bsp_texture_frame" | "bsp_texture_static" | "bsp_texture" | "bsp_texture_numbers" => {
             cfg!(feature = "ffi_textures")
         }
         "bsp_contents_nodes" | "bsp_find_leaf_nodes" | "bsp_trace_nodes" => {
@@ -709,6 +712,23 @@ pub fn texture(file: &[u8], map: &[u32], index: u64, out: &mut [u64]) -> u32 {
         "ffi_textures",
         bsp_texture(file, map, index, out),
         (file.as_ptr(), file.len(), map.as_ptr(), map.len(), index, out.as_mut_ptr(), out.len())
+    )
+}
+
+pub fn texture_numbers(file: &[u8], map: &[u32], list: &mut [u32], out: &mut [u64]) -> u32 {
+    either!(
+        "ffi_textures",
+        bsp_texture_numbers(file, map, list, out),
+        (
+            file.as_ptr(),
+            file.len(),
+            map.as_ptr(),
+            map.len(),
+            list.as_mut_ptr(),
+            list.len(),
+            out.as_mut_ptr(),
+            out.len()
+        )
     )
 }
 

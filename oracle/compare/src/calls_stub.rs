@@ -383,6 +383,10 @@ pub fn bsp_texture(file: &[u8], map: &[u32], index: u64, out: &mut [u64]) -> u32
     put(map_of(file, map, enough).and_then(|map| map.texture_words(index)), out)
 }
 
+pub fn bsp_texture_numbers(file: &[u8], map: &[u32], list: &mut [u32], out: &mut [u64]) -> u32 {
+    put_list(map_of(file, map, !out.is_empty()).and_then(|map| map.texture_numbers()), list, out)
+}
+
 pub fn bsp_made_up(seed: u32, nodes: u64, buffer: &mut [u8], out: &mut [u64]) -> u32 {
     match made::made_up(seed, nodes) {
         Err(refusal) => refusal,

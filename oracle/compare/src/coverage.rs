@@ -27,7 +27,7 @@ pub const NUMBERS: [u32; 32] = [
 /// - 29 is that of a made-up map.
 /// - 35 is acceptance's.
 /// - 33 is visibility's, 34 the tree check's and that of the calls which make it.
-const CAN: [(&str, &[u32]); 29] = [
+const CAN: [(&str, &[u32]); 30] = [
     ("bsp_load", &[1, 2, 3, 4, 5, 6, 7, 8, 9, 10, 11, 12, 13, 14, 15, 22]),
     ("bsp_record", &[20, 22, 23]),
     ("bsp_count", &[20, 22]),
@@ -67,6 +67,8 @@ const CAN: [(&str, &[u32]); 29] = [
     ("bsp_texture_frame", &[20, 22, 23]),
     ("bsp_texture_static", &[20, 22, 23]),
     ("bsp_texture", &[20, 22, 23]),
+    // of all textures: no number names one
+    ("bsp_texture_numbers", &[22, 23]),
     // 29 first of all
     ("bsp_made_up", &[22, 29]),
 ];

@@ -1,7 +1,5 @@
-//! The time of loading texture sections of a usual size and of the largest, beside the Rust's, in
-//! seconds.
-
-use std::time::Instant;
+//! The time of loading texture sections of a usual size and of the largest, beside the Rust's, and of
+//! the numbers of all textures, which the Rust has no call for; in seconds.
 
 use maps::record::{self, Tables};
 
@@ -14,26 +12,51 @@ const MOST: usize = 2_097_152;
 
 pub fn run() -> bool {
     let calls = Calls::linked();
-    let files = [("usual, 30 of 200 animated", usual(), 200), ("one header", one_header(), 1)];
-    let largest = [("different stems", different(), 1)];
-    for (name, file, times) in files.into_iter().chain(largest) {
-        let library = seconds(times, || {
-            let mut map = [0; MAP_WORDS];
-            assert_eq!((calls.load)(&file, &mut map), 0, "{name} loads");
-        });
-        let rust = seconds(times, || assert!(richter::load(&file).is_ok(), "{name} loads"));
+    println!("texture sections: seconds of the thread's processor time, of the usual one the least");
+    println!("of 20 turns of 200 calls, of the largest one call, of which the Rust's takes long");
+    println!("{:28} {:>9} {:>10} {:>10} {:>12}", "section", "bytes", "load", "Rust", "all numbers");
+    for (name, file, turns, times) in [
+        ("usual, 30 of 200 animated", usual(), 20, 200),
+        ("one header", one_header(), 1, 1),
+        ("different stems", different(), 1, 1),
+    ] {
+        let (mut map, mut list, mut count) = ([0; MAP_WORDS], vec![0; MOST], [0]);
+        assert_eq!((calls.load)(&file, &mut map), 0, "{name} loads");
+        let (mut here, mut rust, mut numbers) = (f64::MAX, f64::MAX, f64::MAX);
+        for _ in 0..turns {
+            let mut loaded = [0; MAP_WORDS];
+            here = here.min(seconds(times, || assert_eq!((calls.load)(&file, &mut loaded), 0)));
+            rust = rust.min(seconds(times, || assert!(richter::load(&file).is_ok())));
+            numbers = numbers.min(seconds(times, || {
+                assert_eq!((calls.texture_numbers)(&file, &map, &mut list, &mut count), 0);
+            }));
+        }
         let size = file.len();
-        println!("{name:28} {size:9} bytes, here {library:10.6} s, Rust {rust:10.6} s");
+        println!("{name:28} {size:9} {here:10.6} {rust:10.6} {numbers:12.6}");
     }
     true
 }
 
+/// The seconds of one call, of so many.
 fn seconds(times: u32, mut call: impl FnMut()) -> f64 {
-    let start = Instant::now();
+    let start = processor_time();
     for _ in 0..times {
         call();
     }
-    start.elapsed().as_secs_f64() / times as f64
+    (processor_time() - start) / times as f64
+}
+
+extern "C" {
+    fn clock_gettime(clock: i32, time: *mut [i64; 2]) -> i32;
+}
+
+/// The processor time of this thread, in seconds.
+fn processor_time() -> f64 {
+    const THREAD: i32 = 3;
+    let mut time = [0; 2];
+    // SAFETY: on 64-bit Linux the time is two signed numbers of 64 bits, seconds and nanoseconds.
+    assert_eq!(unsafe { clock_gettime(THREAD, &mut time) }, 0, "the clock is read");
+    time[0] as f64 + time[1] as f64 / 1e9
 }
 
 /// The smallest map with a texture section at its end, whose size is where reading stops.

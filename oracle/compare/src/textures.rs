@@ -19,6 +19,7 @@ use crate::loads;
 use crate::paper::textures::{numbers, Name, TEXTURE_WORDS};
 use crate::paper::{self, MAP_WORDS};
 use crate::records::map_of_header;
+use crate::walks::lent_list;
 
 pub fn run(plan: &Plan) -> bool {
     compare(&Calls::linked(), plan).print()
@@ -37,6 +38,7 @@ pub fn compare(calls: &Calls, plan: &Plan) -> Board {
         let Some(map) = map else { continue };
         let asked = Asked { calls, name: &name, file: &file, map: &map };
         accessors(&mut board, &asked, seed);
+        all_numbers(&mut board, &asked, seed);
         if seed.once_in(50) {
             short_lists(&mut board, &asked);
         }
@@ -72,6 +74,8 @@ pub fn load(
         let page = paper::Map::new(file, &map).expect("enough words");
         let difference = groups_differ(&page, &rust);
         board.count_paper("texture groups", difference, input);
+        let difference = numbers_differ(&page, calls, &map, &rust);
+        board.count_paper("numbers of all textures beside the Rust", difference, input);
     }
     Some(map)
 }
@@ -122,6 +126,44 @@ fn groups_differ(page: &paper::Map, rust: &richter::Map) -> Option<String> {
         };
         if !same {
             return Some(format!("texture {} is {own} in the Rust", info.texture));
+        }
+    }
+    None
+}
+
+/// The numbers that the call gives all textures of a loaded map, beside the Rust's own list of textures:
+/// a static texture's number is its place there, and the numbers of stems are its places of stems but
+/// for their order.
+fn numbers_differ(
+    page: &paper::Map,
+    calls: &Calls,
+    map: &[u32],
+    rust: &richter::Map,
+) -> Option<String> {
+    let names = page.sound_names().expect("a loaded section reads");
+    let mut list = vec![0; names.len()];
+    let mut count = [0];
+    let refusal = (calls.texture_numbers)(page.file, map, &mut list, &mut count);
+    if refusal != 0 || count != [names.len() as u64] {
+        return Some(format!("answers {refusal}, count {count:?}"));
+    }
+    let textures = rust.textures();
+    let statics = names.iter().filter(|name| name.first() != Some(&b'+')).count();
+    let (mut there, mut back) = (BTreeMap::new(), BTreeMap::new());
+    for (at, name) in names.iter().enumerate() {
+        let number = list[at] as usize;
+        let place = match name.first() {
+            Some(b'+') => {
+                let stem = &name[2..];
+                statics + textures[statics..].iter().position(|(own, _)| own.as_bytes() == stem)?
+            }
+            _ if number < statics && textures[number].0.as_bytes() == name => number,
+            _ => return Some(format!("static texture {at} has number {number}")),
+        };
+        let known = *there.entry(number).or_insert(place);
+        let own = *back.entry(place).or_insert(number);
+        if known != place || own != number || number >= textures.len() {
+            return Some(format!("texture {at} has number {number}, in the Rust {place}"));
         }
     }
     None
@@ -182,6 +224,21 @@ pub fn accessors(board: &mut Board, asked: &Asked, seed: &mut Seed) {
     }
 }
 
+/// The numbers of all textures, in lists of some lengths.
+fn all_numbers(board: &mut Board, asked: &Asked, seed: &mut Seed) {
+    let Asked { calls, file, map, .. } = *asked;
+    let expected = asked.paper().texture_numbers();
+    let needed = expected.as_ref().map_or(0, |list| list.len());
+    let lent = (lent_list(seed, needed), 1 + seed.below(2) as usize);
+    board.list(
+        "bsp_texture_numbers",
+        lent,
+        Sides::paper(expected),
+        |list, out| (calls.texture_numbers)(file, map, list, out),
+        || asked.input(format!("numbers of all textures, list of {}, map {map:?}", lent.0)),
+    );
+}
+
 /// Lists that are too short.
 fn short_lists(board: &mut Board, asked: &Asked) {
     let Asked { calls, file, map, .. } = *asked;
@@ -195,6 +252,16 @@ fn short_lists(board: &mut Board, asked: &Asked) {
         board.words("bsp_texture_static", 9, refused(), call, input);
         let call = |out: &mut [u64]| (calls.texture_frame)(file, map, 0, 0, 0, out);
         board.words("bsp_texture_frame", 9, refused(), call, input);
+    }
+    for (words, out) in [(0, 1), (MAP_WORDS - 1, 1), (MAP_WORDS, 0)] {
+        let map = &map[..words];
+        board.list(
+            "bsp_texture_numbers",
+            (9, out),
+            Sides::paper(Err(22)),
+            |list, out| (calls.texture_numbers)(file, map, list, out),
+            input,
+        );
     }
     for lent in 0..TEXTURE_WORDS {
         let call = |out: &mut [u64]| (calls.texture)(file, map, 0, out);

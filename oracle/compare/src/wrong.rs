@@ -43,6 +43,7 @@ fn right() -> Calls {
         texture_frame: stub::bsp_texture_frame,
         texture_static: stub::bsp_texture_static,
         texture: stub::bsp_texture,
+        texture_numbers: stub::bsp_texture_numbers,
         made_up: stub::bsp_made_up,
     }
 }
@@ -607,6 +608,20 @@ wrong! {
     textures: name_as_in_the_file, texture, "bsp_texture", |f, m, i, o| {
         let refusal = stub::bsp_texture(f, m, i, o);
         changed(refusal, o, |o| o[1] &= !0x20)
+    };
+    textures: one_number_further, texture_numbers, "bsp_texture_numbers", |f, m, l, o| {
+        let refusal = stub::bsp_texture_numbers(f, m, l, o);
+        if refusal == 0 && o[0] > 0 {
+            l[0] += 1;
+        }
+        refusal
+    };
+    textures: a_number_each, texture_numbers, "bsp_texture_numbers", |f, m, l, o| {
+        let refusal = stub::bsp_texture_numbers(f, m, l, o);
+        if refusal == 0 {
+            (0..o[0]).for_each(|at| l[at as usize] = at as u32);
+        }
+        refusal
     };
     textures: groups_not_tested, load, "bsp_load", |f, m| {
         match stub::bsp_load(f, m) {

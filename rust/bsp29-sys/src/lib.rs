@@ -86,5 +86,6 @@ extern "C" {
     pub fn bsp_texture_frame(file: Bytes, file_length: usize, map: Words, map_length: usize, number: u64, group: u32, place: u64, out: LongsOut, out_length: usize) -> u32;
     pub fn bsp_texture_static(file: Bytes, file_length: usize, map: Words, map_length: usize, number: u64, out: LongsOut, out_length: usize) -> u32;
     pub fn bsp_texture(file: Bytes, file_length: usize, map: Words, map_length: usize, index: u64, out: LongsOut, out_length: usize) -> u32;
+    pub fn bsp_texture_numbers(file: Bytes, file_length: usize, map: Words, map_length: usize, list: WordsOut, list_length: usize, out: LongsOut, out_length: usize) -> u32;
     pub fn bsp_made_up(seed: u32, nodes: u64, buffer: BytesOut, buffer_length: usize, out: LongsOut, out_length: usize) -> u32;
 }

@@ -483,6 +483,29 @@ pub(crate) fn pvs_team(
     answered(status, out[0])
 }
 
+/// `bsp_texture_numbers`: the new numbers in `list`, and how many there are.
+pub(crate) fn texture_numbers(
+    file: &[u8],
+    map: &MapWords,
+    list: &mut [u32],
+) -> Result<u64, Refusal> {
+    let mut out = [0; 1];
+    // SAFETY: as in `load`.
+    let status = unsafe {
+        bsp_texture_numbers(
+            file.as_ptr(),
+            file.len(),
+            map.as_ptr(),
+            map.len(),
+            list.as_mut_ptr(),
+            list.len(),
+            out.as_mut_ptr(),
+            out.len(),
+        )
+    };
+    answered(status, out[0])
+}
+
 /// `bsp_pvs`: the leaves in `list`, and their number.
 #[inline]
 pub(crate) fn pvs(

@@ -8,6 +8,9 @@ use std::fmt;
 /// The most bytes that visibility data may have.
 pub(crate) const MOST_VISIBILITY: usize = 1_048_576;
 
+/// The most textures that a section may have.
+const MOST_TEXTURES: usize = 2_097_152;
+
 /// The most players of a team.
 const MOST_PLAYERS: usize = 16;
 
@@ -316,6 +319,46 @@ impl<B: AsRef<[u8]>> MapOf<B> {
     /// ```
     pub fn texture(&self, index: usize) -> Result<Option<Texture>, Refusal> {
         ffi::texture(self.file(), &self.words, index as u64).map(|words| Texture::of(&words))
+    }
+
+    /// The new numbers of all textures, by their numbers in the file. Refuses with 23, a texture section
+    /// that loading refuses.
+    ///
+    /// The names of all textures are read a few times, and those from a part on whose stem no part had yet
+    /// once more for every part of 12,287 stems.
+    ///
+    /// ```
+    /// # let file = std::fs::read(concat!(env!("CARGO_MANIFEST_DIR"), "/../../maps/rooms.bsp")).unwrap();
+    /// let map = bsp29::Map::load(&file)?;
+    /// // its one texture is static
+    /// assert_eq!(map.texture_numbers()?, [0]);
+    /// # Ok::<(), bsp29::Refusal>(())
+    /// ```
+    pub fn texture_numbers(&self) -> Result<Vec<u32>, Refusal> {
+        // more than the file has offsets for, or than a section may have, is refused
+        let most = self.texture_count().min(MOST_TEXTURES).min(self.file.len() / 4);
+        let mut list = vec![0; most];
+        let count = self.texture_numbers_into(&mut list)?;
+        list.truncate(count);
+        Ok(list)
+    }
+
+    /// The same into a list of the caller's: it answers how many there are and leaves the rest of the
+    /// list as it is. Refuses with 22, last of all, where the list is too short.
+    ///
+    /// ```
+    /// # let file = std::fs::read(concat!(env!("CARGO_MANIFEST_DIR"), "/../../maps/rooms.bsp")).unwrap();
+    /// use bsp29::{Map, Refusal};
+    ///
+    /// let map = Map::load(&file)?;
+    /// let mut list = [7; 2];
+    /// assert_eq!(map.texture_numbers_into(&mut list)?, 1);
+    /// assert_eq!(list, [0, 7]);
+    /// assert_eq!(map.texture_numbers_into(&mut []), Err(Refusal::ListTooShort));
+    /// # Ok::<(), Refusal>(())
+    /// ```
+    pub fn texture_numbers_into(&self, list: &mut [u32]) -> Result<usize, Refusal> {
+        ffi::texture_numbers(self.file, &self.words, list).map(|count| count as usize)
     }
 
     /// The texture infos.

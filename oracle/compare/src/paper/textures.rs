@@ -151,6 +151,12 @@ impl Map<'_> {
         Ok(numbers(&self.sound_names()?).0[texture as usize])
     }
 
+    /// The new numbers of all textures, by their numbers in the file.
+    pub fn texture_numbers(&self) -> Answer<Vec<u32>> {
+        let (numbers, _) = numbers(&self.sound_names()?);
+        Ok(numbers.into_iter().map(|number| number as u32).collect())
+    }
+
     /// The static texture of a new number.
     pub fn texture_static(&self, number: u64) -> Answer<u64> {
         let names = self.sound_names()?;

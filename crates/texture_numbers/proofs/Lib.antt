@@ -1,0 +1,4 @@
+-- Laws about the numbers of all textures.
+mod Numbering
+mod Names
+mod Listing

@@ -1,0 +1,3 @@
+-- What the contracts of `texture_numbers` cite.
+pub mod Numbers
+pub mod Renumber
