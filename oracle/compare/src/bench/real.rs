@@ -259,10 +259,12 @@ impl Rows<'_> {
         let mut least = vec![[f64::MAX; 3]; parts.len()];
         for _ in 0..self.slices {
             for turn in 0..parts.len() {
-                for (which, side) in sides.iter_mut().enumerate() {
-                    // each side at another part, so that none finds what another has just read
-                    let at = (turn + which * parts.len() / 3) % parts.len();
-                    least[at][which] = least[at][which].min(timed(&mut || side(parts[at]).0));
+                // each at another part, and the Rust between the two that read the same bytes, so that
+                // none finds in the caches what another has just read
+                for (place, which) in [0, 1, 0, 2].into_iter().enumerate() {
+                    let at = (turn + place * parts.len() / 4) % parts.len();
+                    let time = timed(&mut || sides[which](parts[at]).0);
+                    least[at][which] = least[at][which].min(time);
                 }
             }
         }
