@@ -24,7 +24,8 @@ mod trees;
 mod verdict;
 
 use args::Args;
-use clap::Parser;
+use clap::error::ErrorKind;
+use clap::{CommandFactory, Parser};
 use failure::Failure;
 use std::process::ExitCode;
 
@@ -46,9 +47,9 @@ fn main() -> ExitCode {
 
 /// Says what went wrong, and gives the status to end with.
 fn end(failure: &Failure, json: bool) -> u8 {
-    out::failure(failure, json);
-    match failure {
-        Failure::Usage(_) => USAGE,
-        _ => NO,
+    if let Failure::Usage(why) = failure {
+        return out::usage(&Args::command().error(ErrorKind::ValueValidation, why));
     }
+    out::failure(failure, json);
+    NO
 }

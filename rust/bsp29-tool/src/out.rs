@@ -22,7 +22,7 @@ pub fn print(report: &impl Report, json: bool) -> Result<(), Failure> {
 }
 
 /// A reader that closes the pipe (`bsp29 .. | head`) has had enough.
-fn closed_is_fine(error: io::Error) -> Result<(), Failure> {
+pub fn closed_is_fine(error: io::Error) -> Result<(), Failure> {
     match error.kind() {
         io::ErrorKind::BrokenPipe => Ok(()),
         _ => Err(Failure::Write(error)),

@@ -85,7 +85,7 @@ pub fn run(args: &Check, json: bool) -> Result<u8, Failure> {
             failed = written;
         }
     });
-    failed?;
+    failed.or_else(out::closed_is_fine)?;
     sheet.end(args.pictures.as_deref())
 }
 
@@ -177,7 +177,7 @@ impl Sheet {
 
     /// The page of pictures and the summary; the status.
     fn end(mut self, pictures: Option<&Path>) -> Result<u8, Failure> {
-        self.print()?;
+        self.print().or_else(out::closed_is_fine)?;
         self.bar.finish_and_clear();
         if let Some(directory) = pictures {
             page::write(directory, &self.report.maps)?;
