@@ -164,8 +164,8 @@ pub struct Vis {
 pub struct MadeUp {
     /// The seed
     pub seed: u32,
-    /// How many nodes
-    pub nodes: u64,
+    /// How many nodes, 1 to 500
+    pub nodes: usize,
     /// Where to write the map
     #[arg(long, short, value_name = "FILE")]
     pub output: PathBuf,

@@ -12,7 +12,6 @@ mod failure;
 mod faults;
 mod file;
 mod layout;
-mod made;
 mod map;
 mod out;
 mod picture;

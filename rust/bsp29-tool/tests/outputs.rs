@@ -37,6 +37,12 @@ const CASES: &[(&str, &str)] = &[
     ("vis-row", "vis @/row.bsp"),
     ("vis-leaf", "vis maps/rooms.bsp --leaf 3"),
     ("textures", "textures @/textures.bsp"),
+    ("why-lock", "why maps/lock.bsp"),
+    ("entities-lock", "entities maps/lock.bsp --class func_*"),
+    ("textures-lock", "textures maps/lock.bsp"),
+    ("tree-corridors", "tree maps/corridors.bsp"),
+    ("at-corridors", "at maps/corridors.bsp 1000 500 64"),
+    ("trace-court", "trace maps/court.bsp -700,-500,80 700,560,80"),
     ("diff-same", "diff maps/rooms.bsp maps/rooms.bsp"),
     ("diff-loop", "diff maps/rooms.bsp @/loop.bsp"),
     ("diff-yard", "diff maps/rooms.bsp maps/yard.bsp"),
@@ -102,6 +108,8 @@ fn compare_pixels(name: &str, found: &[u8]) {
 fn pictures_are_as_stored() {
     let made = folder("pictures");
     for (name, line) in [
+        ("court.svg", "maps/court.bsp --size 200"),
+        ("lock.svg", "maps/lock.bsp --leaves --size 300"),
         ("slice.svg", "maps/rooms.bsp --height -40 --size 200"),
         ("leaves.svg", "maps/rooms.bsp --leaves --size 200"),
         ("see.svg", "maps/rooms.bsp --see 2 --size 200"),
@@ -230,6 +238,20 @@ fn a_picture_never_takes_a_maps_place() {
         fs::read(root().join(&map)).unwrap(),
         fs::read(root().join("maps/rooms.bsp")).unwrap()
     );
+}
+
+#[test]
+fn made_up_maps_are_written_and_pass() {
+    let made = folder("made-up");
+    let map = format!("{made}/map.bsp");
+    assert_eq!(status(&run(&["made-up", "7", "100", "-o", &map])), 0);
+    assert_eq!(fs::read(root().join(&map)).unwrap(), bsp29::made_up(7, 100).unwrap());
+    assert_eq!(status(&run(&["check", &map])), 0);
+    let refused = run(&["made-up", "7", "501", "-o", &map, "--json"]);
+    assert_eq!(status(&refused), 1);
+    let said: serde_json::Value = serde_json::from_slice(&refused.stdout).unwrap();
+    assert_eq!(said["error"]["number"], 29);
+    assert_eq!(fs::metadata(root().join(&map)).unwrap().len(), 249 + 52 * 100);
 }
 
 #[test]

@@ -3,7 +3,6 @@
 use crate::args::MadeUp;
 use crate::failure::Failure;
 use crate::file;
-use crate::made;
 use crate::out::{self, Report};
 use crate::text::path_text;
 use serde::Serialize;
@@ -13,16 +12,14 @@ use std::io::{self, Write};
 struct Written {
     file: String,
     seed: u32,
-    nodes: u64,
+    nodes: usize,
     bytes: usize,
 }
 
 /// Makes the map and writes it.
 pub fn run(args: &MadeUp, json: bool) -> Result<u8, Failure> {
-    let made = made::up(args.seed, args.nodes)
-        .ok_or_else(|| Failure::file(&args.output, "not written: this library makes no maps up"))?;
-    let bytes =
-        made.map_err(|refusal| Failure::refused(&args.output, "making a map up", refusal))?;
+    let bytes = bsp29::made_up(args.seed, args.nodes)
+        .map_err(|refusal| Failure::refused(&args.output, "making a map up", refusal))?;
     file::write(&args.output, &bytes)?;
     let written = Written {
         file: path_text(&args.output),
