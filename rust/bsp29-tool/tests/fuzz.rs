@@ -122,10 +122,10 @@ fn wholes() -> Vec<Vec<u8>> {
     paths.iter().map(|path| fs::read(path).unwrap()).collect()
 }
 
-/// Runs the tool in a folder, under a limit of time, and says what is wrong with how it ended.
-fn tried(args: &[OsString], folder: &Path) -> Output {
+/// Runs the tool in a folder under a limit of seconds, and looks at how it ended.
+fn tried(args: &[OsString], folder: &Path, limit: usize) -> Output {
     let output = Command::new("timeout")
-        .args(["--signal=KILL", "60"])
+        .args(["--signal=KILL", &limit.to_string()])
         .arg(env!("CARGO_BIN_EXE_bsp29"))
         .args(args)
         .current_dir(folder)
@@ -211,7 +211,7 @@ fn one_by_one(all: &[OsString], folder: &Path, maps: &Path) {
             }
             let json = (number + which / 4) % 2 == 0;
             let args = arguments(command, Path::new(name), json);
-            let output = tried(&args, maps);
+            let output = tried(&args, maps, 60);
             if json {
                 let said: Result<serde_json::Value, _> = serde_json::from_slice(&output.stdout);
                 assert!(said.is_ok(), "{args:?}: no JSON");
@@ -237,7 +237,7 @@ fn one_by_one(all: &[OsString], folder: &Path, maps: &Path) {
 fn all_at_once(count: usize, folder: &Path, maps: &Path) {
     let started = Instant::now();
     let args = ["check", ".", "--pictures", "../pictures", "--json"].map(OsString::from);
-    let output = tried(&args, maps);
+    let output = tried(&args, maps, 60 + count);
     let said: serde_json::Value = serde_json::from_slice(&output.stdout).unwrap();
     let verdicts = said["maps"].as_array().unwrap();
     assert_eq!(verdicts.len(), count);
