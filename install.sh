@@ -5,19 +5,24 @@
 #   ./install.sh [--prefix DIR] [--library FILE] [--uninstall]
 #
 # --prefix DIR    where to (if not said: /usr/local). DESTDIR in the environment goes before it.
-# --library FILE  the archive, if it was made elsewhere; BSP29_LIBRARY in the environment says the same.
-#                 Without both, `rt staticlib ffi` proves and writes it first.
+# --library FILE  the archive, if it was made elsewhere; BSP29_LIBRARY in the environment says the same (a
+#                 relative path there: from this folder). Without both, `rt staticlib ffi` proves and
+#                 writes it first.
 # --uninstall     takes away what was installed there.
 set -eu
 
 usage() {
-    sed -n '2,11s/^# \{0,1\}//p' "$0" >&2
+    sed -n '2,12s/^# \{0,1\}//p' "$0" >&2
     exit 2
 }
 
 root=$(cd "$(dirname "$0")" && pwd)
 prefix=/usr/local
 library=${BSP29_LIBRARY:-}
+case $library in
+    '' | /*) ;;
+    *) library=$root/$library ;;
+esac
 uninstall=no
 while [ $# -gt 0 ]; do
     case $1 in

@@ -42,6 +42,26 @@ fn read_all<R: Record + std::fmt::Debug>(records: Records<'_, R>, seed: &mut See
     records.iter().take(40).filter(|record| record.is_ok()).count()
 }
 
+/// What is put together from records, and the text: how many questions were answered.
+fn surfaces(map: &Map, seed: &mut Seed) -> usize {
+    let mut answered = 0;
+    for number in [seed.number(), 0, 1] {
+        if let Ok(corners) = map.face_vertices(number) {
+            assert!(corners.len() <= 32_767);
+            answered += corners.filter(|corner| corner.is_ok()).count();
+        }
+        for light in map.face_lightmaps(number).into_iter().flatten() {
+            assert_eq!(light.data.len() as u64, u64::from(light.width) * u64::from(light.height));
+            answered += 1;
+        }
+        answered += map.model_leaves(number).map_or(0, |leaves| leaves.take(40).count());
+        answered += map.model_faces(number).map_or(0, |faces| faces.rev().take(40).count());
+        answered += map.model_face_list(number).map_or(0, |list| list.take(40).count());
+    }
+    answered += usize::from(map.visibility().is_ok()) + usize::from(map.lightmaps().is_ok());
+    answered + map.parsed_entities().map_or(0, |entities| entities.take(40).count())
+}
+
 /// Asks every question, and says how many were answered.
 fn ask(map: &Map, seed: &mut Seed) -> usize {
     let mut answered = 0;
@@ -57,6 +77,7 @@ fn ask(map: &Map, seed: &mut Seed) -> usize {
     answered += read_all(map.edge_list(), seed);
     answered += read_all(map.models(), seed);
     let _ = (map.entities(), map.entity_text(), map.texture_count());
+    answered += surfaces(map, seed);
     let tables = [NodeTable::Render, NodeTable::Clip, NodeTable::Box];
     let mut words = [0; 11].map(|_| seed.number() as u64);
     words[0] = [seed.below(3), seed.below(9)][seed.below(2) as usize];
@@ -82,6 +103,12 @@ fn ask(map: &Map, seed: &mut Seed) -> usize {
         answered += usize::from(map.find_leaf_nodes(hull.root(), a).is_ok());
         answered += usize::from(map.tree_check(hull.table(), hull.root()).is_ok());
         answered += usize::from(map.hull_check(&hull).is_ok());
+        answered += usize::from(map.contents_box(&hull, a, b).is_ok());
+        answered += usize::from(map.contents_at_points(&hull, &[a, b, a]).is_ok());
+        if let Ok(ordered) = map.order(hull.table(), hull.root()) {
+            assert_eq!(ordered.contents(a), map.contents(&Hull::new(hull.table(), hull.root()), a));
+            answered += usize::from(ordered.trace(a, b).is_ok());
+        }
     }
     answered += usize::from(map.find_leaf(seed.point()).is_ok());
     answered += usize::from(map.find_leaf_from(seed.number(), seed.point()).is_ok());
@@ -90,6 +117,7 @@ fn ask(map: &Map, seed: &mut Seed) -> usize {
     let players: Vec<usize> = (0..seed.below(18)).map(|_| seed.below(8) as usize).collect();
     let pool = map.visible_to_team(&players, seed.number());
     assert_ne!(pool, Err(Refusal::ListTooShort));
+    let _ = (format!("{map:?}"), map.accept());
     answered + usize::from(seen.is_ok()) + usize::from(pool.is_ok())
 }
 

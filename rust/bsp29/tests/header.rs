@@ -1,6 +1,6 @@
-//! `include/bsp29.h` and this crate say the same of each refusal.
+//! `include/bsp29.h` and this crate say the same of each refusal, of the contents and of the version.
 
-use bsp29::Refusal;
+use bsp29::{Contents, Refusal};
 
 fn header() -> String {
     let path = concat!(env!("CARGO_MANIFEST_DIR"), "/../../include/bsp29.h");
@@ -48,4 +48,26 @@ fn every_other_number_is_unknown() {
         assert_eq!(unknown, !known.contains(&number));
         assert_eq!(Refusal::from_number(number).number(), number);
     }
+}
+
+#[test]
+fn contents() {
+    let codes = constants(&header(), "bsp_contents_code");
+    assert_eq!(codes.len(), (0..1000).filter_map(Contents::from_code).count());
+    for (name, code) in codes {
+        let contents = Contents::from_code(code).expect(&name);
+        assert_eq!((contents.code(), contents as u32), (code, code));
+        let plain = name.strip_prefix("BSP_").unwrap().replace('_', "").to_lowercase();
+        assert_eq!(format!("{contents:?}").to_lowercase(), plain);
+    }
+}
+
+#[test]
+fn version() {
+    let header = header();
+    let part = |name: &str| {
+        let name = format!("#define BSP29_VERSION_{name} ");
+        header.lines().find_map(|line| line.strip_prefix(name.as_str())).unwrap()
+    };
+    assert_eq!([part("MAJOR"), part("MINOR"), part("PATCH")].join("."), bsp29::VERSION);
 }
