@@ -1,10 +1,10 @@
 -- One point: where its walk is answered, its different ways are as many as the nodes that it enters.
 -- Assumes nothing.
-use Prim.Native.Nat.{ℕ, zero, suc, _^_, _<_, _≤_, min}
+use Prim.Native.Nat.{ℕ, zero, suc, _<_, _≤_}
 use native.Mathlib.Omega.{arith}
 use mathlib.Core.Bool.{Bool, true, false, cond}
 use mathlib.Core.List.{List, [], _∷_}
-use mathlib.Core.Path.{_≡_, refl, sym, _∙_, ap}
+use mathlib.Core.Path.{_≡_, refl, _∙_, ap}
 use lib.Dec.{ltb}
 use lib.ListN.{length}
 use Rattle.format.specs.Answer as Ans
@@ -14,7 +14,7 @@ use Rattle.math.specs.declared.Vector3.{Vector3}
 use Rattle.walk.specs.Table.{Child, node, end, Table, childOn}
 use Rattle.walk.specs.Walk.{Outcome, done, refused, entered, held, withVisits, Entered, enter, meet, ended, walkAt, walk, pointWalk}
 use Rattle.ways.specs.Ways.{reads}
-use Rattle.ways.specs.Groups.{Meets, settled, onward, byteOf, meets, readsAt}
+use Rattle.ways.specs.Groups.{settled, onward, byteOf, meets, readsAt}
 use Rattle.ways.proofs.Alone.{walkOn}
 use Rattle.ways.proofs.Counted.{reads-ways}
 use Rattle.ways.proofs.Divided.{settled-reads, one-reads}

@@ -1,7 +1,6 @@
 -- `answer_one` meets its contract: the walk to an end, and the end met.
 -- Assumes nothing.
 use native.Mathlib.Omega.{arith}
-use mathlib.Core.Path.{_∙_}
 use Rattle.hull.specs.Hull.{hullTable}
 use Rattle.hull.proofs.Founds.{contents-refused, contents-met, contents-unmet}
 use Rattle.points.proofs.Meeting.{code-small}
