@@ -17,7 +17,7 @@
  * bsp_trace_nodes need up to 574,000 bytes, bsp_trace_line 517,000, bsp_order_trace 427,000,
  * bsp_accept 329,000, bsp_contents_box 262,000, bsp_tree_check, bsp_hull_check and bsp_order 165,000.
  * bsp_load, bsp_record of a texture info, bsp_texture_frame and bsp_texture_static need up to 553,000
- * bytes, whatever the nodes. The other calls have no such depth.
+ * bytes, and bsp_texture_numbers 989,000, whatever the nodes. The other calls have no such depth.
  *
  * A list is two parameters: a pointer to its first entry and the number of its entries.
  *   - The pointer is not null and is aligned for its entries, even where the number is 0.

@@ -74,8 +74,8 @@ pub fn load(
         let page = paper::Map::new(file, &map).expect("enough words");
         let difference = groups_differ(&page, &rust);
         board.count_paper("texture groups", difference, input);
-        let difference = numbers_differ(&page, calls, &map, &rust);
-        board.count_paper("numbers of all textures beside the Rust", difference, input);
+        let difference = numbers_differ(&page, &rust);
+        board.count_paper("texture numbers", difference, input);
     }
     Some(map)
 }
@@ -131,22 +131,12 @@ fn groups_differ(page: &paper::Map, rust: &richter::Map) -> Option<String> {
     None
 }
 
-/// The numbers that the call gives all textures of a loaded map, beside the Rust's own list of textures:
-/// a static texture's number is its place there, and the numbers of stems are its places of stems but
-/// for their order.
-fn numbers_differ(
-    page: &paper::Map,
-    calls: &Calls,
-    map: &[u32],
-    rust: &richter::Map,
-) -> Option<String> {
+/// The numbers that the program on paper gives all textures of a loaded map, beside the Rust's own list
+/// of textures: a static texture's number is its place there, and the numbers of stems are its places of
+/// stems but for their order.
+fn numbers_differ(page: &paper::Map, rust: &richter::Map) -> Option<String> {
     let names = page.sound_names().expect("a loaded section reads");
-    let mut list = vec![0; names.len()];
-    let mut count = [0];
-    let refusal = (calls.texture_numbers)(page.file, map, &mut list, &mut count);
-    if refusal != 0 || count != [names.len() as u64] {
-        return Some(format!("answers {refusal}, count {count:?}"));
-    }
+    let list = page.texture_numbers().expect("a loaded section reads");
     let textures = rust.textures();
     let statics = names.iter().filter(|name| name.first() != Some(&b'+')).count();
     let (mut there, mut back) = (BTreeMap::new(), BTreeMap::new());

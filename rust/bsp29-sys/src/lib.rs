@@ -17,7 +17,7 @@
 //!   it while the call runs.
 //!
 //! No more is asked: whatever the entries hold, and whatever the other numbers are, a call ends, answers
-//! or refuses, and reads and writes nothing but these lists. A call needs up to 607,000 bytes of stack.
+//! or refuses, and reads and writes nothing but these lists. A call needs up to 989,000 bytes of stack.
 
 #![no_std]
 #![deny(missing_docs)]

@@ -31,8 +31,8 @@ pub type Map<'a> = MapOf<&'a [u8]>;
 /// Whatever the bytes are, no call crashes, hangs or reads outside them. Ask whether a map from a
 /// stranger may be played ([`accept`](MapOf::accept)) before it is: then every question to it is answered.
 ///
-/// A call needs at most some 607,000 bytes of stack (measured, not proved; `include/bsp29.h` says of
-/// which call).
+/// A call needs at most some 574,000 bytes of stack, [`texture_numbers`](MapOf::texture_numbers) 989,000
+/// (measured, not proved; `include/bsp29.h` says of which call).
 ///
 /// ```
 /// # let file = std::fs::read(concat!(env!("CARGO_MANIFEST_DIR"), "/../../maps/rooms.bsp")).unwrap();
