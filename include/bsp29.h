@@ -5,19 +5,20 @@
  * as target/staticlib/libffi.a; link that file by its path, since systems have another library called
  * ffi. bsp29_easy.h has small structs and wrappers over these calls.
  *
- * Each call answers 0 (BSP_OK), or the number of a refusal (enum bsp_refusal; docs/SCOPE.md says who
- * causes each, and in which order they come). Whatever the bytes, the map record, the hull or the
- * numbers, it ends and answers one of these; it reads and writes nothing but the lists it is lent.
- * What it answers goes to the front of a list that the caller lends; entries past the answer are
- * kept. A refusal writes nothing, but for the marks of bsp_tree_check, bsp_hull_check,
- * bsp_contents_box, bsp_order and bsp_accept. The library holds no state: any thread may call it at
- * any time.
+ * Each call but bsp_version answers 0 (BSP_OK), or the number of a refusal (enum bsp_refusal;
+ * docs/SCOPE.md says who causes each, and in which order they come). Whatever the bytes, the map
+ * record, the hull or the numbers, it ends and answers one of these; it reads and writes nothing
+ * but the lists it is lent. What it answers goes to the front of a list that the caller lends;
+ * entries past the answer are kept. A refusal writes nothing, but for the marks of bsp_tree_check,
+ * bsp_hull_check, bsp_contents_box, bsp_order and bsp_accept. The library holds no state: any
+ * thread may call it at any time.
  *
  * Stack, measured on a chain of 512 nodes, the deepest there can be, and not proved: bsp_trace and
  * bsp_trace_nodes need up to 574,000 bytes, bsp_trace_line 517,000, bsp_order_trace 427,000,
  * bsp_accept 329,000, bsp_contents_box 262,000, bsp_tree_check, bsp_hull_check and bsp_order 165,000.
- * bsp_load, bsp_record of a texture info, bsp_texture_frame and bsp_texture_static need up to 553,000
- * bytes, and bsp_texture_numbers 989,000, whatever the nodes. The other calls have no such depth.
+ * bsp_load, bsp_load_place, bsp_record of a texture info, bsp_texture_frame and bsp_texture_static need
+ * up to 554,000 bytes, and bsp_texture_numbers 989,000, whatever the nodes. The other calls have no such
+ * depth.
  *
  * A list is two parameters: a pointer to its first entry and the number of its entries.
  *   - The pointer is not null and is aligned for its entries, even where the number is 0.
@@ -211,7 +212,8 @@ enum bsp_length {
     BSP_LEAF_WORDS = 2,
     BSP_TRACE_WORDS = 17,
     BSP_LINE_WORDS = 12,
-    BSP_TEXTURE_WORDS = 5
+    BSP_TEXTURE_WORDS = 5,
+    BSP_PLACE_WORDS = 4
 };
 
 /* The word of the map record after those of the sections. */
@@ -355,6 +357,17 @@ enum bsp_texture_word {
 /* The groups of an animated texture's frames: 0 to 9, and a to j. */
 enum bsp_frame_group { BSP_PRIMARY = 0, BSP_ALTERNATE = 1 };
 
+/* Where loading refuses a file: bsp_load_place. */
+enum bsp_place_word {
+    BSP_PLACE_NUMBER = 0,  /* enum bsp_refusal: the number that bsp_load answers */
+    BSP_PLACE_SECTION = 1, /* enum bsp_section, or BSP_PLACE_IN_HEADER */
+    BSP_PLACE_RECORD = 2,  /* counted from 0 */
+    BSP_PLACE_BYTE = 3     /* counted from 0 in the file */
+};
+
+/* The version and the directory of the sections, as a section of a place. */
+enum bsp_place_section { BSP_PLACE_IN_HEADER = 15 };
+
 /* ---- the calls ---- */
 
 /*
@@ -370,6 +383,34 @@ enum bsp_frame_group { BSP_PRIMARY = 0, BSP_ALTERNATE = 1 };
  */
 uint32_t bsp_load(const uint8_t *file, size_t file_length,
                   uint32_t *map, size_t map_length);
+
+/*
+ * Where loading refuses a file, in the words of enum bsp_place_word: so that a person is told 'leaves,
+ * record 17, byte 48,120'. Four zeros where the file loads. The call itself answers 0 either way.
+ *   out: 4 words or more.
+ *   Refuses: 22.
+ * The place is where the reader stands that refuses, in the order in which bsp_load reads. A record is
+ * named and not the field in it: its index, and the position of its first byte. That position may lie
+ * past the file's end, where a section does. By number:
+ *   1 of the version, 2: the header, record 0, byte 0.
+ *   1 of the directory, 3, 4, 5, 6: the header, the section's entry as the record, byte 4 + 8 * record. 6 is
+ *     that of the first section in the directory's order that has too many records, or of the models
+ *     where there is none.
+ *   7, 8, 9 of the entity text, 7 of the visibility data and of the lightmaps: record 0, the section's start.
+ *   1, 10 of a section of records: the record that is cut or has the field.
+ *   7 of the leaves, the last of which may lack its four sound bytes: after the last record, so the number
+ *     of leaves, and the file's end.
+ *   11: the texture info, the face or the render node that names what is not there (for a face also by
+ *     its edge list entries and edges); 12: the face.
+ *   The textures: 1 and 10 of their count: record 0, the section's start. 1 and 10 of the list of offsets:
+ *     the texture's number in the file, and where its offset stands in the list. 13, and 1 of a header: its
+ *     number, and where its header starts, or its offset where that leads to the file's end or past it.
+ *     7, 14, 15, which are said of all textures together: the number of textures, and the section's end,
+ *     its offset plus its size.
+ * Time: as bsp_load, and the refused section once more.
+ */
+uint32_t bsp_load_place(const uint8_t *file, size_t file_length,
+                        uint64_t *out, size_t out_length);
 
 /*
  * Record `index` of a section: 1, 3, 5, 6, 7 or 9 to 14 of enum bsp_section, in the words named for
@@ -812,6 +853,12 @@ uint32_t bsp_texture_numbers(const uint8_t *file, size_t file_length,
 uint32_t bsp_made_up(uint32_t seed, uint64_t nodes,
                      uint8_t *buffer, size_t buffer_length,
                      uint64_t *out, size_t out_length);
+
+/*
+ * The library's version: 65,536 times the first number, 256 times the second, and the third. 512 is
+ * 0.2.0. It takes nothing and refuses nothing.
+ */
+uint32_t bsp_version(void);
 
 #ifdef __cplusplus
 }

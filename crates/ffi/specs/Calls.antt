@@ -1,5 +1,6 @@
 -- The definitions of the calls, each from the crate where the call stands.
 pub use Rattle.ffi_load.specs.Calls.{bspLoad}
+pub use Rattle.ffi_place.specs.Calls.{bspLoadPlace, bspVersion}
 pub use Rattle.ffi_records.specs.Calls.{bspRecord}
 pub use Rattle.ffi_counts.specs.Calls.{bspCount, bspEntities}
 pub use Rattle.ffi_hull.specs.Calls.{bspHull, bspBox}

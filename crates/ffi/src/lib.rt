@@ -14,6 +14,14 @@ pub extern "C" fn bsp_load(file: &[u8], map: &mut [u32]) -> u32
     ffi_load::load(file, map)
 }
 
+// Where loading refuses a file: the refusal's number, the section, the record and the byte; zeros where it loads.
+#[no_mangle]
+pub extern "C" fn bsp_load_place(file: &[u8], out: &mut [u64]) -> u32
+    ensures { λ r. ⌜ written r (now (out .exit)) ≡ Calls.bspLoadPlace (now (file .entry)) (now (out .entry)) ⌝ }
+{
+    ffi_place::place(file, out)
+}
+
 // The record of an index, in the words of its section.
 #[no_mangle]
 pub extern "C" fn bsp_record(
@@ -383,4 +391,12 @@ pub extern "C" fn bsp_made_up(seed: u32, nodes: u64, buffer: &mut [u8], out: &mu
     ensures { λ r. ⌜ left r (now (buffer .exit)) (now (out .exit)) ≡ Calls.bspMadeUp seed nodes (now (buffer .entry)) (now (out .entry)) ⌝ }
 {
     ffi_made::made_up(seed, nodes, buffer, out)
+}
+
+// The library's version.
+#[no_mangle]
+pub extern "C" fn bsp_version() -> u32
+    ensures { λ r. ⌜ r ≡ Calls.bspVersion ⌝ }
+{
+    ffi_place::version()
 }

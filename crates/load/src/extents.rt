@@ -22,7 +22,7 @@ fn is_bad(special: bool, extent: i16) -> bool
 }
 
 // A face, its texture info, edges and vertices, and its extents.
-fn read_extents(s: &[u8], at: usize, map: BspData, planes: u32, infos: u32) -> Position
+pub fn read_extents(s: &[u8], at: usize, map: BspData, planes: u32, infos: u32) -> Position
     ensures { λ r. ⌜ positionStep r ≡ extentsAt planes infos map (now (s .entry)) at ⌝ }
 {
     match read_face(s, at, planes, infos) {

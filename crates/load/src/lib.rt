@@ -2,9 +2,9 @@
 ghost use mathlib.Core.Path.{_≡_};
 ghost use Rattle.load.specs.Load.{loadedStep, loadedAnswer, loadAt, loadOf, fromPlanes, counted, fromVertices, fromTexinfo, fromCollisionNodes, fromEdges, fromExtents};
 
-mod extents;
-mod section;
-mod tested;
+pub mod extents;
+pub mod section;
+pub mod tested;
 
 use crate::extents::check_extents;
 use crate::section::check_edgelist;
@@ -60,7 +60,7 @@ fn load_header(file: &[u8]) -> Loaded
 }
 
 // The map record with its texture count.
-fn with_texture_count(map: BspData, texture_count: u32) -> BspData
+pub fn with_texture_count(map: BspData, texture_count: u32) -> BspData
     ensures { λ r. ⌜ r ≡ counted map «texture_count» ⌝ }
 {
     let mut m = map;

@@ -48,7 +48,7 @@ pub fn check_render_nodes(s: &[u8], section: BspFileSection) -> Position
 }
 
 // A texture info, whose texture number must not be the texture count: on it the Rust panics.
-fn read_textured(s: &[u8], at: usize, texture_count: u32) -> ReadTexInfo
+pub fn read_textured(s: &[u8], at: usize, texture_count: u32) -> ReadTexInfo
     ensures { λ r. ⌜ texinfoStep r ≡ textured «texture_count» (now (s .entry)) at ⌝ }
 {
     match read_texinfo(s, at, texture_count) {
@@ -173,7 +173,7 @@ fn is_outside(child: BspRenderNodeChild, leaves: u32) -> bool
 }
 
 // A render node, whose children that are leaves must be in the table of leaves.
-fn read_references(s: &[u8], at: usize, leaves: u32) -> Position
+pub fn read_references(s: &[u8], at: usize, leaves: u32) -> Position
     ensures { λ r. ⌜ positionStep r ≡ referencesAt leaves (now (s .entry)) at ⌝ }
 {
     match read_render_node(s, at) {

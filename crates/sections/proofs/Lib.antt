@@ -4,3 +4,4 @@ pub mod Loops
 pub mod Plain
 pub mod Bounded
 pub mod Directory
+pub mod Version

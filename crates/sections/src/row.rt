@@ -9,7 +9,7 @@ use format::section::BspFileSection;
 use format::section::BspFileSectionId;
 
 // So many bytes whose fields are not tested. None are there everywhere.
-fn read_plain(s: &[u8], at: usize, bytes: usize) -> Position
+pub fn read_plain(s: &[u8], at: usize, bytes: usize) -> Position
     ensures { λ r. ⌜ positionStep r ≡ plain (now (s .entry)) at bytes ⌝ }
 {
     if bytes == 0 {

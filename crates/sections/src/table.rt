@@ -33,7 +33,7 @@ pub enum ReadTable {
     Refused(Refusal),
 }
 
-fn read_section(s: &[u8], at: usize, id: BspFileSectionId) -> ReadSection
+pub fn read_section(s: &[u8], at: usize, id: BspFileSectionId) -> ReadSection
     ensures { λ r. ⌜ Table.sectionStep r ≡ Table.sectionAt id (now (s .entry)) at ⌝ }
 {
     match format::field::read_index(s, at, Refusal::NegativeSectionOffset) {
@@ -192,7 +192,7 @@ pub fn read_header(s: &[u8]) -> ReadTable
 }
 
 // Whether a section has more elements than its limit.
-fn exceeds(m: BspData, id: BspFileSectionId) -> bool
+pub fn exceeds(m: BspData, id: BspFileSectionId) -> bool
     ensures { λ r. ⌜ r ≡ Table.exceeds id m ⌝ }
 {
     let section = m.section(id);

@@ -72,7 +72,7 @@ pub fn read_texture(s: &[u8], at: usize) -> Position
 }
 
 // The texture whose offset stands at a position of the list; an absent one leaves reading where it was.
-fn read_listed(s: &[u8], base: u32, at: usize, end: usize) -> Position
+pub fn read_listed(s: &[u8], base: u32, at: usize, end: usize) -> Position
     ensures { λ r. ⌜ positionStep r ≡ listedAt (now (s .entry)) base at end ⌝ }
 {
     match read_offset(s, at) {

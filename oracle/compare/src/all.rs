@@ -4,14 +4,14 @@
 use crate::board::{Board, Plan};
 use crate::calls::{self, Calls};
 use crate::{
-    accept, bodies, boxes, coverage, hand_made, joins, leaves, line, loads, made, order, points,
-    pvs, records, sky, team, textures, tree, walks,
+    accept, bodies, boxes, coverage, hand_made, joins, leaves, line, loads, made, order, place,
+    points, pvs, records, sky, team, textures, tree, walks,
 };
 
 type Mode = fn(&Calls, &Plan) -> Board;
 
 /// The modes, and the cases of each in a round.
-const MODES: [(Mode, u64); 17] = [
+const MODES: [(Mode, u64); 18] = [
     (records::compare, 500),
     (hand_made::compare, 1_000),
     (walks::compare, 1_000),
@@ -26,6 +26,7 @@ const MODES: [(Mode, u64); 17] = [
     (pvs::compare, 2_000),
     (team::compare, 500),
     (loads::compare, 2_000),
+    (place::compare, 500),
     (made::compare, 500),
     (sky::compare, 500),
     (joins::compare, 10_000),

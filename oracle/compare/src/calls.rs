@@ -20,6 +20,8 @@ type IntsOut = *mut i32;
 #[allow(dead_code)]
 extern "C" {
     fn bsp_load(file: Bytes, file_len: usize, map: WordsOut, map_len: usize) -> u32;
+    fn bsp_load_place(file: Bytes, file_len: usize, out: LongsOut, out_len: usize) -> u32;
+    fn bsp_version() -> u32;
 
     fn bsp_record(file: Bytes, file_len: usize, map: Words, map_len: usize, section: u32, index: u64, out: LongsOut, out_len: usize) -> u32;
     fn bsp_count(map: Words, map_len: usize, section: u32, out: LongsOut, out_len: usize) -> u32;
@@ -100,6 +102,8 @@ pub struct Calls {
     pub texture_numbers: fn(&[u8], &[u32], &mut [u32], &mut [u64]) -> u32,
     pub hull_check: fn(&[u8], &[u32], &[u64], &mut [u8], &mut [u64]) -> u32,
     pub made_up: fn(u32, u64, &mut [u8], &mut [u64]) -> u32,
+    pub load_place: fn(&[u8], &mut [u64]) -> u32,
+    pub version: fn() -> u32,
 }
 
 impl Calls {
@@ -135,6 +139,8 @@ impl Calls {
             texture_numbers,
             hull_check,
             made_up,
+            load_place,
+            version,
         }
     }
 }
@@ -153,6 +159,7 @@ pub fn is_linked(call: &str) -> bool {
         "bsp_contents_points" => cfg!(feature = "ffi_points"),
         "bsp_trace_line" => cfg!(feature = "ffi_line"),
         "bsp_made_up" => cfg!(feature = "ffi_made"),
+        "bsp_load_place" | "bsp_version" => cfg!(feature = "ffi_place"),
         "bsp_order" | "bsp_order_contents" | "bsp_order_trace" => cfg!(feature = "ffi_order"),
         "bsp_texture_frame" | "bsp_texture_static" | "bsp_texture" | "bsp_texture_numbers" => {
             cfg!(feature = "ffi_textures")
@@ -738,4 +745,16 @@ pub fn made_up(seed: u32, nodes: u64, buffer: &mut [u8], out: &mut [u64]) -> u32
         bsp_made_up(seed, nodes, buffer, out),
         (seed, nodes, buffer.as_mut_ptr(), buffer.len(), out.as_mut_ptr(), out.len())
     )
+}
+
+pub fn load_place(file: &[u8], out: &mut [u64]) -> u32 {
+    either!(
+        "ffi_place",
+        bsp_load_place(file, out),
+        (file.as_ptr(), file.len(), out.as_mut_ptr(), out.len())
+    )
+}
+
+pub fn version() -> u32 {
+    either!("ffi_place", bsp_version(), ())
 }

@@ -7,8 +7,8 @@
 
 use crate::paper::walk::{self, Hull, Walked};
 use crate::paper::{
-    accept, bodies, boxes, line, load, made, order, points, team, textures, tree, vis, Answer, Map,
-    MAP_WORDS, SECTIONS,
+    accept, bodies, boxes, line, load, made, order, place, points, team, textures, tree, vis,
+    Answer, Map, MAP_WORDS, SECTIONS,
 };
 
 /// The words of `bsp_record`'s list, of a trace's, of a whole line's, of a walk's and of a hull, and of a hull that a call
@@ -19,6 +19,9 @@ pub const LINE_WORDS: usize = 12;
 pub const WALK_WORDS: usize = 2;
 pub const HULL_WORDS: usize = 11;
 pub const HULL_ASKED: usize = 9;
+
+/// The version that is compared: 0.2.0.
+pub const VERSION: u32 = 2 * 256;
 
 /// The words of body sizes.
 pub const SIZES_WORDS: usize = 12;
@@ -397,4 +400,15 @@ pub fn bsp_made_up(seed: u32, nodes: u64, buffer: &mut [u8], out: &mut [u64]) ->
             0
         }
     }
+}
+
+pub fn bsp_load_place(file: &[u8], out: &mut [u64]) -> u32 {
+    if out.len() < place::PLACE_WORDS {
+        return 22;
+    }
+    put(Ok(place::words(file).to_vec()), out)
+}
+
+pub fn bsp_version() -> u32 {
+    VERSION
 }

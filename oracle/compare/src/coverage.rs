@@ -17,7 +17,7 @@ pub const NUMBERS: [u32; 32] = [
 /// - 20 needs a number that the caller names: none in loading, entities, a box, body sizes, a leaf
 ///   lookup (its root outside the table is 30).
 /// - 21 is a box's alone.
-/// - 22 is every call's: each is lent a list.
+/// - 22 is every call's but the version's: each is lent a list.
 /// - 23 needs bytes and a map record that the caller made: none in loading, counts, a box, body sizes.
 /// - 30 needs a walk: loading says 11 of a leaf outside its table.
 /// - 31 bounds walks, 32 bounds traces and the tree check; neither the other.
@@ -27,7 +27,7 @@ pub const NUMBERS: [u32; 32] = [
 /// - 29 is that of a made-up map.
 /// - 35 is acceptance's.
 /// - 33 is visibility's, 34 the tree check's and that of the calls which make it.
-const CAN: [(&str, &[u32]); 30] = [
+const CAN: [(&str, &[u32]); 32] = [
     ("bsp_load", &[1, 2, 3, 4, 5, 6, 7, 8, 9, 10, 11, 12, 13, 14, 15, 22]),
     ("bsp_record", &[20, 22, 23]),
     ("bsp_count", &[20, 22]),
@@ -71,6 +71,9 @@ const CAN: [(&str, &[u32]); 30] = [
     ("bsp_texture_numbers", &[22, 23]),
     // 29 first of all
     ("bsp_made_up", &[22, 29]),
+    // a refusal of loading is its answer
+    ("bsp_load_place", &[22]),
+    ("bsp_version", &[]),
 ];
 
 /// What is wrong with the cells of a table.

@@ -17,16 +17,30 @@ use crate::board::{file_shown, shown, Board, Plan, Side};
 use crate::calls::Calls;
 use crate::paper::{self, MAP_WORDS};
 use crate::records::map_of_header;
-use crate::{faults, queries, walks};
+use crate::{faults, place, queries, walks};
 
 pub fn run(plan: &Plan) -> bool {
     compare(&Calls::linked(), plan).print()
 }
 
 pub fn compare(calls: &Calls, plan: &Plan) -> Board {
+    each_file(calls, plan, Question::Map)
+}
+
+/// What is asked of each file.
+#[derive(Copy, Clone, PartialEq)]
+pub enum Question {
+    /// Its map record, and every query where it loads.
+    Map,
+    /// Where it is refused (`place`).
+    Place,
+}
+
+/// Every file of this comparison.
+pub fn each_file(calls: &Calls, plan: &Plan, question: Question) -> Board {
     richter::probe::set_patience(walks::PATIENCE);
     let seed = Seed::named(plan.seed, "queries");
-    let mut loads = Loads { board: Board::new(), calls, seed };
+    let mut loads = Loads { board: Board::new(), calls, seed, question };
     if plan.from == 0 {
         smallest(&mut loads, plan.quick);
         cuts(&mut loads, plan);
@@ -50,6 +64,7 @@ struct Loads<'a> {
     calls: &'a Calls,
     /// What the files are asked follows from it.
     seed: Seed,
+    question: Question,
 }
 
 /// Texture counts up to this are given to the Rust whole: each present texture may read the file
@@ -83,7 +98,8 @@ fn texture_count(file: &[u8]) -> Option<u32> {
 
 /// One file beside the Rust, and every query of it if it loads.
 pub fn one(board: &mut Board, calls: &Calls, seed: &Seed, name: impl Fn() -> String, file: &[u8]) {
-    let mut loads = Loads { board: std::mem::take(board), calls, seed: seed.clone() };
+    let board_of = std::mem::take(board);
+    let mut loads = Loads { board: board_of, calls, seed: seed.clone(), question: Question::Map };
     loads.one(name, file);
     *board = loads.board;
 }
@@ -91,6 +107,9 @@ pub fn one(board: &mut Board, calls: &Calls, seed: &Seed, name: impl Fn() -> Str
 impl Loads<'_> {
     /// One file, and every query of it if it loads.
     fn one(&mut self, name: impl Fn() -> String, file: &[u8]) {
+        if self.question == Question::Place {
+            return place::one(&mut self.board, self.calls, &name, file);
+        }
         let (verdict, over) = rust_verdict(file);
         let input = || (file.len(), format!("{}, {}", name(), file_shown(file)));
         let expected = verdict.as_ref().map(|_| map_of_header(file)).map_err(|number| *number);
@@ -143,11 +162,9 @@ fn plain(tables: &Tables) -> Vec<u8> {
 fn smallest(loads: &mut Loads, quick: bool) {
     let file = plain(&Tables::smallest());
     loads.one(|| "the smallest map".to_string(), &file);
-    for lent in 0..MAP_WORDS {
-        loads.call(lent, &file, &Err(22), || (file.len(), format!("{lent} words lent")));
-        loads.call(lent, &[], &Err(22), || (0, format!("{lent} words lent")));
+    if loads.question == Question::Map {
+        lists(loads, &file);
     }
-    loads.call(MAP_WORDS + 2, &file, &Ok(map_of_header(&file)), || (file.len(), String::new()));
     let mut copy = file.clone();
     for at in 0..file.len() {
         for by in 1..=255u8 {
@@ -159,6 +176,15 @@ fn smallest(loads: &mut Loads, quick: bool) {
         }
         copy[at] = file[at];
     }
+}
+
+/// Lists that are too short, and one that is longer.
+fn lists(loads: &mut Loads, file: &[u8]) {
+    for lent in 0..MAP_WORDS {
+        loads.call(lent, file, &Err(22), || (file.len(), format!("{lent} words lent")));
+        loads.call(lent, &[], &Err(22), || (0, format!("{lent} words lent")));
+    }
+    loads.call(MAP_WORDS + 2, file, &Ok(map_of_header(file)), || (file.len(), String::new()));
 }
 
 /// A small map with every section in use.

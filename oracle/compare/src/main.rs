@@ -26,6 +26,7 @@ mod made;
 mod notes;
 mod order;
 mod paper;
+mod place;
 mod points;
 mod proved;
 mod pvs;
@@ -136,6 +137,7 @@ fn run(mode: &str, given: &Arguments) -> bool {
         "pvs" => pvs::run(&given.plan(20_000)),
         "team" => team::run(&given.plan(10_000)),
         "loads" => loads::run(&given.plan(5_000)),
+        "place" => place::run(&given.plan(5_000)),
         "made" => made::run(&given.plan(10_000)),
         "sky" => sky::run(&given.plan(5_000)),
         "sample" => sample::run(given.path(), given.number("--seed", 1), !given.has("--no-nodes")),

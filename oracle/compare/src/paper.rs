@@ -25,6 +25,7 @@
 //! - `line`: whole-line traces (document 02, note 6)
 //! - `order`: nodes in walking order, and walks and traces by them (document 02, note 11)
 //! - `made`: made-up maps (document 02, note 14)
+//! - `place`: where loading refuses a file (the words of `include/bsp29.h`)
 
 pub mod accept;
 pub mod bodies;
@@ -35,6 +36,7 @@ pub mod line;
 pub mod load;
 pub mod made;
 pub mod order;
+pub mod place;
 pub mod plane;
 pub mod points;
 pub mod records;

@@ -284,7 +284,7 @@ fn by_hand(seed: &mut Seed, file: &[u8]) -> [u32; MAP_WORDS] {
 }
 
 /// The smallest map with a texture section, at its end or not, and some texture infos.
-fn a_file(seed: &mut Seed) -> Vec<u8> {
+pub fn a_file(seed: &mut Seed) -> Vec<u8> {
     let mut tables = Tables::smallest();
     let (textures, count, stop) = a_section(seed);
     tables.textures = textures;

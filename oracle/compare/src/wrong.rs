@@ -4,8 +4,8 @@ use crate::board::{Board, Plan};
 use crate::calls::Calls;
 use crate::calls_stub as stub;
 use crate::{
-    accept, all, bodies, boxes, coverage, hand_made, joins, line, loads, made, order, points, pvs,
-    records, replay, sample, sky, team, textures, tree, walks,
+    accept, all, bodies, boxes, coverage, hand_made, joins, line, loads, made, order, place,
+    points, pvs, records, replay, sample, sky, team, textures, tree, walks,
 };
 
 const PLAN: Plan = Plan { cases: 250, from: 0, seed: 7, quick: true };
@@ -45,10 +45,12 @@ fn right() -> Calls {
         texture: stub::bsp_texture,
         texture_numbers: stub::bsp_texture_numbers,
         made_up: stub::bsp_made_up,
+        load_place: stub::bsp_load_place,
+        version: stub::bsp_version,
     }
 }
 
-const MODES: [Compare; 17] = [
+const MODES: [Compare; 18] = [
     records::compare,
     hand_made::compare,
     walks::compare,
@@ -63,6 +65,7 @@ const MODES: [Compare; 17] = [
     pvs::compare,
     team::compare,
     loads::compare,
+    place::compare,
     made::compare,
     sky::compare,
     joins::compare,
@@ -826,6 +829,29 @@ wrong! {
         9 if f.ends_with(&[0xed, 0xa0, 0x80, 0]) => 7,
         refusal => refusal,
     };
+
+    place: the_record_after, load_place, "bsp_load_place", |f, o| {
+        changed(stub::bsp_load_place(f, o), o, |o| if o[0] == 11 { o[2] += 1 })
+    };
+    place: the_byte_of_the_next_record, load_place, "bsp_load_place", |f, o| {
+        changed(stub::bsp_load_place(f, o), o, |o| if o[..2] == [1, 10] { o[3] += 28 })
+    };
+    place: extents_of_the_edges, load_place, "bsp_load_place", |f, o| {
+        changed(stub::bsp_load_place(f, o), o, |o| if o[0] == 12 { o[1] = 12 })
+    };
+    place: no_models_by_the_planes, load_place, "bsp_load_place", |f, o| {
+        changed(stub::bsp_load_place(f, o), o, |o| if o[..3] == [6, 15, 14] { o[2] = 1 })
+    };
+    place: a_texture_by_the_section, load_place, "bsp_load_place", |f, o| {
+        changed(stub::bsp_load_place(f, o), o, |o| if o[..2] == [13, 2] { o[3] -= 1 })
+    };
+    place: a_refusal_is_answered, load_place, "bsp_load_place", |f, o| {
+        match stub::bsp_load_place(f, o) {
+            0 => o[0] as u32,
+            refusal => refusal,
+        }
+    };
+    place: the_version_before, version, "bsp_version", || stub::VERSION - 256;
 
     made: less_127, made_up, "bsp_made_up", |s, n, b, o| {
         changed(stub::bsp_made_up(s, n, b, o), b, |b| {

@@ -5,7 +5,7 @@ use super::records::{self, Child, Counts};
 use super::*;
 
 /// The sections whose limits are tested, in that order; models last.
-const LIMITED: [usize; 9] =
+pub const LIMITED: [usize; 9] =
     [PLANES, VERTICES, VISIBILITY, RENDER_NODES, CLIP_NODES, LEAVES, EDGES, EDGELIST, MODELS];
 
 pub fn load(file: &[u8]) -> Answer<[u32; MAP_WORDS]> {
@@ -30,7 +30,7 @@ pub fn load(file: &[u8]) -> Answer<[u32; MAP_WORDS]> {
     section(&map, EDGES, |r| r.u16().and_then(|_| r.u16()).map(drop))?;
     section(&map, EDGELIST, |r| records::edge_entry(r).map(drop))?;
     extents(&map)?;
-    leaf_children(&map)?;
+    leaves_named(&map)?;
     section(&map, MODELS, |r| records::model(r).map(drop))?;
     Ok(words)
 }
@@ -39,39 +39,51 @@ pub fn load(file: &[u8]) -> Answer<[u32; MAP_WORDS]> {
 /// yet.
 fn header(file: &[u8]) -> Answer<[u32; MAP_WORDS]> {
     let mut r = Reader::new(file, 0);
-    if r.i32()? != 29 {
-        return Err(2);
-    }
+    version(&mut r)?;
     let mut words = [0; MAP_WORDS];
     for section in 0..SECTIONS {
-        let offset = r.i32()?;
-        if offset < 0 {
-            return Err(3);
-        }
-        let size = r.i32()?;
-        if size < 0 {
-            return Err(4);
-        }
-        if size as u64 % record_size(section) != 0 {
-            return Err(5);
-        }
-        words[2 * section] = offset as u32;
-        words[2 * section + 1] = size as u32;
+        (words[2 * section], words[2 * section + 1]) = entry(&mut r, section)?;
     }
     Ok(words)
 }
 
+pub fn version(r: &mut Reader) -> Answer<()> {
+    match r.i32()? {
+        29 => Ok(()),
+        _ => Err(2),
+    }
+}
+
+/// Offset and size of a section.
+pub fn entry(r: &mut Reader, section: usize) -> Answer<(u32, u32)> {
+    let offset = r.i32()?;
+    if offset < 0 {
+        return Err(3);
+    }
+    let size = r.i32()?;
+    if size < 0 {
+        return Err(4);
+    }
+    if size as u64 % record_size(section) != 0 {
+        return Err(5);
+    }
+    Ok((offset as u32, size as u32))
+}
+
 fn limits(map: &Map) -> Answer<()> {
-    for section in LIMITED {
-        if !map.within_limit(section) || (section == MODELS && map.count(MODELS) == 0) {
-            return Err(6);
-        }
+    LIMITED.into_iter().try_for_each(|section| limit(map, section))
+}
+
+/// At most so many records; at least one model.
+pub fn limit(map: &Map, section: usize) -> Answer<()> {
+    if !map.within_limit(section) || (section == MODELS && map.count(MODELS) == 0) {
+        return Err(6);
     }
     Ok(())
 }
 
 /// Through the first zero byte or to the file's end: length, UTF-8, end position.
-fn entities(map: &Map) -> Answer<()> {
+pub fn entities(map: &Map) -> Answer<()> {
     let from = map.offset(ENTITIES).min(map.file.len() as u64) as usize;
     let rest = &map.file[from..];
     let text = match rest.iter().position(|byte| *byte == 0) {
@@ -102,7 +114,7 @@ pub fn textures(file: &[u8]) -> Option<Answer<()>> {
 }
 
 /// The texture count.
-fn texture_count(map: &Map) -> Answer<u64> {
+pub fn texture_count(map: &Map) -> Answer<u64> {
     let count = Reader::new(map.file, map.offset(TEXTURES)).i32()?;
     if !(0..=2_097_152).contains(&count) {
         return Err(10);
@@ -127,7 +139,7 @@ fn section(
 }
 
 /// Bytes as far as the file has them, then the end position.
-fn bytes(map: &Map, section: usize) -> Answer<()> {
+pub fn bytes(map: &Map, section: usize) -> Answer<()> {
     if map.section_readable(section) {
         Ok(())
     } else {
@@ -136,33 +148,38 @@ fn bytes(map: &Map, section: usize) -> Answer<()> {
 }
 
 /// The flag (10) comes before a texture number equal to its count (11).
-fn texinfo(r: &mut Reader, counts: Counts) -> Answer<()> {
+pub fn texinfo(r: &mut Reader, counts: Counts) -> Answer<()> {
     if records::texinfo(r, counts)?.texture == counts.textures {
         return Err(11);
     }
     Ok(())
 }
 
-/// Face after face: indices (11), then an extent above 2,000 (12).
+/// Face after face.
 fn extents(map: &Map) -> Answer<()> {
-    for index in 0..map.count(FACES) {
-        let face = map.face(index)?;
-        let (found, texinfo) = map.extents_and_texinfo(&face)?.ok_or(11u32)?;
-        if !texinfo.special && found.extents.iter().any(|extent| *extent > 2000) {
-            return Err(12);
-        }
+    (0..map.count(FACES)).try_for_each(|index| face_extents(map, index))
+}
+
+/// Indices (11), then an extent above 2,000 (12).
+pub fn face_extents(map: &Map, index: u64) -> Answer<()> {
+    let face = map.face(index)?;
+    let (found, texinfo) = map.extents_and_texinfo(&face)?.ok_or(11u32)?;
+    if !texinfo.special && found.extents.iter().any(|extent| *extent > 2000) {
+        return Err(12);
     }
     Ok(())
 }
 
 /// Every leaf named by a render node (11).
-fn leaf_children(map: &Map) -> Answer<()> {
-    for index in 0..map.count(RENDER_NODES) {
-        for child in map.render_node(index)?.children {
-            if let Child::Leaf(leaf) = child {
-                if leaf >= map.count(LEAVES) {
-                    return Err(11);
-                }
+fn leaves_named(map: &Map) -> Answer<()> {
+    (0..map.count(RENDER_NODES)).try_for_each(|index| leaf_children(map, index))
+}
+
+pub fn leaf_children(map: &Map, index: u64) -> Answer<()> {
+    for child in map.render_node(index)?.children {
+        if let Child::Leaf(leaf) = child {
+            if leaf >= map.count(LEAVES) {
+                return Err(11);
             }
         }
     }

@@ -27,14 +27,14 @@ fn name(file: &[u8], at: u64) -> Answer<Name> {
 }
 
 /// What is read of a texture, and where reading its fourth picture stops.
-struct Header {
+pub struct Header {
     name: Name,
     width: u64,
     height: u64,
     stop: u64,
 }
 
-fn header(file: &[u8], at: u64) -> Answer<Header> {
+pub fn header(file: &[u8], at: u64) -> Answer<Header> {
     let name = name(file, at)?;
     let mut r = Reader::new(file, at + 16);
     let mut fields = [0u64; 6];

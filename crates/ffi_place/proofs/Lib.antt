@@ -1,0 +1,2 @@
+-- Laws about the call of the place.
+mod Placing

@@ -1,0 +1,2 @@
+-- What the contracts of `ffi_place` cite.
+pub mod Calls

@@ -1,0 +1,5 @@
+-- What the contracts of `place` cite.
+pub mod Stop
+pub mod Part
+pub mod Place
+pub mod EveryFile

@@ -1,0 +1,155 @@
+-- Where loading refuses a file: the number that it answers, and the section, the record and the byte at which the reader stands that refuses.
+-- The steps are those of loading, in its order (load/specs/Load.antt); sections are named by their numbers in the directory, 15 is the header.
+-- A section that does not end where it should (7) stops after its last record.
+use Prim.Native.Nat.{ℕ, _+_}
+use mathlib.Core.List.{List}
+use lib.Dec.{ltb}
+use lib.IntN.{ℤ}
+use lib.ListN.{length}
+use Rattle.format.specs.Field.{u16At, i32At}
+use Rattle.format.specs.Refusal.{numberOf}
+use Rattle.format.specs.Step.{Step, ok, refused, when}
+use Rattle.format.specs.declared.section.BspData.{BspData}
+use Rattle.format.specs.declared.section.BspFileSection.{BspFileSection}
+use Rattle.format.specs.declared.section.BspFileSectionId.the-variants as Id
+use Rattle.records.specs.Edge.{edgeAt, edgeIndexAt}
+use Rattle.records.specs.Leaf.{leafAt}
+use Rattle.records.specs.Node.{renderNodeAt, collisionNodeAt}
+use Rattle.records.specs.Number.{numberAt, offsetAt}
+use Rattle.records.specs.Plane.{planeAt}
+use Rattle.records.specs.Triple.{vectorAt}
+use Rattle.records.specs.declared.number.OptionalOffset.{OptionalOffset}
+use Rattle.records.specs.declared.number.OptionalOffset.the-variants.{None, Some}
+use Rattle.models.specs.Model.{fileModelAt}
+use Rattle.sections.specs.Row.{section, blob}
+use Rattle.sections.specs.Table.{headerAt, limits, isVersion}
+use Rattle.textures.specs.Section as Section
+use Rattle.load.specs.Entities.{entities}
+use Rattle.load.specs.Extents.{faceExtents}
+use Rattle.load.specs.Load.{counted}
+use Rattle.load.specs.Tested.{texinfos, faces, leafReferences}
+use Rattle.place.specs.Part.{stopIn}
+use Rattle.place.specs.Stop.{stop, hereOr}
+use Rattle.place.specs.declared.part.Part.the-variants as Part
+use Rattle.place.specs.declared.part.Stop.{Stop}
+use Rattle.place.specs.declared.LoadPlace.{LoadPlace}
+use Rattle.place.specs.declared.LoadPlace.the-variants as L
+
+-- the file loads, or it is refused with a number, in a section, at a record and a byte
+pub data Located : Type 0 where
+  loads : Located
+  refusedAt : ℕ → ℕ → Stop → Located
+
+-- one step of loading, which is about a section: the place where it refuses, else what follows
+abbrev pub located : {A : Type 0} → Step A → ℕ → Stop → (A → Located) → Located
+located (ok v p) z here next = next v
+located (refused n) z here next = refusedAt n z here
+
+-- a map record that names nothing: the directory is read before there is one
+abbrev pub noSection : BspFileSection
+noSection = record { offset = 0; size = 0 }
+
+abbrev pub noMap : BspData
+noMap = record {
+  entities = noSection;
+  planes = noSection;
+  textures = noSection;
+  vertices = noSection;
+  visibility = noSection;
+  «render_nodes» = noSection;
+  texinfo = noSection;
+  faces = noSection;
+  lightmaps = noSection;
+  «collision_nodes» = noSection;
+  leaves = noSection;
+  facelist = noSection;
+  edges = noSection;
+  edgelist = noSection;
+  models = noSection;
+  «texture_count» = 0;
+}
+
+-- the header: the version, or the first entry of the directory that is refused
+abbrev pub versionStop : Step ℤ → Stop → Stop
+versionStop (ok version p) further = when (isVersion version) further (stop 0 0)
+versionStop (refused n) further = stop 0 0
+
+unfoldable pub headerStop : List ℕ → Stop
+headerStop s = versionStop (i32At s 0) (stopIn Part.Directory s noMap)
+
+-- where the header of a texture starts whose offset stands at a position of the list; an offset that leads past the file stands there itself
+abbrev pub startOf : List ℕ → ℕ → ℕ → Step OptionalOffset → ℕ
+startOf s base at (ok (Some offset) p) = when (ltb (base + offset) (length s)) (base + offset) at
+startOf s base at (ok None p) = at
+startOf s base at (refused n) = at
+
+unfoldable pub startAt : List ℕ → ℕ → ℕ → ℕ
+startAt s base at = startOf s base at (offsetAt s at)
+
+abbrev pub headerStart : List ℕ → BspData → Stop → Stop
+headerStart s m here = stop (here .index) (startAt s (m .textures .offset) (here .byte))
+
+-- the textures: the first offset that is refused, else the first header, else the section's end (7, 14 and 15 are said there)
+unfoldable pub listStop : List ℕ → BspData → Stop
+listStop s m =
+    when (ltb (stopIn Part.Offsets s m .index) (m .«texture_count»)) (stopIn Part.Offsets s m)
+    (when (ltb (stopIn Part.Textures s m .index) (m .«texture_count»)) (headerStart s m (stopIn Part.Textures s m))
+    (stop (m .«texture_count») (m .textures .offset + m .textures .size)))
+
+-- the texture section: its count, and then the textures
+unfoldable pub texturesStop : List ℕ → BspData → Stop
+texturesStop s m = hereOr (numberAt 2097152 s (m .textures .offset)) (stop 0 (m .textures .offset)) (λ n p. listStop s (counted m n))
+
+unfoldable pub fromExtents : List ℕ → BspData → Located
+fromExtents s m =
+    located (faceExtents s m) 7 (stopIn Part.Extents s m) (λ u.
+    located (leafReferences s m) 5 (stopIn Part.References s m) (λ u.
+    located (section fileModelAt Id.Models s (m .models)) 14 (stopIn Part.Models s m) (λ u.
+    loads)))
+
+unfoldable pub fromEdges : List ℕ → BspData → Located
+fromEdges s m =
+    located (section edgeAt Id.Edges s (m .edges)) 12 (stopIn Part.Edges s m) (λ u.
+    located (section edgeIndexAt Id.EdgeList s (m .edgelist)) 13 (stopIn Part.EdgeList s m) (λ u.
+    fromExtents s m))
+
+unfoldable pub fromCollisionNodes : List ℕ → BspData → Located
+fromCollisionNodes s m =
+    located (section collisionNodeAt Id.CollisionNodes s (m .«collision_nodes»)) 9 (stopIn Part.CollisionNodes s m) (λ u.
+    located (section leafAt Id.Leaves s (m .leaves)) 10 (stopIn Part.Leaves s m) (λ u.
+    located (section u16At Id.FaceList s (m .facelist)) 11 (stopIn Part.FaceList s m) (λ u.
+    fromEdges s m)))
+
+-- bytes that are no records (visibility data, lightmaps) are named by their section's start
+unfoldable pub fromTexinfo : List ℕ → BspData → Located
+fromTexinfo s m =
+    located (texinfos s m) 6 (stopIn Part.TextureInfo s m) (λ u.
+    located (faces s m) 7 (stopIn Part.Faces s m) (λ u.
+    located (blob s (m .lightmaps)) 8 (stop 0 (m .lightmaps .offset)) (λ u.
+    fromCollisionNodes s m)))
+
+unfoldable pub fromVertices : List ℕ → BspData → Located
+fromVertices s m =
+    located (section vectorAt Id.Vertices s (m .vertices)) 3 (stopIn Part.Vertices s m) (λ u.
+    located (blob s (m .visibility)) 4 (stop 0 (m .visibility .offset)) (λ u.
+    located (section renderNodeAt Id.RenderNodes s (m .«render_nodes»)) 5 (stopIn Part.RenderNodes s m) (λ u.
+    fromTexinfo s m)))
+
+unfoldable pub fromPlanes : List ℕ → BspData → Located
+fromPlanes s m =
+    located (section planeAt Id.Planes s (m .planes)) 1 (stopIn Part.Planes s m) (λ u.
+    located (Section.textures s (m .textures)) 2 (texturesStop s m) (λ n.
+    fromVertices s (counted m n)))
+
+-- the entity text is named by its start
+unfoldable pub placeOf : List ℕ → Located
+placeOf s =
+    located (headerAt s) 15 (headerStop s) (λ m.
+    located (limits m) 15 (stopIn Part.Limits s m) (λ u.
+    located (entities s (m .entities)) 0 (stop 0 (m .entities .offset)) (λ u.
+    fromPlanes s m)))
+
+-- what an answer stands for
+abbrev pub placeAnswer : LoadPlace → Located
+placeAnswer L.Loads = loads
+placeAnswer (L.Refused e z here) = refusedAt (numberOf e) z here
