@@ -13,6 +13,9 @@ use std::time::SystemTime;
 fn main() {
     println!("cargo:rerun-if-changed=build.rs");
     println!("cargo:rerun-if-env-changed=BSP29_LIBRARY");
+    if env::var_os("CARGO_FEATURE_LINK").is_none() {
+        return;
+    }
     let own =
         PathBuf::from(env::var_os("CARGO_MANIFEST_DIR").expect("cargo names the crate's folder"));
     let made = PathBuf::from(env::var_os("OUT_DIR").expect("cargo names OUT_DIR"));

@@ -1,4 +1,5 @@
-//! The calls of the C interface (crate ffi), as the static library exports them.
+//! The calls of the C interface (crate ffi), as the static library exports them and the crate bsp29-sys
+//! declares them.
 //!
 //! A slice is a pointer and a length. Each call answers 0 or the number of a refusal; what it
 //! answers goes into lent lists. A group of calls is linked if its feature is on; the functions of
@@ -6,56 +7,9 @@
 
 #![allow(clippy::too_many_arguments)]
 
-type Bytes = *const u8;
-type Words = *const u32;
-type Longs = *const u64;
-type Floats = *const f32;
-type BytesOut = *mut u8;
-type WordsOut = *mut u32;
-type LongsOut = *mut u64;
-type Ints = *const i32;
-type IntsOut = *mut i32;
-
-#[rustfmt::skip]
-#[allow(dead_code)]
-extern "C" {
-    fn bsp_load(file: Bytes, file_len: usize, map: WordsOut, map_len: usize) -> u32;
-    fn bsp_load_place(file: Bytes, file_len: usize, out: LongsOut, out_len: usize) -> u32;
-    fn bsp_version() -> u32;
-
-    fn bsp_record(file: Bytes, file_len: usize, map: Words, map_len: usize, section: u32, index: u64, out: LongsOut, out_len: usize) -> u32;
-    fn bsp_count(map: Words, map_len: usize, section: u32, out: LongsOut, out_len: usize) -> u32;
-    fn bsp_entities(file: Bytes, file_len: usize, map: Words, map_len: usize, out: LongsOut, out_len: usize) -> u32;
-
-    fn bsp_hull(file: Bytes, file_len: usize, map: Words, map_len: usize, model: u64, index: u64, hull: LongsOut, hull_len: usize) -> u32;
-    fn bsp_body_sizes(bytes: Bytes, bytes_len: usize, sizes: LongsOut, sizes_len: usize) -> u32;
-    fn bsp_hull_sized(file: Bytes, file_len: usize, map: Words, map_len: usize, sizes: Longs, sizes_len: usize, model: u64, index: u64, hull: LongsOut, hull_len: usize) -> u32;
-    fn bsp_box(bounds: Floats, bounds_len: usize, hull: LongsOut, hull_len: usize) -> u32;
-    fn bsp_contents(file: Bytes, file_len: usize, map: Words, map_len: usize, hull: Longs, hull_len: usize, point: Floats, point_len: usize, out: LongsOut, out_len: usize) -> u32;
-    fn bsp_find_leaf(file: Bytes, file_len: usize, map: Words, map_len: usize, root: u64, point: Floats, point_len: usize, out: LongsOut, out_len: usize) -> u32;
-    fn bsp_trace(file: Bytes, file_len: usize, map: Words, map_len: usize, hull: Longs, hull_len: usize, segment: Floats, segment_len: usize, out: LongsOut, out_len: usize) -> u32;
-    fn bsp_contents_nodes(file: Bytes, file_len: usize, map: Words, map_len: usize, hull: Longs, hull_len: usize, point: Floats, point_len: usize, list: WordsOut, list_len: usize, out: LongsOut, out_len: usize) -> u32;
-    fn bsp_find_leaf_nodes(file: Bytes, file_len: usize, map: Words, map_len: usize, root: u64, point: Floats, point_len: usize, list: WordsOut, list_len: usize, out: LongsOut, out_len: usize) -> u32;
-    fn bsp_trace_nodes(file: Bytes, file_len: usize, map: Words, map_len: usize, hull: Longs, hull_len: usize, segment: Floats, segment_len: usize, list: WordsOut, list_len: usize, out: LongsOut, out_len: usize) -> u32;
-
-    fn bsp_pvs(file: Bytes, file_len: usize, map: Words, map_len: usize, leaf: u64, leaf_count: u64, list: WordsOut, list_len: usize, out: LongsOut, out_len: usize) -> u32;
-
-    fn bsp_pvs_team(file: Bytes, file_len: usize, map: Words, map_len: usize, leaves: Longs, leaves_len: usize, leaf_count: u64, list: WordsOut, list_len: usize, out: LongsOut, out_len: usize) -> u32;
-    fn bsp_tree_check(file: Bytes, file_len: usize, map: Words, map_len: usize, table: u32, root: u64, marks: BytesOut, marks_len: usize, out: LongsOut, out_len: usize) -> u32;
-    fn bsp_contents_box(file: Bytes, file_len: usize, map: Words, map_len: usize, hull: Longs, hull_len: usize, bounds: Floats, bounds_len: usize, marks: BytesOut, marks_len: usize, out: LongsOut, out_len: usize) -> u32;
-    fn bsp_accept(file: Bytes, file_len: usize, map: Words, map_len: usize, marks: BytesOut, marks_len: usize) -> u32;
-    fn bsp_contents_points(file: Bytes, file_len: usize, map: Words, map_len: usize, hull: Longs, hull_len: usize, points: Floats, points_len: usize, list: BytesOut, list_len: usize, out: LongsOut, out_len: usize) -> u32;
-    fn bsp_trace_line(file: Bytes, file_len: usize, map: Words, map_len: usize, hull: Longs, hull_len: usize, segment: Floats, segment_len: usize, out: LongsOut, out_len: usize) -> u32;
-    fn bsp_order(file: Bytes, file_len: usize, map: Words, map_len: usize, table: u32, root: u64, marks: BytesOut, marks_len: usize, list: IntsOut, list_len: usize, out: LongsOut, out_len: usize) -> u32;
-    fn bsp_order_contents(file: Bytes, file_len: usize, map: Words, map_len: usize, list: Ints, list_len: usize, root: u64, point: Floats, point_len: usize, out: LongsOut, out_len: usize) -> u32;
-    fn bsp_order_trace(file: Bytes, file_len: usize, map: Words, map_len: usize, list: Ints, list_len: usize, root: u64, segment: Floats, segment_len: usize, out: LongsOut, out_len: usize) -> u32;
-    fn bsp_texture_frame(file: Bytes, file_len: usize, map: Words, map_len: usize, number: u64, group: u32, place: u64, out: LongsOut, out_len: usize) -> u32;
-    fn bsp_texture_static(file: Bytes, file_len: usize, map: Words, map_len: usize, number: u64, out: LongsOut, out_len: usize) -> u32;
-    fn bsp_texture(file: Bytes, file_len: usize, map: Words, map_len: usize, index: u64, out: LongsOut, out_len: usize) -> u32;
-    fn bsp_texture_numbers(file: Bytes, file_len: usize, map: Words, map_len: usize, list: WordsOut, list_len: usize, out: LongsOut, out_len: usize) -> u32;
-    fn bsp_made_up(seed: u32, nodes: u64, buffer: BytesOut, buffer_len: usize, out: LongsOut, out_len: usize) -> u32;
-    fn bsp_hull_check(file: Bytes, file_len: usize, map: Words, map_len: usize, hull: Longs, hull_len: usize, marks: BytesOut, marks_len: usize, out: LongsOut, out_len: usize) -> u32;
-}
+// a call whose group is not linked is not named
+#[allow(unused_imports)]
+use bsp29_sys::*;
 
 /// One call: the linked one if its group is, else the stub's.
 macro_rules! either {

@@ -59,6 +59,7 @@ type IntsOut = *mut i32;
 #[allow(missing_docs)] // the header has it
 extern "C" {
     pub fn bsp_load(file: Bytes, file_length: usize, map: WordsOut, map_length: usize) -> u32;
+    pub fn bsp_load_place(file: Bytes, file_length: usize, out: LongsOut, out_length: usize) -> u32;
     pub fn bsp_record(file: Bytes, file_length: usize, map: Words, map_length: usize, section: u32, index: u64, out: LongsOut, out_length: usize) -> u32;
     pub fn bsp_count(map: Words, map_length: usize, section: u32, out: LongsOut, out_length: usize) -> u32;
     pub fn bsp_entities(file: Bytes, file_length: usize, map: Words, map_length: usize, out: LongsOut, out_length: usize) -> u32;
@@ -88,4 +89,5 @@ extern "C" {
     pub fn bsp_texture(file: Bytes, file_length: usize, map: Words, map_length: usize, index: u64, out: LongsOut, out_length: usize) -> u32;
     pub fn bsp_texture_numbers(file: Bytes, file_length: usize, map: Words, map_length: usize, list: WordsOut, list_length: usize, out: LongsOut, out_length: usize) -> u32;
     pub fn bsp_made_up(seed: u32, nodes: u64, buffer: BytesOut, buffer_length: usize, out: LongsOut, out_length: usize) -> u32;
+    pub fn bsp_version() -> u32;
 }
