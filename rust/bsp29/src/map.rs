@@ -26,7 +26,7 @@ const MOST_POINTS: usize = 1_024;
 pub type Map<'a> = MapOf<&'a [u8]>;
 
 /// A map over the bytes of its file, in whatever holds them: a slice ([`Map`]), `Vec<u8>`, `Box<[u8]>`,
-/// `Arc<[u8]>`, a file that is mapped into memory. It never copies them.
+/// `Arc<[u8]>` or a type of your own. It never copies them.
 ///
 /// Whatever the bytes are, no call crashes, hangs or reads outside them. Ask whether a map from a
 /// stranger may be played ([`accept`](MapOf::accept)) before it is: then every question to it is answered.
