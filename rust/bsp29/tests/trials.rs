@@ -2,7 +2,7 @@
 
 mod common;
 
-use bsp29::{Contents, Hull, Map, NodeTable, PlaneKind, Refusal, TraceEnd};
+use bsp29::{BoxHull, Contents, Hull, Map, NodeTable, PlaneKind, Refusal, TraceEnd};
 use common::{bytes, chain, file, rooms, smallest, Sections};
 
 #[test]
@@ -229,4 +229,32 @@ fn an_empty_entity_text_may_lie_past_the_end() {
     let map = Map::load(&file).unwrap();
     assert_eq!(map.entities().unwrap(), []);
     assert_eq!(map.entity_text().unwrap(), "");
+}
+
+#[test]
+fn a_box_without_a_map() {
+    let file = rooms();
+    let map = Map::load(&file).unwrap();
+    let special = [0.0, -0.0, 1.0, -1.0, 0.5, 7.5, f32::NAN, f32::INFINITY, f32::MIN, 1e-40];
+    let at = |n: usize| special[n % special.len()];
+    let mut asked = 0;
+    for n in 0..2000usize {
+        let (mins, maxs) = ([at(n), at(n / 3), -2.0], [at(n / 7), at(n / 11), 3.0]);
+        let hull = BoxHull::new(mins, maxs);
+        assert_eq!(hull.map(|hull| *hull.hull()), Hull::for_bounds(mins, maxs));
+        let Ok(hull) = hull else { continue };
+        let (a, b) = ([at(n / 2), at(n / 5), at(n / 13)], [at(n / 17), at(n / 19), at(n / 23)]);
+        // by their text, since no NaN equals itself
+        let shown = format!("{:?}", (hull.contents(a), hull.trace(a, b), hull.trace_line(a, b)));
+        let by_map = (
+            map.contents(hull.hull(), a),
+            map.trace(hull.hull(), a, b),
+            map.trace_line(hull.hull(), a, b),
+        );
+        assert_eq!(shown, format!("{by_map:?}"));
+        assert!(hull.contents(a).is_ok() && hull.trace(a, b).is_ok());
+        assert!(hull.trace_line(a, b).is_ok());
+        asked += 1;
+    }
+    assert!(asked > 300, "{asked}");
 }
