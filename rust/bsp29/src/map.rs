@@ -336,7 +336,7 @@ impl<B: AsRef<[u8]>> MapOf<B> {
     /// ```
     pub fn texture_numbers(&self) -> Result<Vec<u32>, Refusal> {
         // more than the file has offsets for, or than a section may have, is refused
-        let most = self.texture_count().min(MOST_TEXTURES).min(self.file.len() / 4);
+        let most = self.texture_count().min(MOST_TEXTURES).min(self.file().len() / 4);
         let mut list = vec![0; most];
         let count = self.texture_numbers_into(&mut list)?;
         list.truncate(count);
@@ -358,7 +358,7 @@ impl<B: AsRef<[u8]>> MapOf<B> {
     /// # Ok::<(), Refusal>(())
     /// ```
     pub fn texture_numbers_into(&self, list: &mut [u32]) -> Result<usize, Refusal> {
-        ffi::texture_numbers(self.file, &self.words, list).map(|count| count as usize)
+        ffi::texture_numbers(self.file(), &self.words, list).map(|count| count as usize)
     }
 
     /// The texture infos.
