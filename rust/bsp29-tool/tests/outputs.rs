@@ -211,6 +211,8 @@ fn what_cannot_be_read_is_1() {
         "trace maps/rooms.bsp 0,0,0 1,1,1 --model 9",
         "vis maps/rooms.bsp --leaf 6",
         "check no-such-file",
+        "check /dev/zero",
+        "info /dev/null",
         "check docs",
         "picture maps/rooms.bsp --see 6 -o rust/bsp29-tool/target/none.png",
         "picture maps/rooms.bsp -o no-such-folder/none.png",
