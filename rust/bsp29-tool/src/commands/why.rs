@@ -167,21 +167,30 @@ fn shortened(numbers: &[usize]) -> String {
 impl Around {
     fn text(&self, out: &mut dyn Write) -> io::Result<()> {
         for (n, line) in self.bytes.chunks(LINE).enumerate() {
-            let at = self.byte + n * LINE;
-            write!(out, "{at:>10} ")?;
-            for (n, byte) in line.iter().enumerate() {
-                let open = if at + n == self.marked.0 { '[' } else { ' ' };
-                let close = if at + n + 1 == self.marked.1 { "]" } else { "" };
-                // a closing bracket takes the place of the space before the next byte
-                let before = if n > 0 && at + n == self.marked.1 { "" } else { &*open.to_string() };
-                write!(out, "{before}{byte:02x}{close}")?;
-            }
-            let shown: String = line.iter().map(|byte| seen(*byte)).collect();
-            let width = 3 * (LINE - line.len()) + 3;
-            let bracket = usize::from(self.marked.1 == at + line.len());
-            writeln!(out, "{:width$}{shown}", "", width = width - bracket)?;
+            let seen: String = line.iter().map(|byte| seen(*byte)).collect();
+            writeln!(out, "{:<62}{seen}", self.line(self.byte + n * LINE, line))?;
         }
         Ok(())
+    }
+
+    /// A line: its position and its bytes, with a bracket where the marked ones begin and end.
+    fn line(&self, at: usize, line: &[u8]) -> String {
+        let between = |place: usize| match place {
+            place if place == self.marked.0 => '[',
+            place if place == self.marked.1 => ']',
+            _ => ' ',
+        };
+        let mut text = format!("{at:>10} ");
+        for (place, byte) in (at..).zip(line) {
+            let before = match between(place) {
+                // it stands at the end of the line before
+                ']' if place == at => ' ',
+                before => before,
+            };
+            text += &format!("{before}{byte:02x}");
+        }
+        text.push(if between(at + line.len()) == ']' { ']' } else { ' ' });
+        text
     }
 }
 
