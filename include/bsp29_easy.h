@@ -63,6 +63,27 @@ static inline uint32_t bsp_map_load(struct bsp_map *map, const uint8_t *file, si
     return refusal;
 }
 
+/* Where loading refuses a file: the section is 0 to 14 in the directory's order, 15 for the header. */
+struct bsp_place {
+    uint32_t refusal;
+    uint32_t section;
+    size_t record;
+    size_t byte;
+};
+
+/* The place at which bsp_map_load refuses a file (bsp_load_place); all zeros where it loads. */
+static inline struct bsp_place bsp_place_of(const uint8_t *file, size_t length)
+{
+    uint64_t words[BSP_PLACE_WORDS] = {0, 0, 0, 0};
+    struct bsp_place place;
+    bsp_load_place(bsp_bytes(file), length, words, BSP_PLACE_WORDS);
+    place.refusal = (uint32_t)words[0];
+    place.section = (uint32_t)words[1];
+    place.record = (size_t)words[2];
+    place.byte = (size_t)words[3];
+    return place;
+}
+
 /* Whether a map may go on the rota (bsp_accept): once, before a stranger's map is played. */
 static inline uint32_t bsp_map_accept(const struct bsp_map *map)
 {

@@ -4,7 +4,7 @@
 //! safe functions with Rust's own types. `build.rs` finds the library, and the crate's README says how it
 //! is told where it lies.
 //!
-//! Each call answers 0 or the number of a refusal. A list is two parameters, a pointer to its first entry
+//! Each call but `bsp_version` answers 0 or the number of a refusal. A list is two parameters, a pointer to its first entry
 //! and the number of its entries.
 //!
 //! # Safety
@@ -43,6 +43,8 @@ pub const TRACE_WORDS: usize = 17;
 pub const LINE_WORDS: usize = 12;
 /// How many words a texture has.
 pub const TEXTURE_WORDS: usize = 5;
+/// How many words the place of a refusal has.
+pub const PLACE_WORDS: usize = 4;
 
 type Bytes = *const u8;
 type Words = *const u32;

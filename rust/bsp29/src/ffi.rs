@@ -37,6 +37,22 @@ pub(crate) fn load(file: &[u8]) -> Result<MapWords, Refusal> {
     answered(status, map)
 }
 
+/// `bsp_load_place`: the refusal's number, the section, the record and the byte; zeros where the file loads.
+#[inline]
+pub(crate) fn load_place(file: &[u8]) -> [u64; PLACE_WORDS] {
+    let mut out = [0; PLACE_WORDS];
+    // SAFETY: as in `load`. The list has as many words as the call asks for, so it refuses nothing.
+    unsafe { bsp_load_place(file.as_ptr(), file.len(), out.as_mut_ptr(), out.len()) };
+    out
+}
+
+/// `bsp_version`: the version of the library that is linked.
+#[inline]
+pub(crate) fn version() -> u32 {
+    // SAFETY: it takes nothing.
+    unsafe { bsp_version() }
+}
+
 /// `bsp_record`: the words of a record.
 #[inline]
 pub(crate) fn record(

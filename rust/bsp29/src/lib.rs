@@ -39,7 +39,7 @@
 //! - [`BodySizes`]: a hall's own sizes in place of the built-in ones
 //! - [`Entities`]: the entity text taken apart
 //! - [`made_up`]: maps that nobody drew, for load tests
-//! - [`Refusal`]: why a call is refused
+//! - [`Refusal`], [`load_place`]: why a call is refused, and where in the file loading was
 //!
 //! Proved are the calls of the library. What this crate adds is plain Rust, and tested: the conversion of
 //! words to its types, what richter's `phys.rs` and `math.rs` have of a trace and a plane, faces and models
@@ -68,7 +68,7 @@ pub use entities::{Entities, Entity, EntityError, EntityFault};
 pub use hull::{BoxHull, Hull, LineTrace, NodeTable, Trace, TraceEnd};
 pub use made::{made_up, made_up_into};
 pub use map::{Map, MapOf, Ordered};
-pub use place::LoadPlace;
+pub use place::{load_place, LoadPlace};
 pub use records::{
     ClipChild, ClipNode, Contents, ContentsSet, Direction, Edge, EdgeListEntry, Face,
     FaceListEntry, FrameGroup, Leaf, Model, Plane, PlaneKind, Record, RecordIter, RecordValues,
@@ -85,3 +85,14 @@ pub use surfaces::Lightmap;
 /// assert_eq!(bsp29::VERSION, "0.2.0");
 /// ```
 pub const VERSION: &str = env!("CARGO_PKG_VERSION");
+
+/// The version of the library that is linked: its three numbers.
+///
+/// ```
+/// let (major, minor, patch) = bsp29::library_version();
+/// assert_eq!(bsp29::VERSION, format!("{major}.{minor}.{patch}"));
+/// ```
+pub fn library_version() -> (u32, u32, u32) {
+    let version = ffi::version();
+    (version >> 16, version >> 8 & 255, version & 255)
+}

@@ -1,7 +1,32 @@
 //! Where loading refused a file.
 
-use crate::{Refusal, Section};
+use crate::{ffi, Refusal, Section};
 use std::fmt;
+
+/// Where loading refuses a file, or none where it loads. It reads the file as
+/// [`Map::load`](crate::MapOf::load) does, and the refused section once more; the number is always that of
+/// `load`, which is proved of the library.
+///
+/// ```
+/// use bsp29::{load_place, Map, Section};
+///
+/// let path = concat!(env!("CARGO_MANIFEST_DIR"), "/../../maps/rooms.bsp");
+/// let mut file = std::fs::read(path)?;
+/// assert_eq!(load_place(&file), None);
+///
+/// // the contents of leaf 2 become -7, which are none
+/// let entry = 4 + 8 * Section::Leaves.number() as usize;
+/// let leaves = u32::from_le_bytes(file[entry..entry + 4].try_into()?) as usize;
+/// file[leaves + 2 * 28..][..4].copy_from_slice(&(-7i32).to_le_bytes());
+/// let place = load_place(&file).unwrap();
+/// assert_eq!((place.section, place.record), (Some(Section::Leaves), 2));
+/// assert_eq!(place.byte, leaves + 2 * 28);
+/// assert_eq!(Map::load(&file).err(), Some(place.refusal));
+/// # Ok::<(), Box<dyn std::error::Error>>(())
+/// ```
+pub fn load_place(file: &[u8]) -> Option<LoadPlace> {
+    LoadPlace::from_words(ffi::load_place(file))
+}
 
 /// Where loading refused a file: the section, the record in it and the byte of the file at which the reader
 /// stood that refused. [`Display`](fmt::Display) says it to a person.
