@@ -139,8 +139,12 @@ impl Section {
     }
 }
 
-/// The bytes before the first section: the version, and offset and size of each section.
-pub const HEADER: usize = 4 + 8 * SECTIONS.len();
+/// The bytes of the version, and of an entry of the directory: a section's offset and size.
+pub const VERSION: usize = 4;
+pub const ENTRY: usize = 8;
+
+/// The bytes before the first section: the version, and an entry for each section.
+pub const HEADER: usize = VERSION + ENTRY * SECTIONS.len();
 
 /// Where a section lies, as the file says it. Both may be any numbers.
 #[derive(Copy, Clone, Debug, PartialEq, Eq)]
@@ -158,7 +162,7 @@ pub struct Directory {
 impl Directory {
     pub fn read(bytes: &[u8]) -> Directory {
         let span = |number: usize| {
-            let at = 4 + 8 * number;
+            let at = VERSION + ENTRY * number;
             Some(Span { offset: int(bytes, at)?, size: int(bytes, at + 4)? })
         };
         Directory { version: int(bytes, 0), spans: std::array::from_fn(span) }

@@ -1,7 +1,7 @@
 //! Where in a file something was refused.
 
-use crate::layout::SECTIONS;
-use bsp29::{NodeTable, Refusal};
+use crate::layout::{Directory, SECTIONS, TEXTURES, VERSION};
+use bsp29::{load_place, NodeTable};
 use serde::{Deserialize, Serialize};
 
 /// A place in a file.
@@ -50,8 +50,46 @@ pub enum Mark {
     Tree { model: usize, hull: usize, table: NodeTable, node: usize },
 }
 
-/// Where loading refused. The library as it stands answers a refusal's number and not its place, so
-/// there is none to say.
-pub fn of_loading(_bytes: &[u8], _refusal: Refusal) -> Option<Place> {
-    None
+/// Where loading refused a file; none where it loads.
+pub fn of_loading(bytes: &[u8]) -> Option<Place> {
+    let place = load_place(bytes)?;
+    Some(match place.section {
+        Some(section) => in_section(bytes, section.number() as usize, place.record, place.byte),
+        None => in_header(bytes, place.record, place.byte),
+    })
+}
+
+/// The version, or the entry of a section in the directory.
+fn in_header(bytes: &[u8], record: usize, byte: usize) -> Place {
+    let directory = Directory::read(bytes);
+    let entry = SECTIONS.get(record).filter(|_| byte >= VERSION);
+    let what = match (entry, directory.version) {
+        (Some(section), _) => directory
+            .span(record)
+            .map(|span| format!("{} at offset {}, {} bytes", section.name, span.offset, span.size)),
+        (None, version) => version.map(|version| format!("version {version}")),
+    };
+    Place {
+        section: "header".to_string(),
+        record: entry.map(|_| record),
+        byte: Some(byte),
+        field: None,
+        what,
+    }
+}
+
+/// A record of a section, with what the file has there; of a section of bytes or text only the place.
+fn in_section(bytes: &[u8], section: usize, record: usize, byte: usize) -> Place {
+    let layout = &SECTIONS[section];
+    let fields = match layout.fields {
+        [] => None,
+        _ => Directory::read(bytes).record(bytes, section, record),
+    };
+    Place {
+        section: layout.name.to_string(),
+        record: (section == TEXTURES || !layout.fields.is_empty()).then_some(record),
+        byte: Some(byte),
+        field: None,
+        what: fields.map(|fields| fields.to_string()),
+    }
 }

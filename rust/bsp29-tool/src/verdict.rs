@@ -94,7 +94,7 @@ pub fn judge(bytes: &[u8]) -> Judged<'_> {
     let map = match Map::load(bytes) {
         Ok(map) => map,
         Err(refusal) => {
-            let place = place::of_loading(bytes, refusal);
+            let place = place::of_loading(bytes);
             let verdict = Verdict::refused(Word::Load, refusal, place);
             return Judged { verdict, map: None, fault: None };
         }

@@ -246,7 +246,7 @@ fn all_at_once(count: usize, folder: &Path, maps: &Path) {
     for map in verdicts {
         let word = map["verdict"].as_str().unwrap();
         assert!(matches!(word, "passes" | "load" | "accept"), "{map}");
-        assert!(word != "accept" || map["place"].is_object(), "{map}: no place");
+        assert!(word == "passes" || map["place"].is_object(), "{map}: no place");
         assert_eq!(map["picture"].is_string(), word != "passes", "{map}");
         pictures += usize::from(map["picture"].is_string());
         *numbers.entry(format!("{word} {}", map["number"])).or_default() += 1;

@@ -2,7 +2,7 @@
 
 use crate::args::OneFile;
 use crate::failure::Failure;
-use crate::layout::{Directory, Fields, HEADER, SECTIONS};
+use crate::layout::{Directory, Fields, ENTRY, SECTIONS, VERSION};
 use crate::map::Source;
 use crate::out::{self, Report};
 use crate::place::Place;
@@ -83,11 +83,13 @@ fn decoded(bytes: &[u8], place: &Place) -> Option<Decoded> {
 
 /// The bytes of a place: where they begin and how many they are.
 fn marked(place: &Place, record: Option<&Decoded>) -> Option<(usize, usize)> {
-    match (record, place.section_number(), place.byte) {
-        (Some(record), ..) => Some((record.byte, record.size)),
-        (None, None, None) => Some((0, HEADER)),
-        (None, _, byte) => Some((byte?, 1)),
-    }
+    let byte = place.byte?;
+    Some(match (record, place.section_number()) {
+        (Some(record), _) => (record.byte, record.size),
+        (None, Some(_)) => (byte, 1),
+        // the version, or an entry of the directory
+        (None, None) => (byte, if byte < VERSION { VERSION } else { ENTRY }),
+    })
 }
 
 /// Some bytes and those around them, by whole lines. Of many the first ones are shown.
@@ -119,7 +121,7 @@ impl Report for Why {
         }
         match &self.verdict.place {
             Some(place) => self.place(out, place),
-            None => writeln!(out, "place    the library does not say"),
+            None => writeln!(out, "place    not found"),
         }
     }
 }
