@@ -740,11 +740,40 @@ static inline uint32_t bsp_map_texture_static(const struct bsp_map *map, uint64_
     return bsp_texture_static(BSP_LENT(map), number, index, 1);
 }
 
+/* The new numbers of all textures, by their numbers in the file (bsp_texture_numbers). */
+static inline uint32_t bsp_map_texture_numbers(const struct bsp_map *map, struct bsp_list *list)
+{
+    uint64_t count = 0;
+    return bsp_listed(bsp_texture_numbers(BSP_LENT(map), bsp_entries(list), list->room, &count, 1), &count,
+                      list);
+}
+
 /* The number in the file of a frame (bsp_texture_frame). */
 static inline uint32_t bsp_map_texture_frame(const struct bsp_map *map, uint64_t number, uint32_t group,
                                              uint64_t place, uint64_t *index)
 {
     return bsp_texture_frame(BSP_LENT(map), number, group, place, index, 1);
+}
+
+/* ---- made-up maps ---- */
+
+/* Bytes that the caller lends: how many there is room for, and how many were written. */
+struct bsp_buffer {
+    uint8_t *bytes;
+    size_t room;
+    size_t length;
+};
+
+/* The file of a made-up map of 1 to 500 nodes (bsp_made_up). */
+static inline uint32_t bsp_buffer_made_up(uint32_t seed, uint64_t nodes, struct bsp_buffer *buffer)
+{
+    static uint8_t none[1];
+    uint64_t length;
+    uint32_t refusal = bsp_made_up(seed, nodes, buffer->bytes != NULL ? buffer->bytes : none, buffer->room,
+                                   &length, 1);
+    if (refusal == BSP_OK)
+        buffer->length = (size_t)length;
+    return refusal;
 }
 
 #ifdef __cplusplus

@@ -369,6 +369,8 @@ static void lists(const struct bsp_hull *hull)
     listed("bsp_map_trace_nodes", bsp_map_trace_nodes(map, hull, segment, &list), " 20 22 23 30 32 ", &list);
     list = list_of();
     listed("bsp_map_pvs", bsp_map_pvs(map, below(2) == 0 ? below(8) : number(), leaf_count, &list), " 20 22 23 33 ", &list);
+    list = list_of();
+    listed("bsp_map_texture_numbers", bsp_map_texture_numbers(map, &list), " 22 23 ", &list);
     for (i = 0; i < players; i++)
         leaves[i] = below(8) == 0 ? number() : below(6);
     list = list_of();
@@ -376,6 +378,28 @@ static void lists(const struct bsp_hull *hull)
            bsp_map_pvs_team(map, players == 0 ? NULL : leaves, players, leaf_count, &list), " 20 22 23 25 33 ", &list);
     if (front_changed())
         wrong("lists", "bytes before a buffer changed", 0);
+}
+
+/* A made-up map of any number of nodes in a buffer of any size: where it is answered, it loads and is
+   accepted. */
+static void made_up(void)
+{
+    struct bsp_map made;
+    struct bsp_buffer file;
+    uint64_t nodes = below(4) == 0 ? number() : below(510);
+    uint32_t r, seed = (uint32_t)next();
+    file.room = (size_t)(below(2) == 0 ? 249 + 52 * (nodes % 501) + below(3) - 1 : below(26300));
+    file.bytes = (uint8_t *)buffer(file.room);
+    file.length = 0;
+    r = bsp_buffer_made_up(seed, nodes, &file);
+    if (noted("bsp_buffer_made_up", r, " 22 29 ", file.bytes, file.room)) {
+        if (file.length > file.room || !filled(file.bytes + file.length, file.room - file.length))
+            wrong("bsp_buffer_made_up", "wrote past its answer", r);
+        else if ((r = bsp_map_load(&made, file.bytes, file.length)) != BSP_OK || (r = bsp_map_accept(&made)) != BSP_OK)
+            wrong("bsp_buffer_made_up", "its map is refused", r);
+    }
+    if (front_changed())
+        wrong("bsp_buffer_made_up", "bytes before a buffer changed", 0);
 }
 
 static void points(const struct bsp_hull *hull)
@@ -467,6 +491,7 @@ static int one_case(const struct map *sample)
     struct bsp_hull hull;
     uint8_t *copy = (uint8_t *)malloc(sample->length + 1);
     size_t length, i;
+    uint32_t r;
     int loaded;
     if (copy == NULL)
         stop("memory");
@@ -482,7 +507,11 @@ static int one_case(const struct map *sample)
     if (pages && mprotect(of_file.base, of_file.whole, PROT_READ) != 0)
         stop("mprotect");
     used = 0;
-    loaded = noted("bsp_map_load", bsp_map_load(map, of_file.start, length), "loading", map, sizeof *map);
+    r = bsp_map_load(map, of_file.start, length);
+    loaded = noted("bsp_map_load", r, "loading", map, sizeof *map);
+    calls++;
+    if (bsp_place_of(of_file.start, length).refusal != r)
+        wrong("bsp_place_of", "another refusal than loading's", r);
     if (!loaded) {
         map->file = of_file.start;
         map->length = length;
@@ -509,6 +538,7 @@ static int one_case(const struct map *sample)
         points(&hull);
         order();
     }
+    made_up();
     text();
     buffers[0] = of_file;
     buffers[1] = of_map;
