@@ -369,10 +369,12 @@ def vaults():
 
 def pools():
     map = Map("water, slime and lava")
-    rooms = [((-256, -256, 0), (256, 256, 192)), ((512, -256, 0), (1024, 256, 192)), ((1280, -256, 0), (1792, 256, 192)),
+    rooms = [((-256, -256, 0), (256, 256, 192)), ((512, -256, 0), (1024, 256, 192)),
+             ((1280, -256, 0), (1792, 256, 192)),
              ((256, -48, 0), (512, 48, 112)), ((1024, -48, 0), (1280, 48, 112)),
              # a basin in each room; a passage below the floor joins the first two
-             ((-192, -192, -128), (192, 192, 0)), ((576, -192, -160), (960, 192, 0)), ((1344, -192, -96), (1728, 192, 0)),
+             ((-192, -192, -128), (192, 192, 0)), ((576, -192, -160), (960, 192, 0)),
+             ((1344, -192, -96), (1728, 192, 0)),
              ((192, -40, -128), (576, 40, -48))]
     map.world.extend(shell(rooms, 16, STONE))
     map.world.append(box((-192, -192, -128), (192, 192, -16), "*water"))
@@ -423,13 +425,14 @@ def lock():
     map.light((656, 0, 320), 200)
     # the door: two leaves that slide apart
     for low, high, angle in ((-48, 0, 270), (0, 48, 90)):
-        map.put("func_door", [box((162, low, 0), (174, high, 112), "plate")], angle=str(angle), lip="4", targetname="leaves")
+        leaf = box((162, low, 0), (174, high, 112), "plate")
+        map.put("func_door", [leaf], angle=str(angle), lip="4", targetname="leaves")
     # the lift to the landing, the button that opens the door, a slanted block, a trap of two brushes
     map.put("func_plat", [box((464, -48, 184), (560, 48, 192), Look("plate", "tile"))], height="184")
     map.put("func_button", [box((152, 72, 40), (160, 96, 64), "+0switch")], target="leaves", angle="0")
     map.put("func_wall", [prism([(240, 0), (320, 0), (280, 96)], 1, 80, 144, "brick")])
-    map.put("func_door", [box((240, -140, 96), (304, -76, 104), "plank"), box((264, -116, 104), (280, -100, 128), "plank")],
-            angle="-2", targetname="trap")
+    trap = [box((240, -140, 96), (304, -76, 104), "plank"), box((264, -116, 104), (280, -100, 128), "plank")]
+    map.put("func_door", trap, angle="-2", targetname="trap")
     map.put("trigger_multiple", [box((-180, -40, 0), (-170, 40, 80), "trigger")], target="trap")
     map.put("trigger_teleport", [box((700, -32, 192), (716, 32, 272), "trigger")], target="home")
     map.point("info_teleport_destination", (0, 100, 32), targetname="home", angle="270")
@@ -522,7 +525,8 @@ def nave(bays=23):
             turn = draw.below(3)
             for low, top, radius in ((0, 16, 56), (16, 28, 48), (28, 352, 32), (352, 368, 44), (368, 392, 56)):
                 steps = 8 if low == 28 else 6 + turn
-                detail.append(prism([around((x, y), radius + turn, s, steps) for s in range(steps)], 2, low, top, "brick"))
+                outline = [around((x, y), radius + turn, s, steps) for s in range(steps)]
+                detail.append(prism(outline, 2, low, top, "brick"))
             # ribs from the capital to the ceiling
             for dx, dy in ((1, 0), (-1, 0), (0, 1), (0, -1)):
                 reach = 96 + 4 * draw.below(6)
@@ -537,7 +541,8 @@ def nave(bays=23):
                 y, deep = side * (64 + 96 * row), draw.between(20, 28)
                 top = draw.between(14, 22)
                 detail.append(box((x - 60, y - deep, 0), (x + 60, y + deep, top), "plank"))
-                back = [(y - side * deep, top), (y - side * (deep - 6), top), (y - side * (deep + 2), top + draw.between(16, 28))]
+                back = [(y - side * deep, top), (y - side * (deep - 6), top),
+                        (y - side * (deep + 2), top + draw.between(16, 28))]
                 detail.append(prism(back, 0, x - 60, x + 60, "plank"))
         for side in (-1, 1):
             wall = side * half
@@ -555,15 +560,16 @@ def nave(bays=23):
         for place in range(2):
             at, across = x - 64 + 128 * place, draw.between(-200, 200, 8)
             wide, deep = draw.between(24, 56), draw.between(24, 56)
-            detail.append(box((at - wide, across - deep, high - 12), (at + wide, across + deep, high), Look("plate", "plate", "+0lamp")))
+            low, top = (at - wide, across - deep, high - 12), (at + wide, across + deep, high)
+            detail.append(box(low, top, Look("plate", "plate", "+0lamp")))
             map.light((at, across, high - 40), 200)
         # posts below the ceiling and on the floor, on a grid, so that they share their planes
         for place in range(2):
             for row in range(-3, 4):
                 at, across = x - 64 + 128 * place, 128 * row
                 if abs(row) != 2:
-                    detail.append(box((at - 4, across - 4, 400), (at + 4, across + 4, 496 - 16 * draw.below(3)), "plank"))
-                    detail.append(box((at - 4, across - 4, 0), (at + 4, across + 4, 32 + 16 * draw.below(3)), "plank"))
+                    for low, top in ((400, 496 - 16 * draw.below(3)), (0, 32 + 16 * draw.below(3))):
+                        detail.append(box((at - 4, across - 4, low), (at + 4, across + 4, top), "plank"))
     map.put("func_detail", detail)
     map.start((128, 0, 40), 0)
     map.point("info_player_deathmatch", (long - 128, 0, 40), angle="180")
@@ -620,7 +626,8 @@ def textures():
         return 0 if x < 128 and grain[y][x] else 36 + grain[y // 8][x // 8]
 
     made = [("brick", 64, 64, brick), ("tile", 64, 64, tile), ("plank", 32, 32, plank), ("plate", 32, 32, plate),
-            ("earth", 64, 64, earth), ("trigger", 16, 16, lambda x, y: 244), ("skip", 16, 16, lambda x, y: 245), ("*water", 64, 64, waves(50)),
+            ("earth", 64, 64, earth), ("trigger", 16, 16, lambda x, y: 244), ("skip", 16, 16, lambda x, y: 245),
+            ("*water", 64, 64, waves(50)),
             ("*slime", 64, 64, waves(60)), ("*lava", 64, 64, waves(230)), ("*gate", 64, 64, waves(200)),
             ("sky", 256, 128, clouds)]
     for frame in range(4):
