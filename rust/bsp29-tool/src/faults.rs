@@ -175,35 +175,34 @@ impl Finder<'_> {
 
     fn in_rows(&self) -> Found {
         let count = self.map.leaves().len();
-        let mut list = vec![0; count];
+        let data = self.directory.bytes(self.map.file(), VISIBILITY);
+        let told = rows::told_from(data);
         for leaf in 1..count {
-            let listed = self.map.visible_leaves_into(leaf, count, &mut list);
-            if listed == Err(Refusal::RowOutsideData) {
-                return self.in_row(leaf, count).map(Some);
+            let Some(start) = self.map.leaves().get(leaf)?.visibility else { continue };
+            match told.get(start) {
+                Some(told) if told + 1 >= count => {}
+                told => return Ok(Some(self.in_row(leaf, start, told.copied()))),
             }
-            listed?;
         }
         Ok(None)
     }
 
-    /// The row of a leaf that is not whole.
-    fn in_row(&self, leaf: usize, count: usize) -> Result<Fault, Refusal> {
-        let start = self.map.leaves().get(leaf)?.visibility.unwrap_or(0);
-        let data = self.directory.bytes(self.map.file(), VISIBILITY);
-        let length = data.len();
-        let row = rows::row(data, start, count);
-        let what = match start > length {
-            true => format!("leaf {leaf}'s row begins at {start} of {length} bytes"),
-            false => format!(
-                "leaf {leaf}'s row begins at {start} of {length} bytes and runs off their end: it says {} of {} leaves, of which model 0 has {}",
-                row.leaves,
-                count - 1,
-                map::leaf_count(self.map).saturating_sub(1)
-            ),
-        };
+    /// The row of a leaf that is not whole: where it begins, and how many leaves it tells of, if that is
+    /// within the data.
+    fn in_row(&self, leaf: usize, start: usize, told: Option<usize>) -> Fault {
+        let (leaves, world) = (self.map.leaves().len(), map::leaf_count(self.map));
+        let length = self.directory.bytes(self.map.file(), VISIBILITY).len();
+        let mut what = format!("leaf {leaf}'s row begins at {start} of {length} bytes");
+        if let Some(told) = told {
+            what += &format!(
+                " and runs off their end: it says {told} of {} leaves, of which model 0 has {}",
+                leaves.saturating_sub(1),
+                world.saturating_sub(1)
+            );
+        }
         let fault = self.astray((LEAVES, leaf, "visibility"), what, Mark::Leaf(leaf));
         let row = self.directory.position(VISIBILITY, start.min(length));
-        Ok(Fault { row: row.map(|at| (at, length.saturating_sub(start))), ..fault })
+        Fault { row: row.map(|at| (at, length.saturating_sub(start))), ..fault }
     }
 
     fn in_trees(&self) -> Found {

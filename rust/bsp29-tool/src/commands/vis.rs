@@ -116,7 +116,7 @@ impl<'a> Rows<'a> {
                     *seen = true;
                 }
             }
-            let bytes = rows::row(self.data, offset, self.count).bytes;
+            let bytes = rows::length(self.data, offset, self.count);
             Read { seen: listed.len(), bytes }
         });
         self.known.insert(offset, read);
