@@ -269,3 +269,50 @@ fn a_map_that_takes_too_long_has_its_own_verdict() {
     assert_eq!(said["maps"][1]["verdict"], "passes");
     assert_eq!(said["summary"]["out_of_time"], 1);
 }
+
+/// A command of docs/TOOL.md and the lines that are printed below it there.
+fn documented() -> Vec<(String, Vec<String>)> {
+    let page = fs::read_to_string(root().join("docs/TOOL.md")).unwrap();
+    let mut cases: Vec<(String, Vec<String>)> = Vec::new();
+    let mut within = false;
+    for line in page.lines() {
+        match (line.strip_prefix("    $ bsp29 "), line.strip_prefix("    ")) {
+            (Some(command), _) => cases.push((command.to_string(), Vec::new())),
+            (None, Some(shown)) if within => cases.last_mut().unwrap().1.push(shown.to_string()),
+            (None, None) if within && line.is_empty() => {
+                cases.last_mut().unwrap().1.push(String::new());
+            }
+            _ => {
+                within = false;
+                continue;
+            }
+        }
+        within = true;
+    }
+    cases
+}
+
+/// Whether lines are those of an output; two dots stand for lines that are left out.
+fn are_printed(lines: &[String], output: &str) -> bool {
+    let lines: Vec<&str> = lines.iter().map(String::as_str).collect();
+    let text = lines.join("\n");
+    let mut left = output;
+    for (n, part) in text.trim_end().split("..\n").enumerate() {
+        match left.find(part.trim_end()) {
+            Some(at) if n > 0 || at == 0 => left = &left[at + part.trim_end().len()..],
+            _ => return false,
+        }
+    }
+    text.contains("..\n") || left.trim_end().is_empty()
+}
+
+#[test]
+fn the_cases_of_the_docs_are_what_is_printed() {
+    let cases = documented();
+    assert!(cases.len() >= 7);
+    for (command, lines) in cases.iter().filter(|(command, _)| !command.starts_with("picture")) {
+        let output = run(&command.split(' ').collect::<Vec<_>>());
+        let output = String::from_utf8(output.stdout).unwrap();
+        assert!(are_printed(lines, &output), "{command}\n{}\nprinted\n{output}", lines.join("\n"));
+    }
+}
