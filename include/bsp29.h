@@ -25,8 +25,9 @@
  *   - A list that is written (no const) shares no bytes with another list of the same call.
  *
  * Every list has a least length, said with each call; a list may be longer. A list that is too
- * short is 22, before anything else is looked at, but for the lists that hold answers of any
- * length (the parameters called list, and marks), where 22 comes in its place in the order said.
+ * short is 22, before anything else is looked at (but for 24 of bsp_contents_points and 29 of
+ * bsp_made_up, which come first), and but for the lists that hold answers of any length (the
+ * parameters called list, and marks), where 22 comes in its place in the order said.
  *
  * A float in a word is its 32 bits (bsp_float), every NaN 0x7fc00000. A signed number in a word is
  * its two's complement in 64 bits: cast the word to int64_t. A flag is 0 or 1.

@@ -201,7 +201,7 @@ fn timed(side: &mut (impl FnMut() -> u64 + ?Sized)) -> f64 {
 }
 
 /// The processor time of this thread in nanoseconds: other work on the machine does not count.
-fn clock() -> f64 {
+pub(crate) fn clock() -> f64 {
     #[repr(C)]
     struct Time {
         seconds: i64,

@@ -3,6 +3,7 @@
 
 use maps::record::{self, Tables};
 
+use crate::bench::clock;
 use crate::calls::Calls;
 use crate::loads::packed;
 use crate::paper::MAP_WORDS;
@@ -37,26 +38,13 @@ pub fn run() -> bool {
     true
 }
 
-/// The seconds of one call, of so many.
+/// The seconds of one call, of so many, by the processor time of this thread.
 fn seconds(times: u32, mut call: impl FnMut()) -> f64 {
-    let start = processor_time();
+    let start = clock();
     for _ in 0..times {
         call();
     }
-    (processor_time() - start) / times as f64
-}
-
-extern "C" {
-    fn clock_gettime(clock: i32, time: *mut [i64; 2]) -> i32;
-}
-
-/// The processor time of this thread, in seconds.
-fn processor_time() -> f64 {
-    const THREAD: i32 = 3;
-    let mut time = [0; 2];
-    // SAFETY: on 64-bit Linux the time is two signed numbers of 64 bits, seconds and nanoseconds.
-    assert_eq!(unsafe { clock_gettime(THREAD, &mut time) }, 0, "the clock is read");
-    time[0] as f64 + time[1] as f64 / 1e9
+    (clock() - start) / 1e9 / times as f64
 }
 
 /// The smallest map with a texture section at its end, whose size is where reading stops.
