@@ -34,7 +34,7 @@ abbrev pub groupsBy : ℕ → ℕ → ℕ → ℕ → ℕ
 groupsBy zero count next after = after + count
 groupsBy (suc b) count next after = next + 1
 
--- the notes after those of a position are put there: the first two of every 64 positions have one
+-- where the note of a position stands among the notes: the first two of every 64 positions have one
 abbrev pub noteOf : ℕ → ℕ
 noteOf at = at / 64 * 2 + at % 64
 

@@ -27,7 +27,7 @@ use Rattle.records.specs.declared.number.ReadOffset.{ReadOffset}
 use Rattle.records.specs.declared.number.ReadOffset.the-variants as Off
 use Rattle.sections.specs.Table.{isVersion, exceeds}
 use Rattle.place.specs.Part.{done, span, sectionSpan, idOf, lacksModels, limitAt, stopIn}
-use Rattle.place.specs.Place.{noMap, versionStop, startOf, startAt, listStop, headerStart}
+use Rattle.place.specs.Place.{noMap, versionStop, startAt, listStop}
 use Rattle.place.specs.Stop.{stop, hereOr}
 use Rattle.place.specs.declared.part.Part.the-variants.{Directory, Offsets, Textures}
 use Rattle.place.specs.declared.part.Stop.{Stop}

@@ -1,6 +1,7 @@
 -- Where loading refuses a file: the number that it answers, and the section, the record and the byte at which the reader stands that refuses.
 -- The steps are those of loading, in its order (load/specs/Load.antt); sections are named by their numbers in the directory, 15 is the header.
--- A section that does not end where it should (7) stops after its last record.
+-- The byte is the first of the record whose reader refuses. A section of records that does not end where it should (7) stops after its last
+-- one; the entity text, visibility data and lightmaps are named by their start, and the textures, once all are read, by their section's end.
 use Prim.Native.Nat.{ℕ, _+_}
 use mathlib.Core.List.{List}
 use lib.Dec.{ltb}
