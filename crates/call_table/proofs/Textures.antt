@@ -1,0 +1,14 @@
+-- The table of specs/Textures.antt, computed. Assumes nothing.
+use mathlib.Core.Path.{_≡_, refl}
+use Rattle.format.specs.Field.{u32At, i32At, indexAt}
+use Rattle.records.specs.Number.{numberAt, offsetAt, offsetOf}
+use Rattle.sections.specs.Row.{records}
+use Rattle.textures.specs.Name.{lowered, charAt, chars, isAscii, same}
+use Rattle.textures.specs.Count.{any}
+use Rattle.textures.specs.Group.{sequenced}
+use Rattle.textures.specs.Section.{textures, texturesAt, listed, listedAt, textureAt, picturesAt, stopOf, namesOf}
+use Rattle.call_table.specs.Textures.{trials, each}
+
+pub all-hold : each (λ t. t .definition) trials ≡ each (λ t. t .note) trials
+unfolding trials each textures texturesAt listed listedAt textureAt picturesAt stopOf isAscii u32At i32At indexAt numberAt offsetAt offsetOf records sequenced any namesOf chars charAt lowered same
+all-hold = refl
