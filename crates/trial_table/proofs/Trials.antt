@@ -5,6 +5,7 @@ use Rattle.float.specs.Root.{sqrt, rootOfUnits, nearestRoot, digits}
 use Rattle.float.specs.Whole.{ofWhole, floorOf, ceilOf, times16}
 use Rattle.math.specs.Vector.{normalize}
 use Rattle.math.specs.Plane.{newPlane, lineSegment}
+use Rattle.math.specs.Box.{boxSide}
 use Rattle.format.specs.Contents.{equal}
 use Rattle.format.specs.Code.{contentsOf, negatedContents}
 use Rattle.format.specs.Field.{u16At, u32At, i16At, i32At, f32At, indexAt}
@@ -13,6 +14,7 @@ use Rattle.phys.specs.Trace as Tr
 use Rattle.walk.specs.Walk.{enter, meet, walk}
 use Rattle.walk.specs.Trace.{recursiveTrace}
 use Rattle.walk.specs.TreeCheck.{checkNode, treeCheck}
+use Rattle.walk.specs.Order.{nodesBelow, sizedCheck}
 use Rattle.records.specs.Access.{recordOf}
 use Rattle.records.specs.Leaf.{contentsAt, leafEndAt, leafAt}
 use Rattle.records.specs.Node.{renderChild, renderChildAt, renderNodeEndAt, renderNodeAt, collisionNodeAt, collisionChildAt}
@@ -21,7 +23,7 @@ use Rattle.records.specs.Plane.{filePlane, planeAt}
 use Rattle.records.specs.Triple.{vectorAt, pointAt}
 use Rattle.faces.specs.Extents.{extent}
 use Rattle.models.specs.Model.{paddedBounds, boundsAt, rootsAt, fileModelEndAt, fileModelAt, leafIdOf, modelOf}
-use Rattle.models.specs.Text.{textEnd}
+use Rattle.models.specs.Text.{textEnd, entitiesOf}
 use Rattle.nodes.specs.Tables.{tableOf}
 use Rattle.nodes.specs.Fast.{contentsMet}
 use Rattle.hull.specs.Hull.{forBounds, hull}
@@ -40,5 +42,5 @@ use Rattle.load.specs.Tested.{texinfos, faces, outside, referencesAt, leafRefer
 use Rattle.trial_table.specs.Trials.{trials, each}
 
 pub all-hold : each (λ t. t .definition) trials ≡ each (λ t. t .document) trials
-unfolding trials each contentsAt leafEndAt leafAt renderChild renderChildAt renderNodeEndAt renderNodeAt index16At offsetOf offsetAt pointAt outside referencesAt loadAt headerAt i32At u32At f32At isVersion tableAt threeSectionsAt sectionAt isMultiple indexAt tableEndAt limits limitsFromLeaves exceeds recordCount entities textEnd isUtf8 run next lead whole fromPlanes Textures.textures texturesAt listed sequenced any section records numberAt fromVertices blob fromTexinfo texinfos faces fromCollisionNodes fromEdges fromExtents faceExtents leafReferences fileModelAt fileModelEndAt boundsAt rootsAt vectorAt paddedBounds leafIdOf modelOf rowAt rowBits bits visible forBounds hull tableOf walk enter meet recursiveTrace ofWhole ofBits add sub mul div neg lt le eq toSigned lineSegment newPlane normalize sqrt rootOfUnits nearestRoot digits equal Tr.join extent floorOf ceilOf times16 isBad treeCheck checkNode recordOf place collisionNodeAt collisionChildAt planeAt filePlane i16At u16At negatedContents contentsOf contentsMet
+unfolding trials each contentsAt leafEndAt leafAt renderChild renderChildAt renderNodeEndAt renderNodeAt index16At offsetOf offsetAt pointAt outside referencesAt loadAt headerAt i32At u32At f32At isVersion tableAt threeSectionsAt sectionAt isMultiple indexAt tableEndAt limits limitsFromLeaves exceeds recordCount entities textEnd isUtf8 run next lead whole fromPlanes Textures.textures texturesAt listed sequenced any section records numberAt fromVertices blob fromTexinfo texinfos faces fromCollisionNodes fromEdges fromExtents faceExtents leafReferences fileModelAt fileModelEndAt boundsAt rootsAt vectorAt paddedBounds leafIdOf modelOf rowAt rowBits bits visible forBounds hull tableOf walk enter meet recursiveTrace ofWhole ofBits add sub mul div neg lt le eq toSigned lineSegment newPlane normalize sqrt rootOfUnits nearestRoot digits equal Tr.join extent floorOf ceilOf times16 isBad treeCheck checkNode recordOf place collisionNodeAt collisionChildAt planeAt filePlane i16At u16At negatedContents contentsOf contentsMet boxSide entitiesOf nodesBelow sizedCheck
 all-hold = refl

@@ -7,9 +7,14 @@ use lib.IntN.{ℤ, pos, negsuc}
 use lib.Ieee.{Float, fin, nan}
 use lib.ListN.{replicate}
 use Rattle.float.specs.Whole.{ofWhole}
-use Rattle.math.specs.Vector.{vector}
-use Rattle.math.specs.Plane.{axisX, withNormal}
+use Rattle.math.specs.Vector.{vector, dot, normalize}
+use Rattle.math.specs.Plane.{axisX, axisY, withNormal, newPlane}
+use Rattle.math.specs.Box.{boxSide}
 use Rattle.math.specs.declared.Vector3.{Vector3}
+use Rattle.math.specs.declared.Hyperplane.{Hyperplane}
+use Rattle.math.specs.declared.BoxSide.{BoxSide}
+use Rattle.math.specs.declared.BoxSide.the-variants.{One, Both}
+use Rattle.math.specs.declared.HyperplaneSide.the-variants.{Negative}
 use Rattle.format.specs.Answer.{Answer, answer, refused, mapped, thenAnswer}
 use Rattle.format.specs.Listed.{Listed, listed, into}
 use Rattle.format.specs.declared.contents.BspLeafContents.{BspLeafContents}
@@ -19,21 +24,23 @@ use Rattle.format.specs.declared.section.BspFileSection.{BspFileSection}
 use Rattle.phys.specs.Trace as Tr
 use Rattle.phys.specs.declared.Trace.{Trace}
 use Rattle.phys.specs.declared.TraceEnd.{TraceEnd}
-use Rattle.walk.specs.Walk.{withVisits, pointWalk}
+use Rattle.walk.specs.Walk.{Outcome, done, refused as stopped, withVisits, pointWalk}
 use Rattle.walk.specs.Trace as Tracing
 use Rattle.walk.specs.TreeCheck.{Checked, checked, treeCheck}
 use Rattle.faces.specs.Extents.{extent}
 use Rattle.nodes.specs.Tables.{nodesOf, tableOf}
 use Rattle.nodes.specs.Fast.{tablesOf, contentsMet}
 use Rattle.nodes.specs.declared.table.HullTable.the-variants.{Clip, Box}
-use Rattle.hull.specs.Hull.{forBounds, hull, hullTable}
+use Rattle.models.specs.Text.{entitiesOf}
+use Rattle.hull.specs.Hull.{forBounds, hull, hullTable, checkHull}
 use Rattle.hull.specs.declared.collision.BspCollisionHull.{BspCollisionHull}
 use Rattle.vis.specs.Row.{rowAt}
 use Rattle.load.specs.Extents.{isBad}
 use Rattle.load.specs.Load.{loadOf}
 
 -- what is said of a case: of loading a file, of a visibility row, of the contents at a point and the visits, of a trace and the visits, of
--- an extent and whether it is refused with 12, of the tree check and the marks
+-- an extent and whether it is refused with 12, of the tree check and the marks, of a vector, of a plane, of the side of a box, of the nodes
+-- that a walk enters
 pub data Said : Type 0 where
   loading : Answer BspData → Said
   row : Answer (List ℕ) → Said
@@ -42,6 +49,10 @@ pub data Said : Type 0 where
   traced : Answer (Trace × ℕ) → Said
   extents : ℤ → Bool → Said
   check : Checked → Said
+  point : Vector3 → Said
+  plane : Hyperplane → Said
+  side : BoxSide → Said
+  entered : List ℕ → Said
 
 pub record Trial : Type 0 where
   pub definition : Said
@@ -69,6 +80,13 @@ one = fin false 1 (pos 0)
 
 abbrev pub minusOne : Float
 minusOne = fin true 1 (pos 0)
+
+-- 2^30, beside which 1 is lost, and its negative
+abbrev pub large : Float
+large = fin false 1 (pos 30)
+
+abbrev pub minusLarge : Float
+minusLarge = fin true 1 (pos 30)
 
 -- (x, 0, 0)
 abbrev pub onX : Float → Vector3
@@ -139,6 +157,12 @@ oneLeaf child =
     furnished (replicate 16 0 ++ (word 193 ++ (word 24 ++ (replicate 32 0 ++ (word 217 ++ (word 28 ++ replicate 24 0))))))
     (word 0 ++ (child ∷ 255 ∷ child ∷ 255 ∷ (replicate 16 0 ++ (replicate 4 255 ++ replicate 24 0))))
 
+-- a render node at 193 and a leaf at 217; the node's first face has the low byte 0 and the high byte given
+abbrev pub faceFrom : ℕ → List ℕ
+faceFrom high =
+    furnished (replicate 16 0 ++ (word 193 ++ (word 24 ++ (replicate 32 0 ++ (word 217 ++ (word 28 ++ replicate 24 0))))))
+    (word 0 ++ (replicate 4 255 ++ (replicate 12 0 ++ (0 ∷ high ∷ 0 ∷ 0 ∷ (replicate 4 255 ++ replicate 24 0)))))
+
 -- the contents at a point of a hull of the first model
 abbrev pub inModel : List ℕ → BspData → ℕ → Vector3 → Said
 inModel file map index p = contents (thenAnswer (hull file map 0 index) (λ h. withVisits (pointWalk (hullTable file map h) (h .«node_id») p)))
@@ -151,6 +175,18 @@ box = forBounds (vector minusOne minusOne minusOne) (vector one one one)
 abbrev pub inBox : Vector3 → Said
 inBox p = contents (thenAnswer box (λ h. withVisits (pointWalk (hullTable [] smallestMap h) (h .«node_id») p)))
 
+-- the nodes on the way to a point, in order
+abbrev pub nodesTo : {A : Type 0} → Outcome A → Answer (List ℕ)
+nodesTo (done a ns) = answer ns
+nodesTo (stopped n) = refused n
+
+abbrev pub numbersOr : Answer (List ℕ) → List ℕ
+numbersOr (answer ns) = ns
+numbersOr (refused n) = []
+
+abbrev pub enteredInBox : Vector3 → Said
+enteredInBox p = entered (numbersOr (thenAnswer box (λ h. nodesTo (pointWalk (hullTable [] smallestMap h) (h .«node_id») p))))
+
 abbrev pub throughBox : Vector3 → Vector3 → Said
 throughBox start end = traced (thenAnswer box (λ h. withVisits (Tracing.trace (hullTable [] smallestMap h) (h .«node_id») start end)))
 
@@ -162,6 +198,10 @@ tracedFrom start end c solid visits = traced (answer (Tr.trace (Tr.start start z
 
 abbrev pub ofDifference : ℕ → Said
 ofDifference d = extents (extent zero32 (ofWhole false (16 * d))) (isBad false (extent zero32 (ofWhole false (16 * d))))
+
+-- the same from 0 to a number of texture units
+abbrev pub ofSpan : ℕ → Said
+ofSpan n = extents (extent zero32 (ofWhole false n)) (isBad false (extent zero32 (ofWhole false n)))
 
 -- ---- two clip nodes of one plane, the plane x = 0; a node is given by the bytes of its children
 
@@ -179,6 +219,17 @@ inClip first second p = contents (withVisits (pointWalk (tableOf (clipFile first
 
 abbrev pub throughClip : List ℕ → List ℕ → Vector3 → Vector3 → Said
 throughClip first second start end = traced (withVisits (Tracing.trace (tableOf (clipFile first second) clipMap Clip start end) 0 start end))
+
+-- the same where the file ends inside the plane's last byte
+abbrev pub cutPlane : List ℕ → List ℕ → Vector3 → Said
+cutPlane first second p = contents (withVisits (pointWalk (tableOf (word 0 ++ (first ++ (word 0 ++ (second ++ (replicate 19 0))))) clipMap Clip p p) 0 p))
+
+-- a hull of these nodes with root 0, made by hand; how many nodes the check of a hull fills in
+abbrev pub clipHull : BspCollisionHull
+clipHull = record { table = Clip; «node_id» = 0; «node_count» = 2; mins = onX zero32; maxs = onX zero32; «tree_nodes» = 0; «tree_height» = 0 }
+
+abbrev pub sizeBelow : List ℕ → List ℕ → Said
+sizeBelow first second = contents (mapped (λ h. (Empty, h .«tree_nodes»)) (checkHull (clipFile first second) clipMap clipHull (0 ∷ 0 ∷ []) .answer))
 
 -- what a word says where it is met as an end of a clip table; no node is entered
 abbrev pub metInClip : ℕ → Said
@@ -262,4 +313,26 @@ trials =
     gives tracedFrom (onX one) (Tr.boundary (onX zero32) half (axisX zero32)) Sky false 1)
     -- sky on both sides of the plane: the trace goes on behind it, to its end
     ∷ (throughClip (250 ∷ 255 ∷ 250 ∷ 255 ∷ []) (255 ∷ 255 ∷ 254 ∷ 255 ∷ []) (onX one) (onX minusOne) gives tracedFrom (onX one) (Tr.terminal (onX minusOne)) Sky false 1)
+    -- a dot product adds from left to right: 1 and 2^30 are 2^30, and with -2^30 it is 0
+    ∷ (point (onX (dot (vector one large minusLarge) (vector one one one))) gives point (onX zero32))
+    -- (0, 0, 2) normalised is (0, 0, 1); the plane of the normal (0, 1, 0) is one along y
+    ∷ (point (normalize (vector zero32 zero32 (fin false 1 (pos 1)))) gives point (vector zero32 zero32 one))
+    ∷ (plane (newPlane (vector zero32 one zero32) one) gives plane (axisY one))
+    -- the box lies behind the plane x = 4, and goes to both sides of the plane x = 0
+    ∷ (side (boxSide (axisX (fin false 1 (pos 2))) (vector minusOne minusOne minusOne) (vector one one one)) gives side (One Negative))
+    ∷ (side (boxSide (axisX zero32) (vector minusOne minusOne minusOne) (vector one one one)) gives side Both)
+    -- 17 texture units are two steps of 16: the values are divided before they are rounded
+    ∷ (ofSpan 17 gives extents (pos 32) false)
+    -- a render node's first face with the bytes 0 and 128 is negative: 10
+    ∷ (loading (loadOf (faceFrom 128)) gives loading (refused 10))
+    -- the entity text of the 193-byte map is its zero byte; that of a section that leads outside the bytes: 23
+    ∷ (contents (mapped (λ p. (Empty, p .size)) (entitiesOf (smallest 29 64) smallestMap)) gives contents (answer (Empty, 1)))
+    ∷ (contents (mapped (λ p. (Empty, 0)) (entitiesOf [] smallestMap)) gives contents (refused 23))
+    -- the nodes on the way to the middle of the box, each once; its hull has no size of its tree
+    ∷ (enteredInBox (onX zero32) gives entered (0 ∷ 1 ∷ 2 ∷ 3 ∷ 4 ∷ 5 ∷ []))
+    ∷ (contents (mapped (λ h. (Empty, h .«tree_nodes»)) box) gives contents (answer (Empty, 0)))
+    -- node 0 with node 1 in front: two nodes
+    ∷ (sizeBelow (1 ∷ 0 ∷ 255 ∷ 255 ∷ []) (255 ∷ 255 ∷ 254 ∷ 255 ∷ []) gives contents (answer (Empty, 2)))
+    -- a record whose last byte is not there: 23
+    ∷ (cutPlane (255 ∷ 255 ∷ 254 ∷ 255 ∷ []) (255 ∷ 255 ∷ 254 ∷ 255 ∷ []) (onX one) gives contents (refused 23))
     ∷ []
