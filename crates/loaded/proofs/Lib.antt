@@ -3,3 +3,4 @@ pub mod EveryFile
 pub mod Refusals
 pub mod Loading
 pub mod StartedSolid
+pub mod EntityText
