@@ -3,7 +3,7 @@ use Prim.Native.Nat.{ℕ}
 use mathlib.Core.List.{List}
 use lib.Ieee.{Float}
 use Rattle.format.specs.Answer.{Answer, answer, refused, mapped, thenAnswer}
-use Rattle.words.specs.Words.{Left, left, enough, beside, given, numberWords, mapOf}
+use Rattle.words.specs.Words.{Left, left, enough, beside, given, numberWords, mapLength, mapOf}
 use Rattle.walk.specs.TreeCheck.{Checked}
 use Rattle.walk.specs.BoxWalk.{boxContents}
 use Rattle.hull.specs.Hull.{hullTable}
@@ -16,6 +16,6 @@ checkedOn (refused n) marks out = left n marks out
 
 unfoldable pub bspContentsBox : List ℕ → List ℕ → List ℕ → List Float → List ℕ → List ℕ → Left
 bspContentsBox s map hull bounds marks out =
-    enough 31 map marks out (enough hullAsked hull marks out (enough 6 bounds marks out (enough 1 out marks out
+    enough mapLength map marks out (enough hullAsked hull marks out (enough 6 bounds marks out (enough 1 out marks out
     (checkedOn (thenAnswer (hullFrom hull) (λ h.
     answer (boxContents (hullTable s (mapOf map) h) (pointAt bounds 0) (pointAt bounds 3) marks (h .«node_id»)))) marks out))))

@@ -2,7 +2,7 @@
 use Prim.Native.Nat.{ℕ}
 use mathlib.Core.List.{List}
 use Rattle.format.specs.Answer.{Answer, answer, refused, mapped}
-use Rattle.words.specs.Words.{Left, left, given, enough, beside, mapOf}
+use Rattle.words.specs.Words.{Left, left, given, enough, beside, mapLength, mapOf}
 use Rattle.hull.specs.Hull.{HullChecked, checkHull}
 use Rattle.hull.specs.declared.collision.BspCollisionHull.{BspCollisionHull}
 use Rattle.ffi_hull.specs.Layout.{hullLength, hullAsked, hullFrom, hullWords}
@@ -17,5 +17,5 @@ hullCheckOf (refused n) s map marks out = left n marks out
 
 unfoldable pub bspHullCheck : List ℕ → List ℕ → List ℕ → List ℕ → List ℕ → Left
 bspHullCheck s map hull marks out =
-    enough 31 map marks out (enough hullAsked hull marks out (enough hullLength out marks out
+    enough mapLength map marks out (enough hullAsked hull marks out (enough hullLength out marks out
     (hullCheckOf (hullFrom hull) s map marks out)))

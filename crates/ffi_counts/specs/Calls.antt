@@ -7,7 +7,7 @@ use Rattle.format.specs.Step.{when}
 use Rattle.format.specs.Section.{sectionOf, recordCount}
 use Rattle.format.specs.declared.section.BspData.{BspData}
 use Rattle.format.specs.declared.section.BspFileSectionId.the-variants.{Entities, Planes, Textures, Vertices, Visibility, RenderNodes, TextureInfo, Faces, Lightmaps, CollisionNodes, Leaves, FaceList, Edges, EdgeList, Models}
-use Rattle.words.specs.Words.{Written, given, atLeast, numberWords, mapOf}
+use Rattle.words.specs.Words.{Written, given, atLeast, numberWords, mapLength, mapOf}
 use Rattle.models.specs.Text.{Part, entitiesOf}
 use Rattle.ffi_counts.specs.declared.SectionNumbered.{SectionNumbered}
 use Rattle.ffi_counts.specs.declared.SectionNumbered.the-variants.{Section, NoSection}
@@ -38,11 +38,14 @@ countIn (Section id) m = answer (recordCount id (sectionOf id m))
 countIn NoSection m = refused 20
 
 unfoldable pub bspCount : List ℕ → ℕ → List ℕ → Written
-bspCount map section out = atLeast 31 map out (atLeast 1 out out (given (mapped numberWords (countIn (sectionNumbered section) (mapOf map))) out))
+bspCount map section out = atLeast mapLength map out (atLeast 1 out out (given (mapped numberWords (countIn (sectionNumbered section) (mapOf map))) out))
 
 -- where the entity text lies, and its length
+abbrev pub partLength : ℕ
+partLength = 2
+
 abbrev pub partWords : Part → List ℕ
 partWords p = p .offset ∷ p .size ∷ []
 
 unfoldable pub bspEntities : List ℕ → List ℕ → List ℕ → Written
-bspEntities s map out = atLeast 31 map out (atLeast 2 out out (given (mapped partWords (entitiesOf s (mapOf map))) out))
+bspEntities s map out = atLeast mapLength map out (atLeast partLength out out (given (mapped partWords (entitiesOf s (mapOf map))) out))

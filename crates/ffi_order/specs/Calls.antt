@@ -8,14 +8,14 @@ use lib.Ieee.{Float}
 use lib.ListN.{length}
 use Rattle.format.specs.Answer.{mapped}
 use Rattle.format.specs.declared.section.BspData.{BspData}
-use Rattle.words.specs.Words.{Written, given, atLeast, numberWords, mapOf, sectionAt}
+use Rattle.words.specs.Words.{Written, given, atLeast, numberWords, mapLength, mapOf, sectionAt}
 use Rattle.walk.specs.Walk.{withVisits, pointWalk}
 use Rattle.walk.specs.Trace as Tracing
 use Rattle.walk.specs.Writing.{InOrder, orderNodes}
 use Rattle.ordered.specs.Same.{fileNodes, fileRows}
 use Rattle.ffi_hull.specs.Layout.{noSection, pointAt}
-use Rattle.ffi_walks.specs.Calls.{contentsWords}
-use Rattle.ffi_traces.specs.Layout.{traceWords}
+use Rattle.ffi_walks.specs.Calls.{contentsLength, contentsWords}
+use Rattle.ffi_traces.specs.Layout.{traceLength, traceWords}
 
 -- what `bsp_order` says, and what is in the marks, in the table and in `out` afterwards
 pub record Ordering : Type 0 where
@@ -41,19 +41,19 @@ needs n ws short rest = cond (ltb (length ws) n) short rest
 -- the table is 0 (render nodes) or 1 (clip nodes), else 20
 unfoldable pub bspOrder : List ℕ → List ℕ → ℕ → ℕ → List ℕ → List ℤ → List ℕ → Ordering
 bspOrder s map table root marks list out =
-    needs 31 map (ordering 22 marks list out) (needs 1 out (ordering 22 marks list out)
+    needs mapLength map (ordering 22 marks list out) (needs 1 out (ordering 22 marks list out)
     (cond (ltb table 2)
     (orderedIn (orderNodes (fileNodes s (mapOf map) (eqb table 0)) marks root list) out)
     (ordering 20 marks list out)))
 
 unfoldable pub bspOrderContents : List ℕ → List ℕ → List ℤ → ℕ → List Float → List ℕ → Written
 bspOrderContents s map list root point out =
-    atLeast 31 map out (atLeast 3 point out (atLeast 2 out out
+    atLeast mapLength map out (atLeast 3 point out (atLeast contentsLength out out
     (given (mapped contentsWords (withVisits (pointWalk (fileRows s (mapOf map) list) root (pointAt point 0)))) out)))
 
 unfoldable pub bspOrderTrace : List ℕ → List ℕ → List ℤ → ℕ → List Float → List ℕ → Written
 bspOrderTrace s map list root segment out =
-    atLeast 31 map out (atLeast 6 segment out (atLeast 17 out out
+    atLeast mapLength map out (atLeast 6 segment out (atLeast traceLength out out
     (given (mapped traceWords (withVisits (Tracing.trace (fileRows s (mapOf map) list) root (pointAt segment 0) (pointAt segment 3)))) out)))
 
 -- ---- for private contracts: the map record with the section of the planes alone

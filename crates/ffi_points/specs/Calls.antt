@@ -5,7 +5,7 @@ use lib.Ieee.{Float}
 use lib.ListN.{length}
 use Rattle.format.specs.Answer.{thenAnswer}
 use Rattle.format.specs.Step.{when}
-use Rattle.words.specs.Words.{Left, left, enough, listedIn, mapOf}
+use Rattle.words.specs.Words.{Left, left, enough, listedIn, mapLength, mapOf}
 use Rattle.hull.specs.Hull.{hullTable}
 use Rattle.points.specs.Points.{pointsOf, notPoints, codesAndReads, filled}
 use Rattle.ffi_hull.specs.Layout.{hullAsked, hullFrom}
@@ -13,6 +13,6 @@ use Rattle.ffi_hull.specs.Layout.{hullAsked, hullFrom}
 unfoldable pub bspContentsPoints : List ℕ → List ℕ → List ℕ → List Float → List ℕ → List ℕ → Left
 bspContentsPoints s map hull points list out =
     when (notPoints points) (left 24 list out)
-    (enough 31 map list out (enough hullAsked hull list out (enough 1 out list out (enough (length (pointsOf points)) list list out
+    (enough mapLength map list out (enough hullAsked hull list out (enough 1 out list out (enough (length (pointsOf points)) list list out
     (listedIn (filled (thenAnswer (hullFrom hull) (λ h.
     codesAndReads (hullTable s (mapOf map) h) (h .«node_id») (pointsOf points))) list) out)))))

@@ -5,7 +5,7 @@ use lib.Dec.{eqb}
 use Rattle.format.specs.Answer.{Answer, refused, mapped}
 use Rattle.format.specs.Step.{when}
 use Rattle.format.specs.declared.section.BspData.{BspData}
-use Rattle.words.specs.Words.{Written, given, atLeast, mapOf}
+use Rattle.words.specs.Words.{Written, given, atLeast, mapLength, mapOf}
 use Rattle.records.specs.Plane.{planeOf, vertexOf}
 use Rattle.records.specs.Node.{renderNodeOf, collisionNodeOf}
 use Rattle.textures.specs.Access.{textureInfo}
@@ -31,5 +31,9 @@ recordIn section s m i =
     (when (eqb section 14) (mapped modelWords (modelOf s m i))
     (refused 20)))))))))))
 
+-- enough for every record
+abbrev pub recordLength : ℕ
+recordLength = 20
+
 unfoldable pub bspRecord : List ℕ → List ℕ → ℕ → ℕ → List ℕ → Written
-bspRecord s map section i out = atLeast 31 map out (atLeast 20 out out (given (recordIn section s (mapOf map) i) out))
+bspRecord s map section i out = atLeast mapLength map out (atLeast recordLength out out (given (recordIn section s (mapOf map) i) out))

@@ -5,7 +5,7 @@ use mathlib.Core.List.{List}
 use mathlib.Core.Path.{_≡_}
 use lib.ListN.{length}
 use Rattle.format.specs.Answer.{answer, mapped}
-use Rattle.words.specs.Words.{given, atLeast, mapOf}
+use Rattle.words.specs.Words.{given, atLeast, mapLength, mapOf}
 use Rattle.sizes.specs.Sizes.{sizesOf}
 use Rattle.sizes.specs.declared.BodySizes.{BodySizes}
 use Rattle.sized_hulls.specs.Sized.{hullSized}
@@ -19,7 +19,7 @@ pub record Replaces (bytes sizes : List ℕ) (z : BodySizes) : Type 0 where
   pub read-back : sizesFrom (bspBodySizes bytes sizes .list) ≡ z
   pub hull : (s m : List ℕ) (i j : ℕ) (out : List ℕ)
       → bspHullSized s m (bspBodySizes bytes sizes .list) i j out
-      ≡ atLeast 31 m out (atLeast hullLength out out (given (mapped hullWords (hullSized s (mapOf m) z i j)) out))
+      ≡ atLeast mapLength m out (atLeast hullLength out out (given (mapped hullWords (hullSized s (mapOf m) z i j)) out))
 
 abbrev pub FromFile : Type 0
 FromFile = (bytes sizes : List ℕ) (z : BodySizes) → sizesLength ≤ length sizes → sizesOf bytes ≡ answer z → Replaces bytes sizes z

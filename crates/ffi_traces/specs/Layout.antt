@@ -18,6 +18,9 @@ kindWords Terminal = 0 ∷ 0 ∷ 0 ∷ 0 ∷ 0 ∷ 0 ∷ 0 ∷ []
 kindWords (Boundary b) = boundaryWords b
 
 -- visits, contents, started solid, the start's point and ratio, the end's point and kind
+abbrev pub traceLength : ℕ
+traceLength = 17
+
 abbrev pub traceWords : Trace × ℕ → List ℕ
 traceWords a =
     (a .1 ∷ codeOf (a .0 .contents) ∷ flagWord (a .0 .«start_solid») ∷ [])

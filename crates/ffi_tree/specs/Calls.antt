@@ -4,7 +4,7 @@ use mathlib.Core.List.{List}
 use lib.Dec.{eqb}
 use Rattle.format.specs.Answer.{mapped}
 use Rattle.format.specs.Step.{when}
-use Rattle.words.specs.Words.{given, Left, left, enough, beside, numberWords, mapOf}
+use Rattle.words.specs.Words.{given, Left, left, enough, beside, numberWords, mapLength, mapOf}
 use Rattle.walk.specs.TreeCheck.{Checked, treeCheck}
 use Rattle.nodes.specs.Tables.{nodesOf}
 use Rattle.nodes.specs.declared.table.HullTable.the-variants.{Render, Clip, Box}
@@ -25,5 +25,5 @@ checkOf NoTable s map root marks out = left 20 marks out
 
 unfoldable pub bspTreeCheck : List ℕ → List ℕ → ℕ → ℕ → List ℕ → List ℕ → Left
 bspTreeCheck s map table root marks out =
-    enough 31 map marks out (enough 1 out marks out
+    enough mapLength map marks out (enough 1 out marks out
     (checkOf (tableNumbered table) s map root marks out))

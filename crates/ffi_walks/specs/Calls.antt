@@ -5,27 +5,33 @@ use lib.Ieee.{Float}
 use Rattle.format.specs.Answer.{mapped, thenAnswer}
 use Rattle.format.specs.Contents.{codeOf}
 use Rattle.format.specs.declared.contents.BspLeafContents.{BspLeafContents}
-use Rattle.words.specs.Words.{Written, given, atLeast, mapOf}
+use Rattle.words.specs.Words.{Written, given, atLeast, mapLength, mapOf}
 use Rattle.walk.specs.Walk.{withVisits, pointWalk}
 use Rattle.nodes.specs.Tables.{leafTable}
 use Rattle.hull.specs.Hull.{hullTable}
 use Rattle.ffi_hull.specs.Layout.{hullAsked, pointAt, hullFrom}
 
 -- the code of the contents, and the visits
+abbrev pub contentsLength : ℕ
+contentsLength = 2
+
 abbrev pub contentsWords : BspLeafContents × ℕ → List ℕ
 contentsWords a = codeOf (a .0) ∷ a .1 ∷ []
 
 -- the leaf's number, and the visits
+abbrev pub leafLength : ℕ
+leafLength = 2
+
 abbrev pub leafWords : ℕ × ℕ → List ℕ
 leafWords a = a .0 ∷ a .1 ∷ []
 
 unfoldable pub bspContents : List ℕ → List ℕ → List ℕ → List Float → List ℕ → Written
 bspContents s map hull point out =
-    atLeast 31 map out (atLeast hullAsked hull out (atLeast 3 point out (atLeast 2 out out
+    atLeast mapLength map out (atLeast hullAsked hull out (atLeast 3 point out (atLeast contentsLength out out
     (given (mapped contentsWords (thenAnswer (hullFrom hull) (λ h.
     withVisits (pointWalk (hullTable s (mapOf map) h) (h .«node_id») (pointAt point 0))))) out))))
 
 unfoldable pub bspFindLeaf : List ℕ → List ℕ → ℕ → List Float → List ℕ → Written
 bspFindLeaf s map root point out =
-    atLeast 31 map out (atLeast 3 point out (atLeast 2 out out
+    atLeast mapLength map out (atLeast 3 point out (atLeast leafLength out out
     (given (mapped leafWords (withVisits (pointWalk (leafTable s (mapOf map)) root (pointAt point 0)))) out)))

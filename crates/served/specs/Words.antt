@@ -2,22 +2,11 @@
 use Prim.Native.Nat.{ℕ}
 use mathlib.Core.List.{List}
 use lib.ListN.{getD}
-
 -- how many words each list has at least: BSP_MAP_WORDS, those of a hull that walks and traces ask for, BSP_CONTENTS_WORDS, BSP_LEAF_WORDS, BSP_TRACE_WORDS
-abbrev pub mapLength : ℕ
-mapLength = 31
-
-abbrev pub hullAsked : ℕ
-hullAsked = 9
-
-abbrev pub contentsLength : ℕ
-contentsLength = 2
-
-abbrev pub leafLength : ℕ
-leafLength = 2
-
-abbrev pub traceLength : ℕ
-traceLength = 17
+pub use Rattle.words.specs.Words.{mapLength}
+pub use Rattle.ffi_hull.specs.Layout.{hullAsked}
+pub use Rattle.ffi_walks.specs.Calls.{contentsLength, leafLength}
+pub use Rattle.ffi_traces.specs.Layout.{traceLength}
 
 -- a word of a list
 abbrev pub word : ℕ → List ℕ → ℕ

@@ -104,7 +104,11 @@ planeWords h = (kindOf (h .alignment) ∷ vectorWords (normalOf h)) ++ (floatWor
 abbrev pub sectionAt : List ℕ → ℕ → BspFileSection
 sectionAt ws at = record { offset = getD ws at 0; size = getD ws (at + 1) 0 }
 
--- 31 words: offset and size of each section in file order, then the texture count
+-- how many words a map record has
+abbrev pub mapLength : ℕ
+mapLength = 31
+
+-- offset and size of each section in file order, then the texture count
 abbrev pub mapOf : List ℕ → BspData
 mapOf ws =
     record {
@@ -129,7 +133,7 @@ mapOf ws =
 abbrev pub sectionWords : BspFileSection → List ℕ
 sectionWords z = z .offset ∷ z .size ∷ []
 
--- the 31 words of a map record
+-- the words of a map record
 abbrev pub mapWords : BspData → List ℕ
 mapWords m =
     sectionWords (m .entities)
