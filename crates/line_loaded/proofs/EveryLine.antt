@@ -2,7 +2,7 @@
 -- root's tree one (walk/proofs/Check.antt), and line/proofs/Answered.antt asks nothing else. Assumes nothing.
 use Prim.Native.Nat.{ℕ}
 use mathlib.Core.List.{List}
-use mathlib.Core.Path.{_≡_, refl, ap, _∙_}
+use mathlib.Core.Path.{_≡_, ap, _∙_}
 use Rattle.format.specs.Answer.{answer}
 use Rattle.format.specs.declared.section.BspData.{BspData}
 use Rattle.math.specs.declared.Vector3.{Vector3}
@@ -12,19 +12,13 @@ use Rattle.walk.specs.TreeCheck.{treeCheck}
 use Rattle.walk.proofs.Check.{passes-only}
 use Rattle.nodes.specs.Tables.{End, nodesOf, tableOf}
 use Rattle.nodes.specs.declared.table.HullTable.{HullTable}
-use Rattle.nodes.specs.declared.table.HullTable.the-variants.{Render, Clip, Box}
 use Rattle.tree.proofs.Demand3.{reads}
+use Rattle.tree.proofs.Laws.{nodes-of}
 use Rattle.hull.specs.Hull.{hullTable}
 use Rattle.load.proofs.Loads as Loads
 use Rattle.line.proofs.Answered.{line-answered}
 use Rattle.line.proofs.Carried.{fraction-within}
 use Rattle.line_loaded.specs.EveryLine.{EveryLine}
-
-nodes-of : (s : List ℕ) (m : BspData) (table : HullTable) (mins maxs : Vector3) → tableOf s m table mins maxs .nodes ≡ nodesOf s m table
-unfolding tableOf
-nodes-of s m Render mins maxs = refl
-nodes-of s m Clip mins maxs = refl
-nodes-of s m Box mins maxs = refl
 
 is-tree : (s : List ℕ) (m : BspData) (table : HullTable) (mins maxs : Vector3) (marks : List ℕ) (root h : ℕ) → treeCheck (nodesOf s m table) marks root .answer ≡ answer h
     → IsTree (tableOf s m table mins maxs .nodes) root

@@ -18,12 +18,11 @@ use Rattle.math.specs.declared.Vector3.{Vector3}
 use Rattle.walk.specs.Table.{Nodes, Table}
 use Rattle.walk.specs.Walk.{pointWalk}
 use Rattle.walk.specs.TreeCheck.{treeCheck}
-use Rattle.nodes.specs.Tables.{End, nodesOf, tableOf}
-use Rattle.nodes.specs.declared.table.HullTable.{HullTable}
-use Rattle.nodes.specs.declared.table.HullTable.the-variants.{Render, Clip, Box}
+use Rattle.nodes.specs.Tables.{End, nodesOf}
 use Rattle.hull.specs.Hull.{hullTable}
 use Rattle.hull.specs.declared.collision.BspCollisionHull.{BspCollisionHull}
 use Rattle.tree.proofs.Demand3 as Tree
+use Rattle.tree.proofs.Laws.{nodes-of}
 use Rattle.load.specs.Load.{loadOf}
 use Rattle.load.proofs.Loads as Loads
 use Rattle.loaded.specs.EveryFile.{Calls}
@@ -40,12 +39,6 @@ all-answers (a ∷ l) = ap (mapped (λ bs. a ∷ bs)) (all-answers l)
 map-of : {X Y Z : Type 0} (f : X → Z) (g : Y → Z) (v : X → Y) → ((x : X) → f x ≡ g (v x)) → (l : List X) → map f l ≡ map g (map v l)
 map-of f g v e [] = refl
 map-of f g v e (x ∷ l) = ap (λ (y : _). y ∷ map f l) (e x) ∙ ap (λ (k : List _). g (v x) ∷ k) (map-of f g v e l)
-
-same-nodes : (s : List ℕ) (m : BspData) (mins maxs : Vector3) (t : HullTable) → tableOf s m t mins maxs .nodes ≡ nodesOf s m t
-unfolding tableOf
-same-nodes s m mins maxs Render = refl
-same-nodes s m mins maxs Clip = refl
-same-nodes s m mins maxs Box = refl
 
 module _ (s : List ℕ) (m : BspData) (loads : loadOf s ≡ answer m) (hull : BspCollisionHull) (marks : List ℕ) (h : ℕ) (passed : treeCheck (nodesOf s m (hull .table)) marks (hull .«node_id») .answer ≡ answer h) where
   abbrev T : Table End BspLeafContents
@@ -66,7 +59,7 @@ module _ (s : List ℕ) (m : BspData) (loads : loadOf s ≡ answer m) (hull : Bs
   nodes-read : (ps : List Vector3) → reads T root ps ≡ nodesMet T root ps
   nodes-read ps =
       reads-are-nodes T (Tree.reads s m (record { planes = Loads.planes s m loads; leaves = Loads.leaves s m loads }) (hull .table) (hull .mins) (hull .maxs)) marks root h
-      (subst (λ (N : Nodes End). treeCheck N marks root .answer ≡ answer h) (sym (same-nodes s m (hull .mins) (hull .maxs) (hull .table))) passed) ps
+      (subst (λ (N : Nodes End). treeCheck N marks root .answer ≡ answer h) (sym (nodes-of s m (hull .table) (hull .mins) (hull .maxs))) passed) ps
 
   module _ (cs : List Float) (lent : List ℕ) (are : notPoints cs ≡ false) (room : length (pointsOf cs) ≤ length lent) where
     abbrev found : List BspLeafContents

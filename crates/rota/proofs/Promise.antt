@@ -28,6 +28,7 @@ use Rattle.walk.specs.Tree.{IsTree, Valid, at-root}
 use Rattle.walk.specs.TreeCheck.{treeCheck}
 use Rattle.walk.specs.Demand3.{Answered, AnsweredWithin}
 use Rattle.walk.proofs.Check.{passes-only, passes-if}
+use Rattle.walk.proofs.Unread.{Served, answered, unreadable, ReadsOrNot, walk-served, trace-served}
 use Rattle.records.specs.Access.{reading, readAt, recordOf}
 use Rattle.records.specs.Plane.{planeAt, planeOf, vertexOf}
 use Rattle.records.specs.Leaf.{leafAt, leafOf}
@@ -58,9 +59,8 @@ use Rattle.load.proofs.Loads as Loads
 use Rattle.accept.specs.Accept.{passes, accept}
 use Rattle.accept.specs.Accepted.{Accepted, ModelIn}
 use Rattle.accept.proofs.Exactly.{passed-only}
-use Rattle.rota.specs.Promise.{NotByShape, Served, answered, unreadable, IsAnswered, Walks, Checks, Records, Queries, EveryMap, EveryFile}
+use Rattle.rota.specs.Promise.{NotByShape, IsAnswered, Walks, Checks, Records, Queries, EveryMap, EveryFile}
 use Rattle.rota.proofs.Fewer.{Whole, pvs-fewer, pvs-zero}
-use Rattle.rota.proofs.Unread.{ReadsOrNot, walk-served, trace-served}
 
 none : {A : Type 0} {P : Type 0} (n : ℕ) (a : A) → refused n ≡ answer a → P
 none n a e = let z : _≡_ {A = ℕ} 0 1 = cc in absurd (omega arith)

@@ -4,7 +4,7 @@ use Prim.Native.Nat.{ℕ, _-_, _^_, _<_, _≤_}
 use native.Mathlib.Omega.{arith}
 use mathlib.Core.List.{List}
 use mathlib.Core.Path.{_≡_, _∙_, ap}
-use lib.ListN.{length, replicate}
+use lib.ListN.{length}
 use Rattle.format.specs.Answer.{answer}
 use Rattle.format.specs.declared.contents.BspLeafContents.{BspLeafContents}
 use Rattle.math.specs.Vector as Vec
@@ -19,10 +19,9 @@ use Rattle.walk.specs.TreeCheck.{treeCheck}
 use Rattle.walk.specs.Tree.{Reads, PlanesFit}
 use Rattle.walk.specs.Demand3.{Answered, AnsweredWithin}
 use Rattle.walk.proofs.Lists.{room}
-use Rattle.walk.proofs.Shape.{Shape, top, nodesOf, Drawn, root-hangs, height-count, nodes-below}
+use Rattle.walk.proofs.Shape.{Shape, top, nodesOf, Drawn, nodes-below}
 use Rattle.walk.proofs.Reached.{tree-nodes}
-use Rattle.walk.proofs.Sound.{Found}
-use Rattle.walk.proofs.Check.{found}
+use Rattle.walk.proofs.Grown.{Grown, grown}
 use Rattle.walk.proofs.AnsweredIn.{AnsweredIn}
 use Rattle.walk.proofs.WalkAlong as W
 use Rattle.walk.proofs.TraceAlong as A
@@ -46,23 +45,21 @@ module _ {E A : Type 0} (T : Table E A) (R : Reads T) (ms : List ℕ) (root h : 
   -- every point contents and leaf lookup, for all floats
   pub walk-answered : (p : Vector3) → AnsweredWithin (T .nodes) root h (pointWalk T root p)
   walk-answered p =
-      let f : (m′ : List ℕ) × Found (T .nodes) (replicate (T .nodes .count) 0) (node root) h m′ 512 = found (T .nodes) ms root h passed in
-      let F : Found (T .nodes) (replicate (T .nodes .count) 0) (node root) h (f .0) 512 = f .1 in
+      let F : Grown (T .nodes) root h = grown (T .nodes) ms root h passed in
       let g : W.Short T R p (F .shape) (W.walkOn T R p (T .nodes .count) (top (F .shape)))
-      = W.along T R p (F .shape) (F .drawn) (root-hangs (T .nodes) (F .shape) root (F .top-is)) (F .once) (T .nodes .count) (height-count (T .nodes) (F .shape) (F .drawn) (F .once)) in
+      = W.along T R p (F .shape) (F .drawn) (T .nodes .count) (T .nodes .count) (F .within) (F .within) (F .hangs) (F .once) in
       let g′ : W.Short T R p (F .shape) (pointWalk T root p) = rw (F .top-is) at g in
       let low : length (g′ .0 .nodes) ≤ h = omega (arith, g′ .1, F .high) in
-      record { all = answered (T .nodes) root (F .shape) (F .top-is) (F .drawn) (pointWalk T root p) (g′ .0) (omega (arith, F .low)); within = low }
+      record { all = answered (T .nodes) root (F .shape) (F .top-is) (F .drawn) (pointWalk T root p) (g′ .0) (omega (arith, F .low, F .high, low)); within = low }
 
 module _ {E : Type 0} (T : Table E BspLeafContents) (R : Reads T) (D : PlanesFit T) (ms : List ℕ) (root h : ℕ) (passed : treeCheck (T .nodes) ms root .answer ≡ answer h) where
   -- every trace, for all points of f32 numbers; the table holds fewer than 2^64 nodes, as every table in a program does
   pub trace-answered : T .nodes .count < 2 ^ 64 → (s e : Vector3) → Fits3 s → Fits3 e → Answered (T .nodes) root (trace T root s e)
   trace-answered few s e S F′ =
-      let f : (m′ : List ℕ) × Found (T .nodes) (replicate (T .nodes .count) 0) (node root) h m′ 512 = found (T .nodes) ms root h passed in
-      let F : Found (T .nodes) (replicate (T .nodes .count) 0) (node root) h (f .0) 512 = f .1 in
+      let F : Grown (T .nodes) root h = grown (T .nodes) ms root h passed in
       let here : BspLeafContents → TraceT = λ c. Tr.newTrace (Tr.start s Vec.zero32) (Tr.terminal e) c in
       let g : AnsweredIn (nodesOf (F .shape)) (A.traceOn T R D 512 s e here (top (F .shape)))
-      = A.along T R D (F .shape) (F .drawn) (root-hangs (T .nodes) (F .shape) root (F .top-is)) (F .once) 512 (omega (arith, F .high, F .low)) s e S F′ here in
+      = A.along T R D (F .shape) (F .drawn) 512 512 (F .low) (F .low) (F .hangs) (F .once) s e S F′ here in
       let g′ : AnsweredIn (nodesOf (F .shape)) (trace T root s e) = rw (F .top-is) at g in
       let k : length (g′ .nodes) ≤ T .nodes .count = room (T .nodes .count) (g′ .nodes) (g′ .once) (λ n m. nodes-below (T .nodes) (F .shape) (F .drawn) n (g′ .within n m)) in
       answered (T .nodes) root (F .shape) (F .top-is) (F .drawn) (trace T root s e) g′ (omega arith)

@@ -14,7 +14,7 @@ use Rattle.math.specs.declared.HyperplaneSide.the-variants.{Positive, Negative}
 use Rattle.walk.specs.Table.{Child, node, end, Node, Nodes, childOn}
 use Rattle.walk.specs.Tree.{NoTwice, ChildOf, InTree, at-root, below, Reach, Valid, IsTree, Height}
 use Rattle.walk.proofs.Lists.{once-left, once-right, once-apart}
-use Rattle.walk.proofs.Shape.{Shape, tip, fork, top, height, nodesOf, recordOf, Drawn, part, on-part, part-within, part-drawn}
+use Rattle.walk.proofs.Shape.{Shape, tip, fork, top, height, nodesOf, recordOf, Drawn, part, on-part, part-within, part-drawn, each-node}
 
 end-node : {E : Type 0} {e : E} {j : ℕ} → end e ≡ node j → ⊥
 end-node {e} {j} q = let z : _≡_ {A = ℕ} 0 1 = cc in omega arith
@@ -136,25 +136,13 @@ module _ {E : Type 0} (N : Nodes E) where
   tip-in (fork i p f b) d e q = absurd (end-node (sym q))
 
   pub all-valid : (s : Shape E) → Drawn N s → (n : ℕ) → List·Memᴰ n (nodesOf s) → Valid N n
-  all-valid (tip e) d n m = absurd (List·Memᴰ·not-nil m)
-  all-valid (fork i a f b) d n m = cases (λ k. all-valid f (d .3) n k) (λ k. all-valid b (d .4) n k) (List·Memᴰ·cases-cons m)
-    where
-      split : (List·Memᴰ n (nodesOf f) → Valid N n) → (List·Memᴰ n (nodesOf b) → Valid N n) → List·Memᴰ n (nodesOf f) ⊎ List·Memᴰ n (nodesOf b) → Valid N n
-      split kf kb (inl k) = kf k
-      split kf kb (inr k) = kb k
-
-      here : Valid N i
-      here = record {
-        in-range = d .0;
-        record-of = recordOf a f b;
-        read-as = d .1;
-        plane-in = d .2;
-        ends-in = λ sd e q. tip-in (part sd f b) (part-drawn N sd f b (d .3) (d .4)) e (sym (on-part sd a f b) ∙ q);
-      }
-
-      cases : (List·Memᴰ n (nodesOf f) → Valid N n) → (List·Memᴰ n (nodesOf b) → Valid N n) → (n ≡ i) ⊎ List·Memᴰ n (nodesOf f ++ nodesOf b) → Valid N n
-      cases kf kb (inl e) = rw e here
-      cases kf kb (inr k) = split kf kb (List·Memᴰ·append-cases (nodesOf f) k)
+  all-valid = each-node N (Valid N) (λ i a f b d. record {
+    in-range = d .0;
+    record-of = recordOf a f b;
+    read-as = d .1;
+    plane-in = d .2;
+    ends-in = λ sd e q. tip-in (part sd f b) (part-drawn N sd f b (d .3) (d .4)) e (sym (on-part sd a f b) ∙ q);
+  })
 
   pub shape-is-tree : (s : Shape E) (i : ℕ) → top s ≡ node i → Drawn N s → NoTwice (nodesOf s) → height s ≤ 512 → IsTree N i
   shape-is-tree s i t d o h = record {

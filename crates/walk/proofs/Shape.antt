@@ -3,7 +3,7 @@ use mathlib.Core.Bool.{true}
 use mathlib.Core.List.{List, [], _∷_, _++_, List·Memᴰ, List·Memᴰ·append-cases, List·Memᴰ·cases-cons, List·Memᴰ·not-nil, Memᴰ·append-left, Memᴰ·append-right}
 use mathlib.Core.Logic.{_⊎_, inl, inr}
 use mathlib.Core.Path.{_≡_, refl}
-use Prim.Native.Nat.{ℕ, suc, _+_, _<_, _≤_, max}
+use Prim.Native.Nat.{ℕ, zero, suc, _+_, _<_, _≤_, max}
 use native.Mathlib.Omega.{arith}
 use lib.ListN.{length, length-append}
 use Rattle.format.specs.Answer.{answer}
@@ -70,17 +70,31 @@ height-nodes (fork i p f b) =
     omega arith
 
 module _ {E : Type 0} (N : Nodes E) where
-  pub nodes-below : (s : Shape E) → Drawn N s → (n : ℕ) → List·Memᴰ n (nodesOf s) → n < N .count
-  nodes-below (tip e) d n m = absurd (List·Memᴰ·not-nil m)
-  nodes-below (fork i p f b) d n m = cases (λ k. nodes-below f (d .3) n k) (λ k. nodes-below b (d .4) n k) (List·Memᴰ·cases-cons m)
+  -- what holds of each end, and of each node whose two parts it holds of, holds of the shape, with any two limits that are its height at least
+  pub by-shape : (P : ℕ → ℕ → Shape E → Type 0) → ((k j : ℕ) (e : E) → Drawn N (tip e) → P k j (tip e))
+      → ((k j i q : ℕ) (f b : Shape E) → Drawn N (fork i q f b) → P k j f → P k j b → P (suc k) (suc j) (fork i q f b))
+      → (s : Shape E) → Drawn N s → (k j : ℕ) → height s ≤ k → height s ≤ j → P k j s
+  by-shape P t o (tip e) d k j h g = t k j e d
+  by-shape P t o (fork i q f b) d zero j h g = absurd (omega arith)
+  by-shape P t o (fork i q f b) d (suc k) zero h g = absurd (omega arith)
+  by-shape P t o (fork i q f b) d (suc k) (suc j) h g =
+      o k j i q f b d (by-shape P t o f (d .3) k j (omega arith) (omega arith)) (by-shape P t o b (d .4) k j (omega arith) (omega arith))
+
+  -- what holds of each node by itself holds of all on the list
+  pub each-node : (P : ℕ → Type 0) → ((i q : ℕ) (f b : Shape E) → Drawn N (fork i q f b) → P i) → (s : Shape E) → Drawn N s → (n : ℕ) → List·Memᴰ n (nodesOf s) → P n
+  each-node P o (tip e) d n m = absurd (List·Memᴰ·not-nil m)
+  each-node P o (fork i q f b) d n m = cases (λ k. each-node P o f (d .3) n k) (λ k. each-node P o b (d .4) n k) (List·Memᴰ·cases-cons m)
     where
-      split : (List·Memᴰ n (nodesOf f) → n < N .count) → (List·Memᴰ n (nodesOf b) → n < N .count) → List·Memᴰ n (nodesOf f) ⊎ List·Memᴰ n (nodesOf b) → n < N .count
+      split : (List·Memᴰ n (nodesOf f) → P n) → (List·Memᴰ n (nodesOf b) → P n) → List·Memᴰ n (nodesOf f) ⊎ List·Memᴰ n (nodesOf b) → P n
       split kf kb (inl k) = kf k
       split kf kb (inr k) = kb k
 
-      cases : (List·Memᴰ n (nodesOf f) → n < N .count) → (List·Memᴰ n (nodesOf b) → n < N .count) → (n ≡ i) ⊎ List·Memᴰ n (nodesOf f ++ nodesOf b) → n < N .count
-      cases kf kb (inl e) = let h : i < N .count = d .0 in omega arith
+      cases : (List·Memᴰ n (nodesOf f) → P n) → (List·Memᴰ n (nodesOf b) → P n) → (n ≡ i) ⊎ List·Memᴰ n (nodesOf f ++ nodesOf b) → P n
+      cases kf kb (inl e) = rw e (o i q f b d)
       cases kf kb (inr k) = split kf kb (List·Memᴰ·append-cases (nodesOf f) k)
+
+  pub nodes-below : (s : Shape E) → Drawn N s → (n : ℕ) → List·Memᴰ n (nodesOf s) → n < N .count
+  nodes-below s d n m = each-node (λ n. n < N .count) (λ i q f b d. d .0) s d n m
 
   pub height-count : (s : Shape E) → Drawn N s → NoTwice (nodesOf s) → height s ≤ N .count
   height-count s d o =
@@ -94,6 +108,11 @@ module _ {E : Type 0} where
   on-part Positive p f b = refl
   on-part Negative p f b = refl
 
+  -- what holds of both parts holds of the one on a side
+  pub on-sides : (P : Shape E → Type 0) (f b : Shape E) → P f → P b → (sd : HyperplaneSide) → P (part sd f b)
+  on-sides P f b x y Positive = x
+  on-sides P f b x y Negative = y
+
   pub part-within : (sd : HyperplaneSide) (f b : Shape E) (n : ℕ) → List·Memᴰ n (nodesOf (part sd f b)) → List·Memᴰ n (nodesOf f ++ nodesOf b)
   part-within Positive f b n m = Memᴰ·append-left (nodesOf b) m
   part-within Negative f b n m = Memᴰ·append-right (nodesOf f) m
@@ -103,8 +122,7 @@ module _ {E : Type 0} where
   part-height Negative f b = omega arith
 
   pub part-drawn : (N : Nodes E) (sd : HyperplaneSide) (f b : Shape E) → Drawn N f → Drawn N b → Drawn N (part sd f b)
-  part-drawn N Positive f b df db = df
-  part-drawn N Negative f b df db = db
+  part-drawn N sd f b df db = on-sides (Drawn N) f b df db sd
 
   -- two different sides have no node in common
   pub parts-apart : (x y : HyperplaneSide) (f b : Shape E) → (x ≡ y → ⊥) → NoTwice (nodesOf f ++ nodesOf b)

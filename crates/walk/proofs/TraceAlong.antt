@@ -26,7 +26,7 @@ use Rattle.walk.specs.Walk.{Outcome, done, enter, onto}
 use Rattle.walk.specs.Trace.{joined, withFar, stops, nearOf, farOf, afterNear, withNear, across, recursiveTrace}
 use Rattle.walk.specs.Tree.{NoTwice, Reads, PlanesFit}
 use Rattle.walk.proofs.Lists.{append-once, once-left, once-right}
-use Rattle.walk.proofs.Shape.{Shape, tip, fork, top, height, nodesOf, recordOf, Drawn, Hangs, front-hangs, back-hangs, part, on-part, part-within, parts-apart}
+use Rattle.walk.proofs.Shape.{Shape, tip, fork, top, height, nodesOf, recordOf, Drawn, Hangs, front-hangs, back-hangs, part, on-part, on-sides, part-within, parts-apart, by-shape}
 use Rattle.walk.proofs.AnsweredIn.{AnsweredIn, wider, entered-in, enters, end-in}
 use Rattle.walk.proofs.NoPanic.{joins, starts-at-child}
 
@@ -53,8 +53,11 @@ module _ {E : Type 0} (T : Table E BspLeafContents) (R : Reads T) (D : PlanesFit
   abbrev pub traceOn : ℕ → Vector3 → Vector3 → (BspLeafContents → TraceT) → Child E → Outcome TraceT
   traceOn k s e here c = onto T (λ n. recursiveTrace T k n s e) here c
 
+  abbrev In : ℕ → Shape E → Type 0
+  In k t = (s e : Vector3) → Fits3 s → Fits3 e → (here : BspLeafContents → TraceT) → AnsweredIn (nodesOf t) (traceOn k s e here (top t))
+
   abbrev Sides : ℕ → Shape E → Shape E → Type 0
-  Sides k f b = (sd : HyperplaneSide) (s e : Vector3) → Fits3 s → Fits3 e → (here : BspLeafContents → TraceT) → AnsweredIn (nodesOf (part sd f b)) (traceOn k s e here (top (part sd f b)))
+  Sides k f b = (sd : HyperplaneSide) → In k (part sd f b)
 
   module _ (k p : ℕ) (f b : Shape E) (o : NoTwice (nodesOf f ++ nodesOf b)) (h : Hyperplane) (dist : Holds (fits binary32 (h .dist))) (s e : Vector3) (S : Fits3 s) (F : Fits3 e) where
     abbrev all : List ℕ
@@ -102,18 +105,8 @@ module _ {E : Type 0} (T : Table E BspLeafContents) (R : Reads T) (D : PlanesFit
       rw (lt-ltb i (T .nodes .count) (d .0), w .2)
       (entered-in i (nodesOf f ++ nodesOf b) _ o (across-in k p f b (o .1) (w .0) (D p (w .0) (w .1)) s e S F ih (Pl.lineSegment (w .0) s e) refl))
 
-  pub along : (t : Shape E) → Drawn (T .nodes) t → Hangs (T .nodes) t → NoTwice (nodesOf t) → (k : ℕ) → height t ≤ k
-      → (s e : Vector3) → Fits3 s → Fits3 e → (here : BspLeafContents → TraceT) → AnsweredIn (nodesOf t) (traceOn k s e here (top t))
-  along (tip x) d i o k h s e S F here = end-in T R (λ n. recursiveTrace T k n s e) here x d i
-  along (fork i p f b) d u o zero h s e S F here = absurd (omega arith)
-  along (fork i p f b) d u o (suc k) h s e S F here =
-      let hf : height f ≤ k = omega arith in
-      let hb : height b ≤ k = omega arith in
-      fork-in k i p f b d o
-      (sides (along f (d .3) (front-hangs (T .nodes) i p f b (d .1)) (once-left (nodesOf f) (nodesOf b) (o .1)) k hf)
-      (along b (d .4) (back-hangs (T .nodes) i p f b (d .1)) (once-right (nodesOf f) (nodesOf b) (o .1)) k hb)) s e S F
-    where
-      sides : ((s e : Vector3) → Fits3 s → Fits3 e → (here : BspLeafContents → TraceT) → AnsweredIn (nodesOf f) (traceOn k s e here (top f)))
-          → ((s e : Vector3) → Fits3 s → Fits3 e → (here : BspLeafContents → TraceT) → AnsweredIn (nodesOf b) (traceOn k s e here (top b))) → Sides k f b
-      sides x y Positive = x
-      sides x y Negative = y
+  pub along : (t : Shape E) → Drawn (T .nodes) t → (k j : ℕ) → height t ≤ k → height t ≤ j → Hangs (T .nodes) t → NoTwice (nodesOf t) → In k t
+  along =
+      by-shape (T .nodes) (λ k j t. Hangs (T .nodes) t → NoTwice (nodesOf t) → In k t) (λ k j x d i o s e S F here. end-in T R (λ n. recursiveTrace T k n s e) here x d i)
+      (λ k j i p f b d x y u o s e S F here. fork-in k i p f b d o (on-sides (In k) f b
+      (x (front-hangs (T .nodes) i p f b (d .1)) (once-left (nodesOf f) (nodesOf b) (o .1))) (y (back-hangs (T .nodes) i p f b (d .1)) (once-right (nodesOf f) (nodesOf b) (o .1)))) s e S F)

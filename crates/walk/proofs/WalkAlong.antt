@@ -15,7 +15,7 @@ use Rattle.walk.specs.Table.{Child, Table}
 use Rattle.walk.specs.Walk.{Outcome, enter, onto, walk}
 use Rattle.walk.specs.Tree.{NoTwice, Reads}
 use Rattle.walk.proofs.Lists.{once-left, once-right}
-use Rattle.walk.proofs.Shape.{Shape, tip, fork, top, height, nodesOf, recordOf, Drawn, Hangs, front-hangs, back-hangs, part, on-part, part-within, part-height}
+use Rattle.walk.proofs.Shape.{Shape, tip, fork, top, height, nodesOf, recordOf, Drawn, Hangs, front-hangs, back-hangs, part, on-part, on-sides, part-within, part-height, by-shape}
 use Rattle.walk.proofs.AnsweredIn.{AnsweredIn, wider, entered-in, enters, end-in}
 
 module _ {E A : Type 0} (T : Table E A) (R : Reads T) (p : Vector3) where
@@ -35,17 +35,10 @@ module _ {E A : Type 0} (T : Table E A) (R : Reads T) (p : Vector3) where
       rw (lt-ltb i (T .nodes .count) (d .0), w .2, on-part sd q f b)
       (entered-in i (nodesOf f ++ nodesOf b) (walkOn k (top (part sd f b))) o (wider (nodesOf f ++ nodesOf b) (part-within sd f b) (g .0)), omega (arith, g .1, part-height sd f b))
 
-  pub along : (s : Shape E) → Drawn (T .nodes) s → Hangs (T .nodes) s → NoTwice (nodesOf s) → (k : ℕ) → height s ≤ k → Short s (walkOn k (top s))
+  pub along : (s : Shape E) → Drawn (T .nodes) s → (k j : ℕ) → height s ≤ k → height s ≤ j → Hangs (T .nodes) s → NoTwice (nodesOf s) → Short s (walkOn k (top s))
   unfolding end-in
-  along (tip e) d i o k h = (end-in T R (λ n. walk T k n p) (λ a. a) e d i, omega arith)
-  along (fork i q f b) d u o zero h = absurd (omega arith)
-  along (fork i q f b) d u o (suc k) h =
-      let hf : height f ≤ k = omega arith in
-      let hb : height b ≤ k = omega arith in
-      fork-short k i q f b d o
-      (sides (along f (d .3) (front-hangs (T .nodes) i q f b (d .1)) (once-left (nodesOf f) (nodesOf b) (o .1)) k hf)
-      (along b (d .4) (back-hangs (T .nodes) i q f b (d .1)) (once-right (nodesOf f) (nodesOf b) (o .1)) k hb))
-    where
-      sides : Short f (walkOn k (top f)) → Short b (walkOn k (top b)) → (sd : HyperplaneSide) → Short (part sd f b) (walkOn k (top (part sd f b)))
-      sides x y Positive = x
-      sides x y Negative = y
+  along =
+      by-shape (T .nodes) (λ k j s. Hangs (T .nodes) s → NoTwice (nodesOf s) → Short s (walkOn k (top s)))
+      (λ k j e d i o. (end-in T R (λ n. walk T k n p) (λ a. a) e d i, omega arith))
+      (λ k j i q f b d x y u o. fork-short k i q f b d o (on-sides (λ s. Short s (walkOn k (top s))) f b
+      (x (front-hangs (T .nodes) i q f b (d .1)) (once-left (nodesOf f) (nodesOf b) (o .1))) (y (back-hangs (T .nodes) i q f b (d .1)) (once-right (nodesOf f) (nodesOf b) (o .1)))))

@@ -12,6 +12,11 @@ pub data Child (E : Type 0) : Type 0 where
   node : ℕ → Child E
   end : E → Child E
 
+-- what is made of a child: by `go` of a node, by `here` of an end
+abbrev pub onChild : {E W : Type 0} → (ℕ → W) → (E → W) → Child E → W
+onChild go here (node n) = go n
+onChild go here (end e) = here e
+
 -- a node's record: the number of its plane and its two children
 pub record Node (E : Type 0) : Type 0 where
   pub plane : ℕ

@@ -1,6 +1,6 @@
 -- The walk of a point down a node table: `contents_at_point_node` and `find_leaf` of bsp/mod.rs, which differ only in what an end says.
 -- Refusals come in document 01's order: at each node its index (30), then 31, then its record (23), its plane's number (30) and its plane (23);
--- an end is tested (30) and read (23) when it is met.
+-- an end is tested (30) and read (23) when it is met. The looks of a whole-line trace (`line`) are the same descent, by another side test and limit.
 use Prim.Native.Nat.{ℕ, zero, suc, _+_, _-_, _^_, min}
 use mathlib.Core.Bool.{cond}
 use mathlib.Core.List.{List, [], _∷_}
@@ -11,7 +11,8 @@ use Rattle.format.specs.Answer.{Answer, answer}
 use Rattle.math.specs.Plane as Pl
 use Rattle.math.specs.declared.Vector3.{Vector3}
 use Rattle.math.specs.declared.Hyperplane.{Hyperplane}
-use Rattle.walk.specs.Table.{Child, node, end, Node, Table, childOn}
+use Rattle.math.specs.declared.HyperplaneSide.{HyperplaneSide}
+use Rattle.walk.specs.Table.{Child, Node, Table, childOn, onChild}
 
 -- how a walk or a trace ends: with its answer and the nodes entered, in order, or refused
 pub data Outcome (A : Type 0) : Type 0 where
@@ -68,18 +69,27 @@ module _ {E A : Type 0} (T : Table E A) where
 
   -- on to a child: to the node by `go`, or to the end
   abbrev pub onto : {W : Type 0} → (ℕ → Outcome W) → (A → W) → Child E → Outcome W
-  onto go here (node n) = go n
-  onto go here (end e) = ended here (meet e)
+  onto go here c = onChild go (λ e. ended here (meet e)) c
+
+  -- A descent: at each node on to the child on the side that the test says. `refuse` is what a refusal is, `here` what an end says.
+  module _ {W : Type 0} (refuse : ℕ → W) (here : E → W) (side : Hyperplane → HyperplaneSide) where
+    abbrev pub descendAt : (ℕ → W) → Answer (Entered E) → W
+    descendAt go (answer m) = onChild go here (childOn (m .nd) (side (m .plane)))
+    descendAt go (Ans.refused n) = refuse n
+
+    -- from the node i, and k nodes more may be entered, each of which adds what `through` says; past them it is refused with `spent`
+    abbrev pub descend : (ℕ → W → W) → ℕ → ℕ → ℕ → W
+    descend through spent zero i = cond (ltb i (T .nodes .count)) (refuse spent) (refuse 30)
+    descend through spent (suc k) i =
+        cond (ltb i (T .nodes .count)) (through i (descendAt (λ n. descend through spent k n) (enter i))) (refuse 30)
 
   -- at the node i: on to the child on the point's side of the plane
   abbrev pub walkAt : (ℕ → Outcome A) → ℕ → Vector3 → Answer (Entered E) → Outcome A
-  walkAt go i p (answer m) = entered i (onto go (λ a. a) (childOn (m .nd) (Pl.pointSide (m .plane) p)))
-  walkAt go i p (Ans.refused n) = refused n
+  walkAt go i p m = entered i (descendAt refused (λ e. ended (λ a. a) (meet e)) (λ h. Pl.pointSide h p) go m)
 
   -- the walk from the node i, which may enter k nodes more
   unfoldable pub walk : ℕ → ℕ → Vector3 → Outcome A
-  walk zero i p = cond (ltb i (T .nodes .count)) (refused 31) (refused 30)
-  walk (suc k) i p = cond (ltb i (T .nodes .count)) (walkAt (λ n. walk k n p) i p (enter i)) (refused 30)
+  walk k i p = descend refused (λ e. ended (λ a. a) (meet e)) (λ h. Pl.pointSide h p) entered 31 k i
 
   -- `contents_at_point` and `find_leaf`: the walk from the root enters as many nodes as the table holds, at most
   abbrev pub pointWalk : ℕ → Vector3 → Outcome A
