@@ -12,7 +12,7 @@ use Rattle.walk.specs.TreeCheck.{treeCheck}
 use Rattle.walk.proofs.Check.{passes-only}
 use Rattle.nodes.specs.Tables.{End, nodesOf, tableOf}
 use Rattle.nodes.specs.declared.table.HullTable.{HullTable}
-use Rattle.tree.proofs.Demand3.{reads}
+use Rattle.tree.proofs.Readable.{reads}
 use Rattle.tree.proofs.Laws.{nodes-of}
 use Rattle.hull.specs.Hull.{hullTable}
 use Rattle.load.proofs.Loads as Loads

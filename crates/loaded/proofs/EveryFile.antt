@@ -1,7 +1,7 @@
--- Demand 3 for every file that loads: loading makes its planes and leaves readable (`planes`, `leaves` of load/proofs/Loads.antt), and tree/proofs/Demand3.antt
+-- Demand 3 for every file that loads: loading makes its planes and leaves readable (`planes`, `leaves` of load/proofs/Loads.antt), and proofs/Demand3.antt
 -- asks nothing else. Assumes nothing.
 use Rattle.load.proofs.Loads as Loads
-use Rattle.tree.proofs.Demand3.{demand3}
+use Rattle.loaded.proofs.Demand3.{demand3}
 use Rattle.loaded.specs.EveryFile.{EveryTable, EveryHull}
 
 pub every-table : EveryTable

@@ -1,4 +1,6 @@
 -- What specs/ says, proved.
+pub mod LeafWalk
+pub mod Demand3
 pub mod EveryFile
 pub mod Refusals
 pub mod Loading

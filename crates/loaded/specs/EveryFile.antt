@@ -25,7 +25,8 @@ use Rattle.nodes.specs.declared.table.HullTable.{HullTable}
 use Rattle.nodes.specs.declared.table.HullTable.the-variants.{Render}
 use Rattle.hull.specs.Hull.{hullTable}
 use Rattle.hull.specs.declared.collision.BspCollisionHull.{BspCollisionHull}
-use Rattle.tree.specs.Demand3.{Floats, Demand3}
+use Rattle.tree.specs.Readable.{Floats}
+use Rattle.loaded.specs.Demand3.{Demand3}
 use Rattle.load.specs.Load.{loadOf}
 
 -- for every file that loads, each table and each root that passed

@@ -21,7 +21,7 @@ use Rattle.walk.specs.TreeCheck.{treeCheck}
 use Rattle.nodes.specs.Tables.{End, nodesOf}
 use Rattle.hull.specs.Hull.{hullTable}
 use Rattle.hull.specs.declared.collision.BspCollisionHull.{BspCollisionHull}
-use Rattle.tree.proofs.Demand3 as Tree
+use Rattle.tree.proofs.Readable as Tree
 use Rattle.tree.proofs.Laws.{nodes-of}
 use Rattle.load.specs.Load.{loadOf}
 use Rattle.load.proofs.Loads as Loads

@@ -48,11 +48,13 @@ use Rattle.nodes.specs.declared.table.HullTable.{HullTable}
 use Rattle.nodes.specs.declared.table.HullTable.the-variants.{Render, Clip, Box}
 use Rattle.hull.specs.Hull.{hull, ownHull, hullTable}
 use Rattle.hull.specs.declared.collision.BspCollisionHull.{BspCollisionHull}
-use Rattle.tree.specs.Demand3.{Floats, Demand3}
-use Rattle.tree.proofs.Demand3.{demand3, box-planes-read}
+use Rattle.tree.specs.Readable.{Floats}
+use Rattle.loaded.specs.Demand3.{Demand3}
+use Rattle.tree.proofs.Readable.{box-planes-read}
+use Rattle.loaded.proofs.Demand3.{demand3}
 use Rattle.tree.proofs.Laws.{nodes-of}
 use Rattle.tree.proofs.Reading.{planes-fit, few-nodes}
-use Rattle.tree.proofs.LeafWalk.{numbered, total, leaf-walk}
+use Rattle.loaded.proofs.LeafWalk.{numbered, total, leaf-walk}
 use Rattle.vis.specs.Pvs.{pvsOf}
 use Rattle.load.specs.Load.{loadOf}
 use Rattle.load.proofs.Loads as Loads

@@ -29,7 +29,8 @@ use Rattle.nodes.specs.declared.table.HullTable.the-variants.{Render, Clip, Box
 use Rattle.hull.specs.Hull as Hull
 use Rattle.hull.specs.declared.collision.BspCollisionHull.{BspCollisionHull}
 use Rattle.entered.specs.Lists.{nodesEntered}
-use Rattle.tree.specs.Demand3.{Floats, Demand3}
+use Rattle.tree.specs.Readable.{Floats}
+use Rattle.loaded.specs.Demand3.{Demand3}
 use Rattle.load.specs.Load.{loadOf}
 use Rattle.loaded.specs.Refusals.{RefusedOnly}
 use Rattle.loaded.proofs.EveryFile.{every-table}

@@ -23,7 +23,7 @@ use Rattle.nodes.specs.declared.table.HullTable.the-variants.{Render, Clip, Box
 use Rattle.hull.specs.Hull as Hull
 use Rattle.hull.specs.Hull.{ownHull}
 use Rattle.hull.specs.declared.collision.BspCollisionHull.{BspCollisionHull}
-use Rattle.tree.specs.Demand3.{Floats}
+use Rattle.tree.specs.Readable.{Floats}
 use Rattle.vis.specs.Pvs.{pvsOf}
 use Rattle.vis.proofs.Fits.{atMost, pvs-fits}
 use Rattle.loaded.specs.Refusals.{RefusedOnly}

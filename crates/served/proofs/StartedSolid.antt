@@ -27,7 +27,7 @@ use Rattle.hull.specs.Hull as Hull
 use Rattle.hull.specs.declared.collision.BspCollisionHull.{BspCollisionHull}
 use Rattle.hull.specs.declared.point.PointContents.the-variants.{Contents}
 use Rattle.hull.specs.declared.tracing.Traced.the-variants.{Trace}
-use Rattle.tree.specs.Demand3.{Floats}
+use Rattle.tree.specs.Readable.{Floats}
 use Rattle.loaded.specs.Refusals.{OneOf, ofWalks, ofTraces}
 use Rattle.loaded.proofs.Refusals.{every-refusal}
 use Rattle.loaded.proofs.StartedSolid as Core

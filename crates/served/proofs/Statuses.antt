@@ -13,7 +13,7 @@ use Rattle.format.specs.Answer.{Answer, answer, refused, mapped}
 use Rattle.format.specs.Step.{when}
 use Rattle.nodes.specs.declared.table.HullTable.{HullTable}
 use Rattle.nodes.specs.declared.table.HullTable.the-variants.{Render, Clip, Box}
-use Rattle.tree.specs.Demand3.{Floats}
+use Rattle.tree.specs.Readable.{Floats}
 use Rattle.loaded.specs.Refusals.{RefusedOnly}
 use Rattle.words.specs.Words.{Written, written, given, atLeast, Left, left, enough}
 use Rattle.served.specs.Cited.{hullFrom, vectorAt, hullIn, tableWord}

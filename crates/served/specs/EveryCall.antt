@@ -17,7 +17,7 @@ use Rattle.walk.specs.Tree.{NoTwice, InTree}
 use Rattle.nodes.specs.Tables.{End, nodesOf}
 use Rattle.nodes.specs.declared.table.HullTable.{HullTable}
 use Rattle.nodes.specs.declared.table.HullTable.the-variants.{Render, Clip, Box}
-use Rattle.tree.specs.Demand3.{Floats}
+use Rattle.tree.specs.Readable.{Floats}
 use Rattle.words.specs.Words.{Written, Left, mapOf}
 use Rattle.served.specs.Cited.{bspLoad, bspTreeCheck, bspContents, bspFindLeaf, bspTrace, bspContentsNodes, bspFindLeafNodes, bspTraceNodes, pointAt}
 use Rattle.served.specs.Words.{hullAsked, contentsLength, leafLength, traceLength, hullTable, hullRoot, contentsVisits, leafVisits, traceVisits, nodeCount, treeHeight, renderTable}

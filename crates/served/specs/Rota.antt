@@ -12,7 +12,7 @@ use lib.Ieee.{Float}
 use lib.ListN.{length}
 use Rattle.format.specs.Section.{recordCount}
 use Rattle.format.specs.declared.section.BspFileSectionId.the-variants.{Leaves}
-use Rattle.tree.specs.Demand3.{Floats}
+use Rattle.tree.specs.Readable.{Floats}
 use Rattle.words.specs.Words.{mapOf}
 use Rattle.served.specs.Cited.{bspLoad, bspHull, bspTreeCheck, bspContents, bspFindLeaf, bspTrace, bspPvs, bspAccept, pointAt}
 use Rattle.served.specs.Words.{hullTable, hullRoot, treeHeight, renderTable}

@@ -14,7 +14,7 @@ use mathlib.Core.Path.{_≡_}
 use lib.Ieee.{Float}
 use Rattle.math.specs.declared.Vector3.{Vector3}
 use Rattle.walk.specs.StartedSolid.{Finite3}
-use Rattle.tree.specs.Demand3.{Floats}
+use Rattle.tree.specs.Readable.{Floats}
 use Rattle.served.specs.Cited.{bspContents, bspTrace, pointAt}
 use Rattle.served.specs.Words.{contentsCode, traceStartSolid, solidCode}
 

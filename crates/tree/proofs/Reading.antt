@@ -34,7 +34,7 @@ use Rattle.records.proofs.Readable.{WasRead, was-read, limited}
 use Rattle.nodes.specs.Tables.{End, renderNode, clipNode, nth, boxPlanes, nodesOf, tableOf}
 use Rattle.nodes.specs.declared.table.HullTable.{HullTable}
 use Rattle.nodes.specs.declared.table.HullTable.the-variants.{Render, Clip, Box}
-use Rattle.tree.specs.Demand3.{Floats}
+use Rattle.tree.specs.Readable.{Floats}
 
 none : {A : Type 0} {P : Type 0} (n : ℕ) (a : A) → Ans.refused n ≡ answer a → P
 none n a e = let z : _≡_ {A = ℕ} 0 1 = cc in absurd (omega arith)

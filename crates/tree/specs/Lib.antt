@@ -1,4 +1,4 @@
--- What the contracts of `tree` cite, demand 3 at the level of the file's tables, and note 8's number of nodes.
+-- What the contracts of `tree` cite, what laws ask of a file's tables, and note 8's number of nodes.
 pub mod Check
-pub mod Demand3
+pub mod Readable
 pub mod Size

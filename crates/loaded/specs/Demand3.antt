@@ -1,49 +1,30 @@
 -- Demand 3, for the tables of one file: for either node table and every root that passed the tree check, whatever the floats, every walk
 -- and trace is answered, its visits are the length of the list of nodes entered, each of them is in the root's tree, none twice, and a
--- point or leaf walk is no longer than the tree's height. proofs/Demand3.antt proves it, for every file, map record, table and root, by one
--- argument over the tables.
+-- point or leaf walk is no longer than the tree's height. proofs/Demand3.antt proves it, for every file, map record, table and root whose
+-- planes and leaves can be read, by one argument over the tables.
 -- The words of it: the root's tree is `InTree` of Tree.antt in `walk`; walks and traces with the nodes that they enter, in order, are
 -- Walk.antt and Trace.antt there; 'answered', 'visits', 'in the root's tree' and 'none twice' are the fields of `Answered`, and
 -- 'no longer than the height' that of `AnsweredWithin`, both of Demand3.antt there.
-use Prim.Native.Nat.{ℕ, _<_}
+use Prim.Native.Nat.{ℕ}
 use mathlib.Core.List.{List}
 use mathlib.Core.Path.{_≡_}
-use lib.Dec.{T}
-use lib.Ieee.{binary32, fits}
 use Rattle.format.specs.Answer.{answer}
-use Rattle.format.specs.Section.{recordCount}
 use Rattle.format.specs.declared.section.BspData.{BspData}
-use Rattle.format.specs.declared.section.BspFileSectionId.the-variants.{Planes, Leaves}
 use Rattle.math.specs.declared.Vector3.{Vector3}
-use Rattle.math.specs.declared.Hyperplane.{Hyperplane}
 use Rattle.walk.specs.Walk.{pointWalk}
 use Rattle.walk.specs.Trace as Tracing
 use Rattle.walk.specs.TreeCheck.{treeCheck}
 use Rattle.walk.specs.Tree.{Height}
 use Rattle.walk.specs.Demand3.{Answered, AnsweredWithin}
-use Rattle.records.specs.Plane.{planeOf}
-use Rattle.records.specs.Leaf.{leafOf}
-use Rattle.records.specs.declared.leaf.BspLeaf.{BspLeaf}
 use Rattle.nodes.specs.Tables.{nodesOf, tableOf, leafTable}
 use Rattle.nodes.specs.declared.table.HullTable.{HullTable}
 use Rattle.nodes.specs.declared.table.HullTable.the-variants.{Render}
-
--- The planes and leaves of the file s, with the map record m, can be read, as can those of every file that loads. (The check itself
--- reads the nodes.)
-pub record Readable (s : List ℕ) (m : BspData) : Type 0 where
-  pub planes : (i : ℕ) → i < recordCount Planes (m .planes) → (h : Hyperplane) × (planeOf s m i ≡ answer h)
-  pub leaves : (i : ℕ) → i < recordCount Leaves (m .leaves) → (l : BspLeaf) × (leafOf s m i ≡ answer l)
+use Rattle.tree.specs.Readable.{Floats}
 
 -- the root passed the tree check with the answer h, whatever marks were lent
 pub record Passed (s : List ℕ) (m : BspData) (table : HullTable) (root h : ℕ) : Type 0 where
   pub marks : List ℕ
   pub passed : treeCheck (nodesOf s m table) marks root .answer ≡ answer h
-
--- a point of three f32, as every point in a program is
-pub record Floats (p : Vector3) : Type 0 where
-  pub x-float : T (fits binary32 (p .x))
-  pub y-float : T (fits binary32 (p .y))
-  pub z-float : T (fits binary32 (p .z))
 
 -- demand 3's conclusion for the root; the bounds mins and maxs are those of a box, and other tables do not look at them
 pub record Demand3 (s : List ℕ) (m : BspData) (table : HullTable) (root h : ℕ) : Type 0 where
