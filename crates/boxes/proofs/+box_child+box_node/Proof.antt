@@ -161,23 +161,8 @@ module _ (t : ℕ) where
   back-is : (c : Back) → let d = sided-at (front-at c) in setAnswer (c .box-child3 .result) ≡ of-word (from-sided d) (Fast.wordOn (words d) false)
   back-is c = let d = sided-at (front-at c) in c .box-child3 .ensures ∙ ap (of-word (from-sided d)) (c .before .on3 .ensures)
 
-  box-child-box-node-requires : box-child-lts.Need-box-node-requires (called′ t) (box-child-at t) box-child.Post
-  box-child-box-node-requires c κs = search needs
-
   box-child-returns : box-child-lts.Need-returns (called′ t) (box-child-at t) box-child.Post
   box-child-returns c = let s = c .before .before .before in c .box-node .ensures ∙ word-node (now (s .args .s)) (s .args .t) (s .args .lo) (s .args .hi) (s .args .levels) (s .args .word) (c .before .if1 .taken)
-
-  box-child-end-contents-requires : box-child-lts.Need-end-contents-requires (called′ t) (box-child-at t) box-child.Post
-  box-child-end-contents-requires c κs = search needs
-
-  box-child-enum-known-c : box-child-lts.Need-enum-known-c (called′ t) (box-child-at t) box-child.Post
-  box-child-enum-known-c c = search needs
-
-  box-child-only-requires : box-child-lts.Need-only-requires (called′ t) (box-child-at t) box-child.Post
-  box-child-only-requires c κs = search needs
-
-  box-child-enum-known-e : box-child-lts.Need-enum-known-e (called′ t) (box-child-at t) box-child.Post
-  box-child-enum-known-e c = search needs
 
   box-child-returns-2 : box-child-lts.Need-returns-2 (called′ t) (box-child-at t) box-child.Post
   box-child-returns-2 c = let s = c .before .before .before .before .before .before .before in word-end (now (s .args .s)) (s .args .t) (s .args .lo) (s .args .hi) (s .args .levels) (s .args .word) (c .before .before .before .before .before .if1 .left) _ (c .before .before .before .before .end-contents .ensures) _ _ (c .before .before .c .given .1) (c .only .ensures)
@@ -185,95 +170,29 @@ module _ (t : ℕ) where
   box-child-returns-3 : box-child-lts.Need-returns-3 (called′ t) (box-child-at t) box-child.Post
   box-child-returns-3 c = let s = c .before .before .before .before .before .before in word-refused (now (s .args .s)) (s .args .t) (s .args .lo) (s .args .hi) (s .args .levels) (s .args .word) (c .before .before .before .before .if1 .left) _ (c .before .before .before .end-contents .ensures) _ (c .before .e .given .1)
 
-  box-node-cast-if1 : box-node-lts.Need-cast-if1 (called t) (box-node-at t) box-node.Post
-  box-node-cast-if1 c = search needs
-
   box-node-returns : box-node-lts.Need-returns (called t) (box-node-at t) box-node.Post
   box-node-returns c = let s = c .before .before .before .before in box-outside (now (s .args .s)) (s .args .t) (s .args .lo) (s .args .hi) (s .args .levels) (s .args .node) (c .if1 .taken)
 
   box-node-returns-2 : box-node-lts.Need-returns-2 (called t) (box-node-at t) box-node.Post
   box-node-returns-2 c = let s = c .before .before .before .before .before in box-spent (now (s .args .s)) (s .args .t) (s .args .lo) (s .args .hi) (s .args .levels) (s .args .node) (c .before .if1 .left) (c .if2 .taken)
 
-  box-node-read-words-requires : box-node-lts.Need-read-words-requires (called t) (box-node-at t) box-node.Post
-  box-node-read-words-requires c κs = search needs
-
-  box-node-enum-known-w : box-node-lts.Need-enum-known-w (called t) (box-node-at t) box-node.Post
-  box-node-enum-known-w c = search needs
-
-  box-node-enum-known-e : box-node-lts.Need-enum-known-e (called t) (box-node-at t) box-node.Post
-  box-node-enum-known-e c = search needs
-
   box-node-returns-3 : box-node-lts.Need-returns-3 (called t) (box-node-at t) box-node.Post
   box-node-returns-3 c = let o = c .before .before .before .before in let s = from-open o in box-unread (now (s .args .s)) (s .args .t) (s .args .lo) (s .args .hi) (s .args .levels) (s .args .node) (o .before .if1 .left) (o .if2 .left) _ (c .before .before .before .read-words .ensures) _ (c .before .e .given .1)
-
-  box-node-cast-plane-at : box-node-lts.Need-cast-plane-at (called t) (box-node-at t) box-node.Post
-  box-node-cast-plane-at c = search needs
-
-  box-node-plane-at-requires : box-node-lts.Need-plane-at-requires (called t) (box-node-at t) box-node.Post
-  box-node-plane-at-requires c κs = search needs
-
-  box-node-enum-known-h : box-node-lts.Need-enum-known-h (called t) (box-node-at t) box-node.Post
-  box-node-enum-known-h c = search needs
-
-  box-node-enum-known-e-2 : box-node-lts.Need-enum-known-e-2 (called t) (box-node-at t) box-node.Post
-  box-node-enum-known-e-2 c = search needs
 
   box-node-returns-4 : box-node-lts.Need-returns-4 (called t) (box-node-at t) box-node.Post
   box-node-returns-4 c = let r = c .before .before .before .before .before .before in let o = r .before .before .before in let s = from-open o in box-unplaned (now (s .args .s)) (s .args .t) (s .args .lo) (s .args .hi) (s .args .levels) (s .args .node) (o .before .if1 .left) (o .if2 .left) _ (r .before .before .read-words .ensures) _ (r .w .given .1) _ (sym (c .before .before .before .plane-at .ensures) ∙ ap planeAnswer (c .before .e2 .given .1))
 
-  box-node-box-side-requires : box-node-lts.Need-box-side-requires (called t) (box-node-at t) box-node.Post
-  box-node-box-side-requires c κs = search needs
-
-  box-node-enum-known-side : box-node-lts.Need-enum-known-side (called t) (box-node-at t) box-node.Post
-  box-node-enum-known-side c = search needs
-
-  box-node-is-front-requires : box-node-lts.Need-is-front-requires (called t) (box-node-at t) box-node.Post
-  box-node-is-front-requires c κs = search needs
-
-  box-node-on-requires : box-node-lts.Need-on-requires (called t) (box-node-at t) box-node.Post
-  box-node-on-requires c κs = search needs
-
-  box-node-sub-box-child : box-node-lts.Need-sub-box-child (called t) (box-node-at t) box-node.Post
-  box-node-sub-box-child c = search needs
-
   box-node-box-child-requires : box-node-lts.Need-box-child-requires (called t) (box-node-at t) box-node.Post
   box-node-box-child-requires c κs = let d = c .before .before .before .before .before in (less (open-at d), from-sided d .pre .1)
-
-  box-node-enum-told : box-node-lts.Need-enum-told (called t) (box-node-at t) box-node.Post
-  box-node-enum-told c = search needs
-
-  box-node-on-requires-2 : box-node-lts.Need-on-requires-2 (called t) (box-node-at t) box-node.Post
-  box-node-on-requires-2 c κs = search needs
-
-  box-node-sub-box-child-2 : box-node-lts.Need-sub-box-child-2 (called t) (box-node-at t) box-node.Post
-  box-node-sub-box-child-2 c = search needs
 
   box-node-box-child-requires-2 : box-node-lts.Need-box-child-requires-2 (called t) (box-node-at t) box-node.Post
   box-node-box-child-requires-2 c κs = let d = c .before .before .before in (less (open-at d), from-sided d .pre .1)
 
-  box-node-enum-known-front : box-node-lts.Need-enum-known-front (called t) (box-node-at t) box-node.Post
-  box-node-enum-known-front c = search needs
-
-  box-node-enum-told-2 : box-node-lts.Need-enum-told-2 (called t) (box-node-at t) box-node.Post
-  box-node-enum-told-2 c = search needs
-
   box-node-returns-5 : box-node-lts.Need-returns-5 (called t) (box-node-at t) box-node.Post
   box-node-returns-5 c = ends-front _ _ _ (c .enum-told2 .given .1) ∙ on-both (c .before .before)
 
-  box-node-on-requires-3 : box-node-lts.Need-on-requires-3 (called t) (box-node-at t) box-node.Post
-  box-node-on-requires-3 c κs = search needs
-
-  box-node-sub-box-child-3 : box-node-lts.Need-sub-box-child-3 (called t) (box-node-at t) box-node.Post
-  box-node-sub-box-child-3 c = search needs
-
   box-node-box-child-requires-3 : box-node-lts.Need-box-child-requires-3 (called t) (box-node-at t) box-node.Post
   box-node-box-child-requires-3 c κs = let d = sided-at (c .before .before .before .before) in (less (open-at d), from-sided d .pre .1)
-
-  box-node-enum-known-back : box-node-lts.Need-enum-known-back (called t) (box-node-at t) box-node.Post
-  box-node-enum-known-back c = search needs
-
-  box-node-enum-told-3 : box-node-lts.Need-enum-told-3 (called t) (box-node-at t) box-node.Post
-  box-node-enum-told-3 c = search needs
 
   box-node-returns-6 : box-node-lts.Need-returns-6 (called t) (box-node-at t) box-node.Post
   box-node-returns-6 c = let b = c .before .before in ends-back _ _ _ _ _ (b .before .before .before .front .given .1) (c .enum-told3 .given .1) (back-is b) ∙ on-both (front-at b)
@@ -286,45 +205,45 @@ module _ (t : ℕ) where
 
 pub +box-child+box-node-spec : {M : Type 1} → statement M
 +box-child+box-node-spec = close μ-box-child μ-box-node (λ t. box-child-lts.spec (called′ t) (box-child-at t) box-child.Post
-    (box-child-box-node-requires t)
+    (λ c κs. search needs)
     (box-child-returns t)
-    (box-child-end-contents-requires t)
-    (box-child-enum-known-c t)
-    (box-child-only-requires t)
-    (box-child-enum-known-e t)
+    (λ c κs. search needs)
+    (λ c. search needs)
+    (λ c κs. search needs)
+    (λ c. search needs)
     (box-child-returns-2 t)
     (box-child-returns-3 t))
     λ t. box-node-lts.spec (called t) (box-node-at t) box-node.Post
-    (box-node-cast-if1 t)
+    (λ c. search needs)
     (box-node-returns t)
     (box-node-returns-2 t)
-    (box-node-read-words-requires t)
-    (box-node-enum-known-w t)
-    (box-node-enum-known-e t)
+    (λ c κs. search needs)
+    (λ c. search needs)
+    (λ c. search needs)
     (box-node-returns-3 t)
-    (box-node-cast-plane-at t)
-    (box-node-plane-at-requires t)
-    (box-node-enum-known-h t)
-    (box-node-enum-known-e-2 t)
+    (λ c. search needs)
+    (λ c κs. search needs)
+    (λ c. search needs)
+    (λ c. search needs)
     (box-node-returns-4 t)
-    (box-node-box-side-requires t)
-    (box-node-enum-known-side t)
-    (box-node-is-front-requires t)
-    (box-node-on-requires t)
-    (box-node-sub-box-child t)
+    (λ c κs. search needs)
+    (λ c. search needs)
+    (λ c κs. search needs)
+    (λ c κs. search needs)
+    (λ c. search needs)
     (box-node-box-child-requires t)
-    (box-node-enum-told t)
-    (box-node-on-requires-2 t)
-    (box-node-sub-box-child-2 t)
+    (λ c. search needs)
+    (λ c κs. search needs)
+    (λ c. search needs)
     (box-node-box-child-requires-2 t)
-    (box-node-enum-known-front t)
-    (box-node-enum-told-2 t)
+    (λ c. search needs)
+    (λ c. search needs)
     (box-node-returns-5 t)
-    (box-node-on-requires-3 t)
-    (box-node-sub-box-child-3 t)
+    (λ c κs. search needs)
+    (λ c. search needs)
     (box-node-box-child-requires-3 t)
-    (box-node-enum-known-back t)
-    (box-node-enum-told-3 t)
+    (λ c. search needs)
+    (λ c. search needs)
     (box-node-returns-6 t)
     (box-node-returns-7 t)
     (box-node-returns-8 t)

@@ -48,45 +48,12 @@ returns-4 : tie.Need-returns-4
 unfolding bspContentsBox
 returns-4 c = simp (le-ltb _ _ (c .before .before .before .if1 .left), le-ltb _ _ (c .before .before .if2 .left), le-ltb _ _ (c .before .if3 .left), lt-ltb _ _ (c .if4 .taken))
 
-walked-hull-requires : tie.Need-walked-hull-requires
-walked-hull-requires c κs = search needs
-
-enum-known-e : tie.Need-enum-known-e
-enum-known-e c = search needs
-
-number-requires : tie.Need-number-requires
-number-requires c κs = search needs
-
-enum-known-h : tie.Need-enum-known-h
-enum-known-h c = search needs
-
-walked-map-requires : tie.Need-walked-map-requires
-walked-map-requires c κs = search needs
-
-first-point-requires : tie.Need-first-point-requires
-first-point-requires c κs = search needs
-
-second-point-requires : tie.Need-second-point-requires
-second-point-requires c κs = search needs
-
-contents-in-box-requires : tie.Need-contents-in-box-requires
-contents-in-box-requires c κs = search needs
-
-give-set-requires : tie.Need-give-set-requires
-give-set-requires c κs = search needs
-
 returns-5 : tie.Need-returns-5
 returns-5 c =
     let w = c .before .before .before .before in
     let s = w .before .before .before .before .before .before .before .before .before .before .before .args in
     at-hull w (refused _)
     (no-hull (s .file .now) (s .map .now) (s .hull .now) (asked (pointAt (s .bounds .now) 0) (pointAt (s .bounds .now) 3) (s .marks .now)) _ (w .walked-hull .ensures) _ (c .before .before .e .given .1) _ (c .number .ensures))
-
-same-length : tie.Need-same-length
-same-length c = search needs
-
-same-length-2 : tie.Need-same-length-2
-same-length-2 c = search needs
 
 returns-6 : tie.Need-returns-6
 returns-6 c =
@@ -108,16 +75,16 @@ contents-box-spec =
     returns-2
     returns-3
     returns-4
-    walked-hull-requires
-    enum-known-e
-    number-requires
-    enum-known-h
-    walked-map-requires
-    first-point-requires
-    second-point-requires
-    contents-in-box-requires
-    give-set-requires
+    (λ c κs. search needs)
+    (λ c. search needs)
+    (λ c κs. search needs)
+    (λ c. search needs)
+    (λ c κs. search needs)
+    (λ c κs. search needs)
+    (λ c κs. search needs)
+    (λ c κs. search needs)
+    (λ c κs. search needs)
     returns-5
-    same-length
-    same-length-2
+    (λ c. search needs)
+    (λ c. search needs)
     returns-6)

@@ -29,50 +29,11 @@ returns-3 : tie.Need-returns-3
 unfolding bspHullCheck
 returns-3 c = simp (le-ltb _ _ (c .before .before .if1 .left), le-ltb _ _ (c .before .if2 .left), lt-ltb _ _ (c .if3 .taken))
 
-hull-from-requires : tie.Need-hull-from-requires
-hull-from-requires c κs = search needs
-
-enum-known-e : tie.Need-enum-known-e
-enum-known-e c = search needs
-
-number-requires : tie.Need-number-requires
-number-requires c κs = search needs
-
-enum-known-h : tie.Need-enum-known-h
-enum-known-h c = search needs
-
-map-of-requires : tie.Need-map-of-requires
-map-of-requires c κs = search needs
-
-check-hull-requires : tie.Need-check-hull-requires
-check-hull-requires c κs = search needs
-
-enum-known-e-2 : tie.Need-enum-known-e-2
-enum-known-e-2 c = search needs
-
-number-requires-2 : tie.Need-number-requires-2
-number-requires-2 c κs = search needs
-
-enum-known-filled : tie.Need-enum-known-filled
-enum-known-filled c = search needs
-
-hull-words-requires : tie.Need-hull-words-requires
-hull-words-requires c κs = search needs
-
-slice-aggregate-give : tie.Need-slice-aggregate-give
-slice-aggregate-give c = search needs
-
-give-requires : tie.Need-give-requires
-give-requires c κs = search needs
-
 returns-4 : tie.Need-returns-4
 returns-4 c =
     let s = c .before .before .before .before .before .before .before .before .before .before .before .before .before .args in
     long-enough (c .before .before .before .before) _
     (of-none (s .file .now) (s .map .now) (s .marks .now) (s .out .now) _ _ (c .before .before .e .given .1) _ (c .number .ensures))
-
-same-length : tie.Need-same-length
-same-length c = search needs
 
 returns-5 : tie.Need-returns-5
 returns-5 c =
@@ -80,12 +41,6 @@ returns-5 c =
     long-enough (c .before .before .before .before .before .before .before .before .before .before .before .before) _
     (of-hull (s .file .now) (s .map .now) (s .marks .now) (s .out .now) _ _ (c .before .before .before .before .before .before .before .before .before .before .h .given .1) _ (c .before .before .before .before .before .before .before .before .map-of .ensures) _
     (check-refused _ _ _ (s .out .now) (c .before .before .before .before .before .before .check-hull .ensures) _ (c .before .before .e2 .given .1) _ (c .number2 .ensures)))
-
-same-length-2 : tie.Need-same-length-2
-same-length-2 c = search needs
-
-same-length-3 : tie.Need-same-length-3
-same-length-3 c = search needs
 
 returns-6 : tie.Need-returns-6
 returns-6 c =
@@ -101,21 +56,21 @@ hull-check-spec =
     returns
     returns-2
     returns-3
-    hull-from-requires
-    enum-known-e
-    number-requires
-    enum-known-h
-    map-of-requires
-    check-hull-requires
-    enum-known-e-2
-    number-requires-2
-    enum-known-filled
-    hull-words-requires
-    slice-aggregate-give
-    give-requires
+    (λ c κs. search needs)
+    (λ c. search needs)
+    (λ c κs. search needs)
+    (λ c. search needs)
+    (λ c κs. search needs)
+    (λ c κs. search needs)
+    (λ c. search needs)
+    (λ c κs. search needs)
+    (λ c. search needs)
+    (λ c κs. search needs)
+    (λ c. search needs)
+    (λ c κs. search needs)
     returns-4
-    same-length
+    (λ c. search needs)
     returns-5
-    same-length-2
-    same-length-3
+    (λ c. search needs)
+    (λ c. search needs)
     returns-6)

@@ -5,18 +5,6 @@ use Rattle.ffi_hull.specs.Layout.{hullFrom}
 use Rattle.ffi_checked.proofs.hull_from.Statement.{statement}
 use Rattle.ffi_checked.proofs.hull_from.Tie as tie
 
-word-at-u64-requires : tie.Need-word-at-u64-requires
-word-at-u64-requires c κs = search needs
-
-hull-in-requires : tie.Need-hull-in-requires
-hull-in-requires c κs = search needs
-
-hull-in-requires-2 : tie.Need-hull-in-requires-2
-hull-in-requires-2 c κs = search needs
-
-hull-in-requires-3 : tie.Need-hull-in-requires-3
-hull-in-requires-3 c κs = search needs
-
 returns : tie.Need-returns
 unfolding hullFrom
 returns c = simp (← c .before .before .word-at-u64 .ensures, c .before .match .keys1, c .hull-in .ensures)
@@ -39,10 +27,10 @@ pub hull-from-spec : {M : Type 1} → statement M
 hull-from-spec =
     tie.close
     (tie.spec
-    word-at-u64-requires
-    hull-in-requires
-    hull-in-requires-2
-    hull-in-requires-3
+    (λ c κs. search needs)
+    (λ c κs. search needs)
+    (λ c κs. search needs)
+    (λ c κs. search needs)
     returns
     returns-2
     returns-3

@@ -26,38 +26,8 @@ returns-2 : tie.Need-returns-2
 unfolding bspCount
 returns-2 c = simp (le-ltb _ _ (c .before .if1 .left), lt-ltb _ _ (c .if2 .taken))
 
-map-of-requires : tie.Need-map-of-requires
-map-of-requires c κs = search needs
-
-section-numbered-requires : tie.Need-section-numbered-requires
-section-numbered-requires c κs = search needs
-
-enum-told : tie.Need-enum-told
-enum-told c = search needs
-
-enum-known-id : tie.Need-enum-known-id
-enum-known-id c = search needs
-
-section-requires : tie.Need-section-requires
-section-requires c κs = search needs
-
-record-count-requires : tie.Need-record-count-requires
-record-count-requires c κs = search needs
-
-cast-t13 : tie.Need-cast-t13
-cast-t13 c = search needs
-
-slice-aggregate-give : tie.Need-slice-aggregate-give
-slice-aggregate-give c = search needs
-
-give-requires : tie.Need-give-requires
-give-requires c κs = search needs
-
 returns-3 : tie.Need-returns-3
 returns-3 c = long-enough (c .before .before) _ (rw (c .enum-told .given .1))
-
-same-length : tie.Need-same-length
-same-length c = search needs
 
 returns-4 : tie.Need-returns-4
 returns-4 c =
@@ -70,15 +40,15 @@ count-spec =
     (tie.spec
     returns
     returns-2
-    map-of-requires
-    section-numbered-requires
-    enum-told
-    enum-known-id
-    section-requires
-    record-count-requires
-    cast-t13
-    slice-aggregate-give
-    give-requires
+    (λ c κs. search needs)
+    (λ c κs. search needs)
+    (λ c. search needs)
+    (λ c. search needs)
+    (λ c κs. search needs)
+    (λ c κs. search needs)
+    (λ c. search needs)
+    (λ c. search needs)
+    (λ c κs. search needs)
     returns-3
-    same-length
+    (λ c. search needs)
     returns-4)

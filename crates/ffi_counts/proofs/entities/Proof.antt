@@ -26,32 +26,8 @@ returns-2 : tie.Need-returns-2
 unfolding bspEntities
 returns-2 c = simp (le-ltb _ _ (c .before .if1 .left), lt-ltb _ _ (c .if2 .taken))
 
-map-of-requires : tie.Need-map-of-requires
-map-of-requires c κs = search needs
-
-entities-requires : tie.Need-entities-requires
-entities-requires c κs = search needs
-
-enum-known-e : tie.Need-enum-known-e
-enum-known-e c = search needs
-
-number-requires : tie.Need-number-requires
-number-requires c κs = search needs
-
-enum-known-at : tie.Need-enum-known-at
-enum-known-at c = search needs
-
-slice-aggregate-give : tie.Need-slice-aggregate-give
-slice-aggregate-give c = search needs
-
-give-requires : tie.Need-give-requires
-give-requires c κs = search needs
-
 returns-3 : tie.Need-returns-3
 returns-3 c = long-enough (c .before .before .before .before .before) _ (refuses entitiesAnswer partWords (c .before .before .before .before .entities .ensures) (c .before .before .e .given .1) refl (c .number .ensures))
-
-same-length : tie.Need-same-length
-same-length c = search needs
 
 returns-4 : tie.Need-returns-4
 returns-4 c =
@@ -63,13 +39,13 @@ entities-spec =
     (tie.spec
     returns
     returns-2
-    map-of-requires
-    entities-requires
-    enum-known-e
-    number-requires
-    enum-known-at
-    slice-aggregate-give
-    give-requires
+    (λ c κs. search needs)
+    (λ c κs. search needs)
+    (λ c. search needs)
+    (λ c κs. search needs)
+    (λ c. search needs)
+    (λ c. search needs)
+    (λ c κs. search needs)
     returns-3
-    same-length
+    (λ c. search needs)
     returns-4)

@@ -27,24 +27,6 @@ returns-3 : tie.Need-returns-3
 unfolding bspFindLeafNodes
 returns-3 c = simp (le-ltb _ _ (c .before .before .if1 .left), le-ltb _ _ (c .before .if2 .left), lt-ltb _ _ (c .if3 .taken))
 
-walked-map-requires : tie.Need-walked-map-requires
-walked-map-requires c κs = search needs
-
-first-point-requires : tie.Need-first-point-requires
-first-point-requires c κs = search needs
-
-nodes-to-leaf-requires : tie.Need-nodes-to-leaf-requires
-nodes-to-leaf-requires c κs = search needs
-
-give-count-requires : tie.Need-give-count-requires
-give-count-requires c κs = search needs
-
-same-length : tie.Need-same-length
-same-length c = search needs
-
-same-length-2 : tie.Need-same-length-2
-same-length-2 c = search needs
-
 returns-4 : tie.Need-returns-4
 unfolding bspFindLeafNodes
 returns-4 c =
@@ -62,10 +44,10 @@ find-leaf-nodes-spec =
     returns
     returns-2
     returns-3
-    walked-map-requires
-    first-point-requires
-    nodes-to-leaf-requires
-    give-count-requires
-    same-length
-    same-length-2
+    (λ c κs. search needs)
+    (λ c κs. search needs)
+    (λ c κs. search needs)
+    (λ c κs. search needs)
+    (λ c. search needs)
+    (λ c. search needs)
     returns-4)

@@ -13,33 +13,9 @@ returns : tie.Need-returns
 unfolding bspLoad
 returns c = simp (lt-ltb _ _ (c .if1 .taken))
 
-load-requires : tie.Need-load-requires
-load-requires c κs = search needs
-
-enum-known-e : tie.Need-enum-known-e
-enum-known-e c = search needs
-
-number-requires : tie.Need-number-requires
-number-requires c κs = search needs
-
-enum-known-data : tie.Need-enum-known-data
-enum-known-data c = search needs
-
-map-words-requires : tie.Need-map-words-requires
-map-words-requires c κs = search needs
-
-slice-aggregate-give-u32 : tie.Need-slice-aggregate-give-u32
-slice-aggregate-give-u32 c = search needs
-
-give-u32-requires : tie.Need-give-u32-requires
-give-u32-requires c κs = search needs
-
 returns-2 : tie.Need-returns-2
 unfolding bspLoad
 returns-2 c = simp (le-ltb _ _ (c .before .before .before .before .before .if1 .left)) (refuses loadedAnswer mapWords (c .before .before .before .before .load .ensures) (c .before .before .e .given .1) refl (c .number .ensures))
-
-same-length : tie.Need-same-length
-same-length c = search needs
 
 returns-3 : tie.Need-returns-3
 unfolding bspLoad
@@ -52,13 +28,13 @@ load-spec =
     tie.close
     (tie.spec
     returns
-    load-requires
-    enum-known-e
-    number-requires
-    enum-known-data
-    map-words-requires
-    slice-aggregate-give-u32
-    give-u32-requires
+    (λ c κs. search needs)
+    (λ c. search needs)
+    (λ c κs. search needs)
+    (λ c. search needs)
+    (λ c κs. search needs)
+    (λ c. search needs)
+    (λ c κs. search needs)
     returns-2
-    same-length
+    (λ c. search needs)
     returns-3)

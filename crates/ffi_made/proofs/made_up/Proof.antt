@@ -8,9 +8,6 @@ use Rattle.ffi_made.specs.Calls.{bspMadeUp}
 use Rattle.ffi_made.proofs.made_up.Statement.{statement}
 use Rattle.ffi_made.proofs.made_up.Tie as tie
 
-is-node-count-requires : tie.Need-is-node-count-requires
-is-node-count-requires c κs = search needs
-
 returns : tie.Need-returns
 unfolding bspMadeUp
 returns c = simp (sym (c .before .is-node-count .ensures) ∙ not-true _ (c .if1 .taken))
@@ -18,18 +15,6 @@ returns c = simp (sym (c .before .is-node-count .ensures) ∙ not-true _ (c .if1
 returns-2 : tie.Need-returns-2
 unfolding bspMadeUp
 returns-2 c = simp (sym (c .before .before .is-node-count .ensures) ∙ not-false _ (c .before .if1 .left), lt-ltb _ _ (c .if2 .taken))
-
-made-up-requires : tie.Need-made-up-requires
-made-up-requires c κs = search needs
-
-give-length-requires : tie.Need-give-length-requires
-give-length-requires c κs = search needs
-
-same-length : tie.Need-same-length
-same-length c = search needs
-
-same-length-2 : tie.Need-same-length-2
-same-length-2 c = search needs
 
 returns-3 : tie.Need-returns-3
 unfolding bspMadeUp
@@ -43,11 +28,11 @@ pub made-up-spec : {M : Type 1} → statement M
 made-up-spec =
     tie.close
     (tie.spec
-    is-node-count-requires
+    (λ c κs. search needs)
     returns
     returns-2
-    made-up-requires
-    give-length-requires
-    same-length
-    same-length-2
+    (λ c κs. search needs)
+    (λ c κs. search needs)
+    (λ c. search needs)
+    (λ c. search needs)
     returns-3)

@@ -30,21 +30,6 @@ returns-3 : tie.Need-returns-3
 unfolding bspOrderContents
 returns-3 c = simp (le-ltb _ _ (c .before .before .if1 .left), le-ltb _ _ (c .before .if2 .left), lt-ltb _ _ (c .if3 .taken))
 
-first-point-requires : tie.Need-first-point-requires
-first-point-requires c κs = search needs
-
-planes-map-requires : tie.Need-planes-map-requires
-planes-map-requires c κs = search needs
-
-contents-in-order-requires : tie.Need-contents-in-order-requires
-contents-in-order-requires c κs = search needs
-
-give-contents-requires : tie.Need-give-contents-requires
-give-contents-requires c κs = search needs
-
-same-length : tie.Need-same-length
-same-length c = search needs
-
 returns-4 : tie.Need-returns-4
 unfolding bspOrderContents
 returns-4 c =
@@ -62,9 +47,9 @@ contents-spec =
     returns
     returns-2
     returns-3
-    first-point-requires
-    planes-map-requires
-    contents-in-order-requires
-    give-contents-requires
-    same-length
+    (λ c κs. search needs)
+    (λ c κs. search needs)
+    (λ c κs. search needs)
+    (λ c κs. search needs)
+    (λ c. search needs)
     returns-4)

@@ -23,27 +23,6 @@ returns-3 : tie.Need-returns-3
 unfolding bspOrder
 returns-3 c = simp (le-ltb _ _ (c .before .before .if1 .left), le-ltb _ _ (c .before .if2 .left), le-ltb _ _ (c .if3 .taken))
 
-map-of-requires : tie.Need-map-of-requires
-map-of-requires c κs = search needs
-
-node-table-requires : tie.Need-node-table-requires
-node-table-requires c κs = search needs
-
-order-nodes-requires : tie.Need-order-nodes-requires
-order-nodes-requires c κs = search needs
-
-give-count-requires : tie.Need-give-count-requires
-give-count-requires c κs = search needs
-
-same-length : tie.Need-same-length
-same-length c = search needs
-
-same-length-2 : tie.Need-same-length-2
-same-length-2 c = search needs
-
-same-length-3 : tie.Need-same-length-3
-same-length-3 c = search needs
-
 returns-4 : tie.Need-returns-4
 unfolding bspOrder
 returns-4 c =
@@ -60,11 +39,11 @@ order-spec =
     returns
     returns-2
     returns-3
-    map-of-requires
-    node-table-requires
-    order-nodes-requires
-    give-count-requires
-    same-length
-    same-length-2
-    same-length-3
+    (λ c κs. search needs)
+    (λ c κs. search needs)
+    (λ c κs. search needs)
+    (λ c κs. search needs)
+    (λ c. search needs)
+    (λ c. search needs)
+    (λ c. search needs)
     returns-4)

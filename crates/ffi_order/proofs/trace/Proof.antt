@@ -32,24 +32,6 @@ returns-3 : tie.Need-returns-3
 unfolding bspOrderTrace
 returns-3 c = simp (le-ltb _ _ (c .before .before .if1 .left), le-ltb _ _ (c .before .if2 .left), lt-ltb _ _ (c .if3 .taken))
 
-first-point-requires : tie.Need-first-point-requires
-first-point-requires c κs = search needs
-
-second-point-requires : tie.Need-second-point-requires
-second-point-requires c κs = search needs
-
-planes-map-requires : tie.Need-planes-map-requires
-planes-map-requires c κs = search needs
-
-trace-in-order-requires : tie.Need-trace-in-order-requires
-trace-in-order-requires c κs = search needs
-
-give-trace-requires : tie.Need-give-trace-requires
-give-trace-requires c κs = search needs
-
-same-length : tie.Need-same-length
-same-length c = search needs
-
 returns-4 : tie.Need-returns-4
 unfolding bspOrderTrace
 returns-4 c =
@@ -68,10 +50,10 @@ trace-spec =
     returns
     returns-2
     returns-3
-    first-point-requires
-    second-point-requires
-    planes-map-requires
-    trace-in-order-requires
-    give-trace-requires
-    same-length
+    (λ c κs. search needs)
+    (λ c κs. search needs)
+    (λ c κs. search needs)
+    (λ c κs. search needs)
+    (λ c κs. search needs)
+    (λ c. search needs)
     returns-4)

@@ -30,35 +30,8 @@ returns-5 c = short-out _ _ _ _ _ _ (c .before .before .before .before .if1 .lef
 returns-6 : tie.Need-returns-6
 returns-6 c = short-list _ _ _ _ _ _ (c .before .before .before .before .before .if1 .left) (c .before .before .before .before .if2 .left) (c .before .before .before .if3 .left) (c .before .before .if4 .left) (c .before .if5 .left) (c .if6 .taken)
 
-walked-hull-requires : tie.Need-walked-hull-requires
-walked-hull-requires c κs = search needs
-
-enum-known-e : tie.Need-enum-known-e
-enum-known-e c = search needs
-
-number-requires : tie.Need-number-requires
-number-requires c κs = search needs
-
-enum-known-h : tie.Need-enum-known-h
-enum-known-h c = search needs
-
-walked-map-requires : tie.Need-walked-map-requires
-walked-map-requires c κs = search needs
-
-contents-at-points-requires : tie.Need-contents-at-points-requires
-contents-at-points-requires c κs = search needs
-
-give-reads-requires : tie.Need-give-reads-requires
-give-reads-requires c κs = search needs
-
 returns-7 : tie.Need-returns-7
 returns-7 c = let a = c .before .before .before .before .before .before .before .before .before .before .before .before .before .before .before .before .before .args in at-hull (a .file .now) (a .map .now) (a .hull .now) (a .points .now) (a .list .now) (a .out .now) (c .before .before .before .before .before .before .before .before .before .before .if1 .left) (c .before .before .before .before .before .before .before .before .before .if2 .left) (c .before .before .before .before .before .before .before .before .if3 .left) (c .before .before .before .before .before .before .before .if4 .left) (c .before .before .before .before .before .before .if5 .left) (c .before .before .before .before .before .if6 .left) (refused _) (no-hull (a .file .now) (a .map .now) (a .hull .now) (λ T root. codesAndReads T root (pointsOf (a .points .now))) _ (c .before .before .before .before .walked-hull .ensures) _ (c .before .before .e .given .1) _ (c .number .ensures))
-
-same-length : tie.Need-same-length
-same-length c = search needs
-
-same-length-2 : tie.Need-same-length-2
-same-length-2 c = search needs
 
 returns-8 : tie.Need-returns-8
 returns-8 c = let a = c .before .before .before .before .before .before .before .before .before .before .before .before .before .before .before .before .before .before .before .before .before .before .before .before .before .args in let h = c .before .before .before .before .before .before .before .before .before .before .h .given .0 .0 in let T = hullTable (a .file .now) (c .before .before .before .before .before .before .before .before .walked-map .result) h in counts (pointsAnswer (c .before .before .before .before .before .before .contents-at-points .result)) (c .before .before .before .before .before .before .contents-at-points .last .1 .1 .1 .1 .0) (a .out .now) (c .before .before .give-reads .ensures) (c .before .before .before .before .before .before .contents-at-points .ensures ∙ all-right T (h .«node_id») (a .points .now) (a .list .now) (c .before .before .before .before .before .before .before .before .before .before .before .before .before .before .before .before .before .before .if1 .left) (c .before .before .before .before .before .before .before .before .before .before .before .before .before .before .before .before .before .if2 .left) (c .before .before .before .before .before .before .before .before .before .before .before .before .before .if6 .left)) ∙ at-hull (a .file .now) (a .map .now) (a .hull .now) (a .points .now) (a .list .now) (a .out .now) (c .before .before .before .before .before .before .before .before .before .before .before .before .before .before .before .before .before .before .if1 .left) (c .before .before .before .before .before .before .before .before .before .before .before .before .before .before .before .before .before .if2 .left) (c .before .before .before .before .before .before .before .before .before .before .before .before .before .before .before .before .if3 .left) (c .before .before .before .before .before .before .before .before .before .before .before .before .before .before .before .if4 .left) (c .before .before .before .before .before .before .before .before .before .before .before .before .before .before .if5 .left) (c .before .before .before .before .before .before .before .before .before .before .before .before .before .if6 .left) (codesAndReads T (h .«node_id») (pointsOf (a .points .now))) (the-hull (a .file .now) (a .map .now) (a .hull .now) (λ T root. codesAndReads T root (pointsOf (a .points .now))) _ (c .before .before .before .before .before .before .before .before .before .before .before .before .walked-hull .ensures) h (c .before .before .before .before .before .before .before .before .before .before .h .given .1) _ (c .before .before .before .before .before .before .before .before .walked-map .ensures))
@@ -73,14 +46,14 @@ contents-points-spec =
     returns-4
     returns-5
     returns-6
-    walked-hull-requires
-    enum-known-e
-    number-requires
-    enum-known-h
-    walked-map-requires
-    contents-at-points-requires
-    give-reads-requires
+    (λ c κs. search needs)
+    (λ c. search needs)
+    (λ c κs. search needs)
+    (λ c. search needs)
+    (λ c κs. search needs)
+    (λ c κs. search needs)
+    (λ c κs. search needs)
     returns-7
-    same-length
-    same-length-2
+    (λ c. search needs)
+    (λ c. search needs)
     returns-8)

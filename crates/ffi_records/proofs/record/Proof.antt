@@ -23,114 +23,45 @@ returns-2 : tie.Need-returns-2
 unfolding bspRecord
 returns-2 c = simp (le-ltb _ _ (c .before .if1 .left), lt-ltb _ _ (c .if2 .taken))
 
-map-of-requires : tie.Need-map-of-requires
-map-of-requires c κs = search needs
-
-give-plane-requires : tie.Need-give-plane-requires
-give-plane-requires c κs = search needs
-
-give-vertex-requires : tie.Need-give-vertex-requires
-give-vertex-requires c κs = search needs
-
-give-render-node-requires : tie.Need-give-render-node-requires
-give-render-node-requires c κs = search needs
-
-give-texinfo-requires : tie.Need-give-texinfo-requires
-give-texinfo-requires c κs = search needs
-
-give-face-requires : tie.Need-give-face-requires
-give-face-requires c κs = search needs
-
-give-collision-node-requires : tie.Need-give-collision-node-requires
-give-collision-node-requires c κs = search needs
-
-give-leaf-requires : tie.Need-give-leaf-requires
-give-leaf-requires c κs = search needs
-
-give-face-index-requires : tie.Need-give-face-index-requires
-give-face-index-requires c κs = search needs
-
-give-edge-requires : tie.Need-give-edge-requires
-give-edge-requires c κs = search needs
-
-give-edge-index-requires : tie.Need-give-edge-index-requires
-give-edge-index-requires c κs = search needs
-
-give-model-requires : tie.Need-give-model-requires
-give-model-requires c κs = search needs
-
-same-length : tie.Need-same-length
-same-length c = search needs
-
 returns-3 : tie.Need-returns-3
 unfolding recordIn
 returns-3 c = long-enough (c .before .before .before .before .before) 1 _ (c .before .before .before .before .match .keys1) (c .before .before .give-plane .ensures)
-
-same-length-2 : tie.Need-same-length-2
-same-length-2 c = search needs
 
 returns-4 : tie.Need-returns-4
 unfolding recordIn
 returns-4 c = long-enough (c .before .before .before .before .before) 3 _ (c .before .before .before .before .match .keys2) (c .before .before .give-vertex .ensures)
 
-same-length-3 : tie.Need-same-length-3
-same-length-3 c = search needs
-
 returns-5 : tie.Need-returns-5
 unfolding recordIn
 returns-5 c = long-enough (c .before .before .before .before .before) 5 _ (c .before .before .before .before .match .keys3) (c .before .before .give-render-node .ensures)
-
-same-length-4 : tie.Need-same-length-4
-same-length-4 c = search needs
 
 returns-6 : tie.Need-returns-6
 unfolding recordIn
 returns-6 c = long-enough (c .before .before .before .before .before) 6 _ (c .before .before .before .before .match .keys4) (c .before .before .give-texinfo .ensures)
 
-same-length-5 : tie.Need-same-length-5
-same-length-5 c = search needs
-
 returns-7 : tie.Need-returns-7
 unfolding recordIn
 returns-7 c = long-enough (c .before .before .before .before .before) 7 _ (c .before .before .before .before .match .keys5) (c .before .before .give-face .ensures)
-
-same-length-6 : tie.Need-same-length-6
-same-length-6 c = search needs
 
 returns-8 : tie.Need-returns-8
 unfolding recordIn
 returns-8 c = long-enough (c .before .before .before .before .before) 9 _ (c .before .before .before .before .match .keys6) (c .before .before .give-collision-node .ensures)
 
-same-length-7 : tie.Need-same-length-7
-same-length-7 c = search needs
-
 returns-9 : tie.Need-returns-9
 unfolding recordIn
 returns-9 c = long-enough (c .before .before .before .before .before) 10 _ (c .before .before .before .before .match .keys7) (c .before .before .give-leaf .ensures)
-
-same-length-8 : tie.Need-same-length-8
-same-length-8 c = search needs
 
 returns-10 : tie.Need-returns-10
 unfolding recordIn
 returns-10 c = long-enough (c .before .before .before .before .before) 11 _ (c .before .before .before .before .match .keys8) (c .before .before .give-face-index .ensures)
 
-same-length-9 : tie.Need-same-length-9
-same-length-9 c = search needs
-
 returns-11 : tie.Need-returns-11
 unfolding recordIn
 returns-11 c = long-enough (c .before .before .before .before .before) 12 _ (c .before .before .before .before .match .keys9) (c .before .before .give-edge .ensures)
 
-same-length-10 : tie.Need-same-length-10
-same-length-10 c = search needs
-
 returns-12 : tie.Need-returns-12
 unfolding recordIn
 returns-12 c = long-enough (c .before .before .before .before .before) 13 _ (c .before .before .before .before .match .keys10) (c .before .before .give-edge-index .ensures)
-
-same-length-11 : tie.Need-same-length-11
-same-length-11 c = search needs
 
 returns-13 : tie.Need-returns-13
 unfolding recordIn
@@ -146,38 +77,38 @@ record-spec =
     (tie.spec
     returns
     returns-2
-    map-of-requires
-    give-plane-requires
-    give-vertex-requires
-    give-render-node-requires
-    give-texinfo-requires
-    give-face-requires
-    give-collision-node-requires
-    give-leaf-requires
-    give-face-index-requires
-    give-edge-requires
-    give-edge-index-requires
-    give-model-requires
-    same-length
+    (λ c κs. search needs)
+    (λ c κs. search needs)
+    (λ c κs. search needs)
+    (λ c κs. search needs)
+    (λ c κs. search needs)
+    (λ c κs. search needs)
+    (λ c κs. search needs)
+    (λ c κs. search needs)
+    (λ c κs. search needs)
+    (λ c κs. search needs)
+    (λ c κs. search needs)
+    (λ c κs. search needs)
+    (λ c. search needs)
     returns-3
-    same-length-2
+    (λ c. search needs)
     returns-4
-    same-length-3
+    (λ c. search needs)
     returns-5
-    same-length-4
+    (λ c. search needs)
     returns-6
-    same-length-5
+    (λ c. search needs)
     returns-7
-    same-length-6
+    (λ c. search needs)
     returns-8
-    same-length-7
+    (λ c. search needs)
     returns-9
-    same-length-8
+    (λ c. search needs)
     returns-10
-    same-length-9
+    (λ c. search needs)
     returns-11
-    same-length-10
+    (λ c. search needs)
     returns-12
-    same-length-11
+    (λ c. search needs)
     returns-13
     returns-14)

@@ -22,21 +22,6 @@ returns-3 : tie.Need-returns-3
 unfolding bspHullSized
 returns-3 c = simp (le-ltb _ _ (c .before .before .if1 .left), le-ltb _ _ (c .before .if2 .left), lt-ltb _ _ (c .if3 .taken))
 
-sizes-in-requires : tie.Need-sizes-in-requires
-sizes-in-requires c κs = search needs
-
-map-of-requires : tie.Need-map-of-requires
-map-of-requires c κs = search needs
-
-hull-sized-requires : tie.Need-hull-sized-requires
-hull-sized-requires c κs = search needs
-
-give-hull-requires : tie.Need-give-hull-requires
-give-hull-requires c κs = search needs
-
-same-length : tie.Need-same-length
-same-length c = search needs
-
 returns-4 : tie.Need-returns-4
 unfolding bspHullSized
 returns-4 c =
@@ -51,9 +36,9 @@ hull-sized-spec =
     returns
     returns-2
     returns-3
-    sizes-in-requires
-    map-of-requires
-    hull-sized-requires
-    give-hull-requires
-    same-length
+    (λ c κs. search needs)
+    (λ c κs. search needs)
+    (λ c κs. search needs)
+    (λ c κs. search needs)
+    (λ c. search needs)
     returns-4)

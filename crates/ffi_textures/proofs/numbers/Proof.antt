@@ -18,21 +18,6 @@ returns-2 : tie.Need-returns-2
 unfolding bspTextureNumbers
 returns-2 c = simp (le-ltb _ _ (c .before .if1 .left), lt-ltb _ _ (c .if2 .taken))
 
-map-of-requires : tie.Need-map-of-requires
-map-of-requires c κs = search needs
-
-texture-numbers-requires : tie.Need-texture-numbers-requires
-texture-numbers-requires c κs = search needs
-
-give-length-requires : tie.Need-give-length-requires
-give-length-requires c κs = search needs
-
-same-length : tie.Need-same-length
-same-length c = search needs
-
-same-length-2 : tie.Need-same-length-2
-same-length-2 c = search needs
-
 returns-3 : tie.Need-returns-3
 unfolding bspTextureNumbers
 returns-3 c =
@@ -47,9 +32,9 @@ numbers-spec =
     (tie.spec
     returns
     returns-2
-    map-of-requires
-    texture-numbers-requires
-    give-length-requires
-    same-length
-    same-length-2
+    (λ c κs. search needs)
+    (λ c κs. search needs)
+    (λ c κs. search needs)
+    (λ c. search needs)
+    (λ c. search needs)
     returns-3)

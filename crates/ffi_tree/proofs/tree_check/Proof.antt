@@ -25,32 +25,8 @@ returns-2 : tie.Need-returns-2
 unfolding bspTreeCheck
 returns-2 c = simp (le-ltb _ _ (c .before .if1 .left), lt-ltb _ _ (c .if2 .taken))
 
-table-numbered-requires : tie.Need-table-numbered-requires
-table-numbered-requires c κs = search needs
-
-enum-told : tie.Need-enum-told
-enum-told c = search needs
-
-enum-known-t : tie.Need-enum-known-t
-enum-known-t c = search needs
-
-map-of-requires : tie.Need-map-of-requires
-map-of-requires c κs = search needs
-
-tree-check-requires : tie.Need-tree-check-requires
-tree-check-requires c κs = search needs
-
-give-height-requires : tie.Need-give-height-requires
-give-height-requires c κs = search needs
-
 returns-3 : tie.Need-returns-3
 returns-3 c = long-enough (c .before .before) _ (rw (c .enum-told .given .1))
-
-same-length : tie.Need-same-length
-same-length c = search needs
-
-same-length-2 : tie.Need-same-length-2
-same-length-2 c = search needs
 
 returns-4 : tie.Need-returns-4
 returns-4 c =
@@ -66,13 +42,13 @@ tree-check-spec =
     (tie.spec
     returns
     returns-2
-    table-numbered-requires
-    enum-told
-    enum-known-t
-    map-of-requires
-    tree-check-requires
-    give-height-requires
+    (λ c κs. search needs)
+    (λ c. search needs)
+    (λ c. search needs)
+    (λ c κs. search needs)
+    (λ c κs. search needs)
+    (λ c κs. search needs)
     returns-3
-    same-length
-    same-length-2
+    (λ c. search needs)
+    (λ c. search needs)
     returns-4)

@@ -48,59 +48,14 @@ module _ (t : ℕ) where
       let l : suc (c .w .given .0 .1 .1 .1 .0) ≤ c .before .before .before .before .before .before .before .before .before .before .before .args .left = subst (λ r. withOneMore r ≤ c .before .before .before .before .before .before .before .before .before .before .before .args .left) (c .w .given .1) (c .before .before .before .before .go-down .ensures .falls) in
       omega (arith, l, c .before .before .before .before .before .before .before .before .before .before .before .pre .0)
 
-  enum-known-child : lts.Need-enum-known-child (claims t) (at t) self.Post
-  enum-known-child c = search needs
-
-  in-leaf-requires : lts.Need-in-leaf-requires (claims t) (at t) self.Post
-  in-leaf-requires c κs = search needs
-
-  enum-known-child-2 : lts.Need-enum-known-child-2 (claims t) (at t) self.Post
-  enum-known-child-2 c = search needs
-
-  go-down-requires : lts.Need-go-down-requires (claims t) (at t) self.Post
-  go-down-requires c κs = search needs
-
-  enum-known-e : lts.Need-enum-known-e (claims t) (at t) self.Post
-  enum-known-e c = search needs
-
-  enum-known-word : lts.Need-enum-known-word (claims t) (at t) self.Post
-  enum-known-word c = search needs
-
-  whole-of-requires : lts.Need-whole-of-requires (claims t) (at t) self.Post
-  whole-of-requires c κs = search needs
-
-  in-leaf-requires-2 : lts.Need-in-leaf-requires-2 (claims t) (at t) self.Post
-  in-leaf-requires-2 c κs = search needs
-
-  enum-known-w : lts.Need-enum-known-w (claims t) (at t) self.Post
-  enum-known-w c = search needs
-
-  parts-of-requires : lts.Need-parts-of-requires (claims t) (at t) self.Post
-  parts-of-requires c κs = search needs
-
-  enum-known-e-2 : lts.Need-enum-known-e-2 (claims t) (at t) self.Post
-  enum-known-e-2 c = search needs
-
-  enum-known-near : lts.Need-enum-known-near (claims t) (at t) self.Post
-  enum-known-near c = search needs
-
   write-onward-requires : lts.Need-write-onward-requires (claims t) (at t) self.Post
   write-onward-requires c κs = (fewer (c .before .before .before .before .before .before), tt)
-
-  enum-known-part : lts.Need-enum-known-part (claims t) (at t) self.Post
-  enum-known-part c = search needs
-
-  enum-told : lts.Need-enum-told (claims t) (at t) self.Post
-  enum-told c = search needs
 
   same-length : lts.Need-same-length (claims t) (at t) self.Post
   same-length c = c .before .before .before .list2 .given ∙ c .before .before .before .before .before .before .before .before .before .before .before .before .before .before .list .given
 
   returns : lts.Need-returns (claims t) (at t) self.Post
   returns c = near-refused _ _ _ _ _ _ _ _ (c .before .before .before .before .before .before .before .before .before .before .before .before .before .before .before .before .before .before .child2 .given .1) _ (c .before .before .before .before .before .before .before .before .before .before .before .before .before .before .before .go-down .result) (c .before .before .before .before .before .before .before .before .before .before .before .before .before .before .before .go-down .ensures) _ _ _ _ _ (c .before .before .before .before .before .before .before .before .before .before .before .w .given .1) (c .before .before .before .before .before .before .before .before .before .parts-of .result) (c .before .before .before .before .before .before .before .before .before .parts-of .ensures) _ _ _ _ (c .before .before .before .before .before .before .before .near .given .1) _ (c .before .before .before .before .write-onward .result) (c .before .before .before .before .write-onward .ensures) _ (c .enum-told .given .1)
-
-  stops-requires : lts.Need-stops-requires (claims t) (at t) self.Post
-  stops-requires c κs = search needs
 
   same-length-2 : lts.Need-same-length-2 (claims t) (at t) self.Post
   same-length-2 c = c .before .before .before .before .before .before .list2 .given ∙ c .before .before .before .before .before .before .before .before .before .before .before .before .before .before .before .before .before .list .given
@@ -110,9 +65,6 @@ module _ (t : ℕ) where
 
   write-onward-requires-2 : lts.Need-write-onward-requires-2 (claims t) (at t) self.Post
   write-onward-requires-2 c κs = (fewer (c .before .before .before .before .before .before .before .before .before .before .before .before .before .before .before), tt)
-
-  join-rest-requires : lts.Need-join-rest-requires (claims t) (at t) self.Post
-  join-rest-requires c κs = search needs
 
   returns-3 : lts.Need-returns-3 (claims t) (at t) self.Post
   returns-3 c = at-end _ _ _ _ _ _ _ _ (c .before .before .child .given .1) (c .in-leaf .result) (c .in-leaf .ensures)
@@ -145,28 +97,28 @@ pub +write-onward-spec : {M : Type 1} → statement M
 +write-onward-spec =
     close μ λ t.
     lts.spec (claims t) (at t) self.Post
-    (enum-known-child t)
-    (in-leaf-requires t)
-    (enum-known-child-2 t)
-    (go-down-requires t)
-    (enum-known-e t)
-    (enum-known-word t)
-    (whole-of-requires t)
-    (in-leaf-requires-2 t)
-    (enum-known-w t)
-    (parts-of-requires t)
-    (enum-known-e-2 t)
-    (enum-known-near t)
+    (λ c. search needs)
+    (λ c κs. search needs)
+    (λ c. search needs)
+    (λ c κs. search needs)
+    (λ c. search needs)
+    (λ c. search needs)
+    (λ c κs. search needs)
+    (λ c κs. search needs)
+    (λ c. search needs)
+    (λ c κs. search needs)
+    (λ c. search needs)
+    (λ c. search needs)
     (write-onward-requires t)
-    (enum-known-part t)
-    (enum-told t)
+    (λ c. search needs)
+    (λ c. search needs)
     (same-length t)
     (returns t)
-    (stops-requires t)
+    (λ c κs. search needs)
     (same-length-2 t)
     (returns-2 t)
     (write-onward-requires-2 t)
-    (join-rest-requires t)
+    (λ c κs. search needs)
     (returns-3 t)
     (same-length-3 t)
     (returns-4 t)

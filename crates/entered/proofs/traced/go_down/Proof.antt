@@ -33,9 +33,6 @@ short c = omega (arith, bytes (c .before .before .before .before .before .before
 loop-holds : tie.Need-loop-holds Inv-loop μ-loop
 loop-holds c = (search needs, (refl, refl))
 
-cast-if1 : tie.Need-cast-if1 Inv-loop μ-loop
-cast-if1 c = search needs
-
 same-length : tie.Need-same-length Inv-loop μ-loop
 same-length c = c .before .before .loop .inv .1 .0
 
@@ -48,29 +45,11 @@ same-length-2 c = c .before .before .before .loop .inv .1 .0
 returns-2 : tie.Need-returns-2 Inv-loop μ-loop
 returns-2 c = record { says = spent _ _ _ _ _ _ _ _ (c .before .if1 .left) (c .if2 .taken) ∙ c .before .before .before .loop .inv .1 .1; falls = search needs }
 
-cast-write-at : tie.Need-cast-write-at Inv-loop μ-loop
-cast-write-at c = omega arith
-
-write-at-requires : tie.Need-write-at-requires Inv-loop μ-loop
-write-at-requires c κs = search needs
-
-seen-at-requires : tie.Need-seen-at-requires Inv-loop μ-loop
-seen-at-requires c κs = search needs
-
-enum-known-e : tie.Need-enum-known-e Inv-loop μ-loop
-enum-known-e c = search needs
-
 same-length-3 : tie.Need-same-length-3 Inv-loop μ-loop
 same-length-3 c = c .before .before .before .before .before .list .given ∙ c .before .before .before .before .before .before .before .before .before .before .before .loop .inv .1 .0
 
 returns-3 : tie.Need-returns-3 Inv-loop μ-loop
 returns-3 c = record { says = unread _ _ _ _ _ _ _ _ (c .before .before .before .before .before .before .before .before .before .if1 .left) (c .before .before .before .before .before .before .before .before .if2 .left) (c .before .before .before .seen-at .result) (c .before .before .before .seen-at .ensures) _ (c .before .e .given .1) ∙ c .before .before .before .before .before .before .before .before .before .before .before .loop .inv .1 .1; falls = search needs }
-
-enum-known-w : tie.Need-enum-known-w Inv-loop μ-loop
-enum-known-w c = search needs
-
-one-more-requires : tie.Need-one-more-requires Inv-loop μ-loop
-one-more-requires c κs = search needs
 
 sub-left : tie.Need-sub-left Inv-loop μ-loop
 sub-left c = omega (arith, c .before .before .before .before .before .before .before .before .before .if2 .left)
@@ -81,20 +60,11 @@ same-length-4 c = c .before .before .before .before .before .before .before .lis
 returns-4 : tie.Need-returns-4 Inv-loop μ-loop
 returns-4 c = record { says = crosses _ _ _ _ _ _ _ _ (c .before .before .before .before .before .before .before .before .before .before .before .if1 .left) (c .before .before .before .before .before .before .before .before .before .before .if2 .left) (c .before .before .before .before .before .seen-at .result) (c .before .before .before .before .before .seen-at .ensures) _ _ _ (c .before .before .before .w .given .1) (short (c .before .before .before .before .before)) _ (c .before .before .before .before .before .before .before .before .write-at .ensures) _ (c .before .one-more .ensures) (c .if3 .taken) ∙ c .before .before .before .before .before .before .before .before .before .before .before .before .before .loop .inv .1 .1; falls = omega (arith, c .before .before .before .before .before .before .before .before .before .before .if2 .left, c .before .before .before .before .before .before .before .before .before .before .before .before .before .loop .inv .0) }
 
-child-on-requires : tie.Need-child-on-requires Inv-loop μ-loop
-child-on-requires c κs = search needs
-
-enum-known-n : tie.Need-enum-known-n Inv-loop μ-loop
-enum-known-n c = search needs
-
 loop-less : tie.Need-loop-less Inv-loop μ-loop
 loop-less c = omega (arith, c .before .before .before .before .before .before .before .before .before .before .before .before .before .before .if2 .left)
 
 loop-again : tie.Need-loop-again Inv-loop μ-loop
 loop-again c = (omega (arith, c .before .before .before .before .before .before .before .before .before .before .before .before .before .before .before .before .before .loop .inv .0), (c .before .before .before .before .before .before .before .before .before .before .before .list .given ∙ c .before .before .before .before .before .before .before .before .before .before .before .before .before .before .before .before .before .loop .inv .1 .0, to-node _ _ _ _ _ _ _ _ (c .before .before .before .before .before .before .before .before .before .before .before .before .before .before .before .if1 .left) (c .before .before .before .before .before .before .before .before .before .before .before .before .before .before .if2 .left) (c .before .before .before .before .before .before .before .before .before .seen-at .result) (c .before .before .before .before .before .before .before .before .before .seen-at .ensures) _ _ _ (c .before .before .before .before .before .before .before .w .given .1) (short (c .before .before .before .before .before .before .before .before .before)) _ (c .before .before .before .before .before .before .before .before .before .before .before .before .write-at .ensures) _ (c .before .before .before .before .before .one-more .ensures) (c .before .before .before .before .if3 .left) _ (c .before .before .before .child-on .ensures) _ (c .before .n .given .1) ∙ c .before .before .before .before .before .before .before .before .before .before .before .before .before .before .before .before .before .loop .inv .1 .1))
-
-enum-known-word : tie.Need-enum-known-word Inv-loop μ-loop
-enum-known-word c = search needs
 
 same-length-5 : tie.Need-same-length-5 Inv-loop μ-loop
 same-length-5 c = c .before .before .before .before .before .before .before .before .before .before .before .list .given ∙ c .before .before .before .before .before .before .before .before .before .before .before .before .before .before .before .before .before .loop .inv .1 .0
@@ -109,26 +79,26 @@ go-down-spec =
     Inv-loop
     μ-loop
     loop-holds
-    cast-if1
+    (λ c. search needs)
     same-length
     returns
     same-length-2
     returns-2
-    cast-write-at
-    write-at-requires
-    seen-at-requires
-    enum-known-e
+    (λ c. omega arith)
+    (λ c κs. search needs)
+    (λ c κs. search needs)
+    (λ c. search needs)
     same-length-3
     returns-3
-    enum-known-w
-    one-more-requires
+    (λ c. search needs)
+    (λ c κs. search needs)
     sub-left
     same-length-4
     returns-4
-    child-on-requires
-    enum-known-n
+    (λ c κs. search needs)
+    (λ c. search needs)
     loop-less
     loop-again
-    enum-known-word
+    (λ c. search needs)
     same-length-5
     returns-5)

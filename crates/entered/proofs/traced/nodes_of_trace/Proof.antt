@@ -27,35 +27,11 @@ short c = omega arith
 abbrev outcome : tie.After-slice-known → Outcome Trace
 outcome c = let a = c .before .before .args in Tracing.trace (hullTable (a .s .now) (a .map) (a .hull)) (a .hull .«node_id») (a .start) (a .end)
 
-trace-requires : tie.Need-trace-requires
-trace-requires c κs = search needs
-
-enum-known-e : tie.Need-enum-known-e
-enum-known-e c = search needs
-
-enum-known-visits : tie.Need-enum-known-visits
-enum-known-visits c = search needs
-
 returns : tie.Need-returns
 returns c = let k = c .before .before .before .before .before in too-short (lent k) _ _ (short k) (outcome k) (sym (ap tracedAnswer (c .before .before .visits .given .1)) ∙ c .before .before .before .before .trace .ensures) (c .if1 .taken)
 
-tables-of-requires : tie.Need-tables-of-requires
-tables-of-requires c κs = search needs
-
-new-requires : tie.Need-new-requires
-new-requires c κs = search needs
-
-terminal-requires : tie.Need-terminal-requires
-terminal-requires c κs = search needs
-
-write-onward-requires : tie.Need-write-onward-requires
-write-onward-requires c κs = search needs
-
 returns-2 : tie.Need-returns-2
 returns-2 c = let k = c .before .before .before .before in declined (lent k) (outcome k) _ (sym (ap tracedAnswer (c .before .e .given .1)) ∙ c .before .before .before .trace .ensures)
-
-same-length : tie.Need-same-length
-same-length c = search needs
 
 returns-3 : tie.Need-returns-3
 returns-3 c = let k = c .before .before .before .before .before .before .before .before .before .before .before .before in traced-list _ _ (lent k) (short k) (c .before .before .before .before .before .before .before .if1 .left) _ (c .before .before .write-onward .result) (outcome k) (sym (ap tracedAnswer (c .before .before .before .before .before .before .before .before .before .visits .given .1)) ∙ c .before .before .before .before .before .before .before .before .before .before .before .trace .ensures) (c .before .before .write-onward .ensures ∙ in-hull _ _ _ _ _ _ (c .before .before .before .before .before .before .tables-of .ensures) _ _ (c .before .before .before .before .before .new .ensures) _ _ (c .before .before .before .before .terminal .ensures) _ _)
@@ -64,14 +40,14 @@ pub nodes-of-trace-spec : {M : Type 1} → statement M
 nodes-of-trace-spec =
     tie.close
     (tie.spec
-    trace-requires
-    enum-known-e
-    enum-known-visits
+    (λ c κs. search needs)
+    (λ c. search needs)
+    (λ c. search needs)
     returns
-    tables-of-requires
-    new-requires
-    terminal-requires
-    write-onward-requires
+    (λ c κs. search needs)
+    (λ c κs. search needs)
+    (λ c κs. search needs)
+    (λ c κs. search needs)
     returns-2
-    same-length
+    (λ c. search needs)
     returns-3)

@@ -5,27 +5,6 @@ use borrow.Author.Needs.{needs}
 use Rattle.entered.proofs.traced.seen_at.Statement.{statement}
 use Rattle.entered.proofs.traced.seen_at.Tie as tie
 
-read-words-requires : tie.Need-read-words-requires
-read-words-requires c κs = search needs
-
-enum-known-e : tie.Need-enum-known-e
-enum-known-e c = search needs
-
-enum-known-w : tie.Need-enum-known-w
-enum-known-w c = search needs
-
-cast-dists-at : tie.Need-cast-dists-at
-cast-dists-at c = search needs
-
-dists-at-requires : tie.Need-dists-at-requires
-dists-at-requires c κs = search needs
-
-enum-known-e-2 : tie.Need-enum-known-e-2
-enum-known-e-2 c = search needs
-
-enum-known-a : tie.Need-enum-known-a
-enum-known-a c = search needs
-
 returns : tie.Need-returns
 returns c = no-node _ _ _ _ _ _ (c .before .before .before .read-words .ensures) _ (c .before .e .given .1)
 
@@ -39,13 +18,13 @@ pub seen-at-spec : {M : Type 1} → statement M
 seen-at-spec =
     tie.close
     (tie.spec
-    read-words-requires
-    enum-known-e
-    enum-known-w
-    cast-dists-at
-    dists-at-requires
-    enum-known-e-2
-    enum-known-a
+    (λ c κs. search needs)
+    (λ c. search needs)
+    (λ c. search needs)
+    (λ c. search needs)
+    (λ c κs. search needs)
+    (λ c. search needs)
+    (λ c. search needs)
     returns
     returns-2
     returns-3)

@@ -5,30 +5,6 @@ use borrow.Author.Needs.{needs}
 use Rattle.entered.proofs.walked.next_node.Statement.{statement}
 use Rattle.entered.proofs.walked.next_node.Tie as tie
 
-read-words-requires : tie.Need-read-words-requires
-read-words-requires c κs = search needs
-
-enum-told : tie.Need-enum-told
-enum-told c = search needs
-
-enum-known-w : tie.Need-enum-known-w
-enum-known-w c = search needs
-
-cast-side-at : tie.Need-cast-side-at
-cast-side-at c = search needs
-
-side-at-requires : tie.Need-side-at-requires
-side-at-requires c κs = search needs
-
-enum-told-2 : tie.Need-enum-told-2
-enum-told-2 c = search needs
-
-enum-known-front : tie.Need-enum-known-front
-enum-known-front c = search needs
-
-on-requires : tie.Need-on-requires
-on-requires c κs = search needs
-
 returns : tie.Need-returns
 returns c = to-node _ _ _ _ _ (c .before .before .before .before .before .before .before .before .before .before .read-words .ensures) _ (c .before .before .before .before .before .before .before .before .w .given .1) _ (c .before .before .before .before .before .side-at .ensures) _ (c .before .before .before .front .given .1) _ (c .before .on .ensures) (c .if1 .taken)
 
@@ -45,14 +21,14 @@ pub next-node-spec : {M : Type 1} → statement M
 next-node-spec =
     tie.close
     (tie.spec
-    read-words-requires
-    enum-told
-    enum-known-w
-    cast-side-at
-    side-at-requires
-    enum-told-2
-    enum-known-front
-    on-requires
+    (λ c κs. search needs)
+    (λ c. search needs)
+    (λ c. search needs)
+    (λ c. search needs)
+    (λ c κs. search needs)
+    (λ c. search needs)
+    (λ c. search needs)
+    (λ c κs. search needs)
     returns
     returns-2
     returns-3

@@ -25,26 +25,8 @@ short c = omega arith
 abbrev outcome : tie.After-slice-known → Outcome ℕ
 outcome c = let a = c .before .before .args in pointWalk (leafTable (a .s .now) (a .map)) (a .root) (a .point)
 
-find-leaf-from-requires : tie.Need-find-leaf-from-requires
-find-leaf-from-requires c κs = search needs
-
-enum-known-e : tie.Need-enum-known-e
-enum-known-e c = search needs
-
-enum-known-visits : tie.Need-enum-known-visits
-enum-known-visits c = search needs
-
-tables-of-requires : tie.Need-tables-of-requires
-tables-of-requires c κs = search needs
-
-list-walk-requires : tie.Need-list-walk-requires
-list-walk-requires c κs = search needs
-
 returns : tie.Need-returns
 returns c = let k = c .before .before .before .before in declined (lent k) (outcome k) _ (sym (ap leafAnswer (c .before .e .given .1)) ∙ c .before .before .before .find-leaf-from .ensures)
-
-same-length : tie.Need-same-length
-same-length c = search needs
 
 returns-2 : tie.Need-returns-2
 returns-2 c = c .before .before .list-walk .ensures ∙ leaf-listed _ _ _ _ _ (short (c .before .before .before .before .before .before .before .before .before)) _ _ _ (c .before .before .before .before .tables-of .ensures) _ _ (sym (ap leafAnswer (c .before .before .before .before .before .before .visits .given .1)) ∙ c .before .before .before .before .before .before .before .before .find-leaf-from .ensures)
@@ -53,11 +35,11 @@ pub nodes-to-leaf-spec : {M : Type 1} → statement M
 nodes-to-leaf-spec =
     tie.close
     (tie.spec
-    find-leaf-from-requires
-    enum-known-e
-    enum-known-visits
-    tables-of-requires
-    list-walk-requires
+    (λ c κs. search needs)
+    (λ c. search needs)
+    (λ c. search needs)
+    (λ c κs. search needs)
+    (λ c κs. search needs)
     returns
-    same-length
+    (λ c. search needs)
     returns-2)

@@ -26,26 +26,8 @@ short c = omega arith
 abbrev outcome : tie.After-slice-known → Outcome BspLeafContents
 outcome c = let a = c .before .before .args in pointWalk (hullTable (a .s .now) (a .map) (a .hull)) (a .hull .«node_id») (a .point)
 
-contents-at-point-requires : tie.Need-contents-at-point-requires
-contents-at-point-requires c κs = search needs
-
-enum-known-e : tie.Need-enum-known-e
-enum-known-e c = search needs
-
-enum-known-visits : tie.Need-enum-known-visits
-enum-known-visits c = search needs
-
-tables-of-requires : tie.Need-tables-of-requires
-tables-of-requires c κs = search needs
-
-list-walk-requires : tie.Need-list-walk-requires
-list-walk-requires c κs = search needs
-
 returns : tie.Need-returns
 returns c = let k = c .before .before .before .before in declined (lent k) (outcome k) _ (sym (ap contentsAnswer (c .before .e .given .1)) ∙ c .before .before .before .contents-at-point .ensures)
-
-same-length : tie.Need-same-length
-same-length c = search needs
 
 returns-2 : tie.Need-returns-2
 returns-2 c = c .before .before .list-walk .ensures ∙ point-listed _ _ _ _ _ (short (c .before .before .before .before .before .before .before .before .before)) _ _ _ _ (c .before .before .before .before .tables-of .ensures) _ _ (sym (ap contentsAnswer (c .before .before .before .before .before .before .visits .given .1)) ∙ c .before .before .before .before .before .before .before .before .contents-at-point .ensures)
@@ -54,11 +36,11 @@ pub nodes-to-point-spec : {M : Type 1} → statement M
 nodes-to-point-spec =
     tie.close
     (tie.spec
-    contents-at-point-requires
-    enum-known-e
-    enum-known-visits
-    tables-of-requires
-    list-walk-requires
+    (λ c κs. search needs)
+    (λ c. search needs)
+    (λ c. search needs)
+    (λ c κs. search needs)
+    (λ c κs. search needs)
     returns
-    same-length
+    (λ c. search needs)
     returns-2)

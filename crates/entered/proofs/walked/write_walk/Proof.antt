@@ -25,27 +25,6 @@ abbrev μ-loop : tie.MeasureT-loop
 loop-holds : tie.Need-loop-holds Inv-loop μ-loop
 loop-holds c = (search needs, (refl, (search needs, starts _ _ _ _ [])))
 
-cast-list : tie.Need-cast-list Inv-loop μ-loop
-cast-list c = omega arith
-
-mul-list : tie.Need-mul-list Inv-loop μ-loop
-mul-list c = search needs
-
-slice-write-list : tie.Need-slice-write-list Inv-loop μ-loop
-slice-write-list c = omega arith
-
-next-node-requires : tie.Need-next-node-requires Inv-loop μ-loop
-next-node-requires c κs = search needs
-
-cast-node : tie.Need-cast-node Inv-loop μ-loop
-cast-node c = search needs
-
-add-i : tie.Need-add-i Inv-loop μ-loop
-add-i c = omega arith
-
-loop-less : tie.Need-loop-less Inv-loop μ-loop
-loop-less c = omega arith
-
 loop-again : tie.Need-loop-again Inv-loop μ-loop
 loop-again c = let v = c .before .before .loop .inv in (omega arith, (simp length-set (v .1 .0), (omega arith, rw (c .next-node .ensures) (goes-on _ _ (length (c .before .before .before .before .before .args .list .now)) _ (c .before .before .loop .list) (c .before .before .loop .i) (c .before .before .loop .node) (c .before .loop-test .taken) (omega arith) (v .1 .1 .1)))))
 
@@ -62,13 +41,13 @@ write-walk-spec =
     Inv-loop
     μ-loop
     loop-holds
-    cast-list
-    mul-list
-    slice-write-list
-    next-node-requires
-    cast-node
-    add-i
-    loop-less
+    (λ c. omega arith)
+    (λ c. search needs)
+    (λ c. omega arith)
+    (λ c κs. search needs)
+    (λ c. search needs)
+    (λ c. omega arith)
+    (λ c. omega arith)
     loop-again
     same-length
     returns)

@@ -15,21 +15,6 @@ no-word s zero h = refl
 no-word s (suc zero) h = absurd (h refl)
 no-word s (suc (suc w)) h = refl
 
-enum-known-crossing : tie.Need-enum-known-crossing
-enum-known-crossing c = search needs
-
-side-word-requires : tie.Need-side-word-requires
-side-word-requires c κs = search needs
-
-enum-known-crossing-2 : tie.Need-enum-known-crossing-2
-enum-known-crossing-2 c = search needs
-
-point-word-requires : tie.Need-point-word-requires
-point-word-requires c κs = search needs
-
-returns : tie.Need-returns
-returns c = search needs
-
 returns-2 : tie.Need-returns-2
 returns-2 c =
     sym (ap (λ (x : LinePlaneIntersect). getD (Words.crossingWords x) (c .before .before .before .before .args .word) 0) (c .before .before .crossing .given .1) ∙ no-word _ _ (c .if1 .left))
@@ -41,10 +26,10 @@ pub crossing-word-spec : {M : Type 1} → statement M
 crossing-word-spec =
     tie.close
     (tie.spec
-    enum-known-crossing
-    side-word-requires
-    enum-known-crossing-2
-    point-word-requires
-    returns
+    (λ c. search needs)
+    (λ c κs. search needs)
+    (λ c. search needs)
+    (λ c κs. search needs)
+    (λ c. search needs)
     returns-2
     returns-3)

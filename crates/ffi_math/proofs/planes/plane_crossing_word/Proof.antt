@@ -10,15 +10,6 @@ use Rattle.ffi_math.specs.Words as Words
 use Rattle.ffi_math.proofs.planes.plane_crossing_word.Statement.{statement}
 use Rattle.ffi_math.proofs.planes.plane_crossing_word.Tie as tie
 
-plane-given-requires : tie.Need-plane-given-requires
-plane-given-requires c κs = search needs
-
-line-segment-intersection-requires : tie.Need-line-segment-intersection-requires
-line-segment-intersection-requires c κs = search needs
-
-crossing-word-requires : tie.Need-crossing-word-requires
-crossing-word-requires c κs = search needs
-
 returns : tie.Need-returns
 returns c = c .crossing-word .ensures ∙ ap (λ (x : LinePlaneIntersect). getD (Words.crossingWords x) (c .before .before .before .args .word) 0) (c .before .line-segment-intersection .ensures ∙ ap (λ (h : Hyperplane). Pl.lineSegment h (Vec.vector (c .before .before .before .args .sx) (c .before .before .before .args .sy) (c .before .before .before .args .sz)) (Vec.vector (c .before .before .before .args .ex) (c .before .before .before .args .ey) (c .before .before .before .args .ez))) (c .before .before .plane-given .ensures))
 
@@ -26,7 +17,7 @@ pub plane-crossing-word-spec : {M : Type 1} → statement M
 plane-crossing-word-spec =
     tie.close
     (tie.spec
-    plane-given-requires
-    line-segment-intersection-requires
-    crossing-word-requires
+    (λ c κs. search needs)
+    (λ c κs. search needs)
+    (λ c κs. search needs)
     returns)

@@ -5,22 +5,13 @@ use Rattle.ffi_math.specs.Words.{planeGiven}
 use Rattle.ffi_math.proofs.planes.plane_given.Statement.{statement}
 use Rattle.ffi_math.proofs.planes.plane_given.Tie as tie
 
-axis-x-requires : tie.Need-axis-x-requires
-axis-x-requires c κs = search needs
-
 returns : tie.Need-returns
 unfolding planeGiven
 returns c = simp (c .axis-x .ensures, eq-eqb _ 0 (c .before .if1 .taken))
 
-axis-y-requires : tie.Need-axis-y-requires
-axis-y-requires c κs = search needs
-
 returns-2 : tie.Need-returns-2
 unfolding planeGiven
 returns-2 c = simp (c .axis-y .ensures, ne-eqb _ 0 (c .before .before .if1 .left), eq-eqb _ 1 (c .before .if2 .taken))
-
-axis-z-requires : tie.Need-axis-z-requires
-axis-z-requires c κs = search needs
 
 returns-3 : tie.Need-returns-3
 unfolding planeGiven
@@ -34,10 +25,10 @@ pub plane-given-spec : {M : Type 1} → statement M
 plane-given-spec =
     tie.close
     (tie.spec
-    axis-x-requires
+    (λ c κs. search needs)
     returns
-    axis-y-requires
+    (λ c κs. search needs)
     returns-2
-    axis-z-requires
+    (λ c κs. search needs)
     returns-3
     returns-4)

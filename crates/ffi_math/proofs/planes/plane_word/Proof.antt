@@ -9,24 +9,6 @@ use Rattle.ffi_math.specs.Words as Words
 use Rattle.ffi_math.proofs.planes.plane_word.Statement.{statement}
 use Rattle.ffi_math.proofs.planes.plane_word.Tie as tie
 
-normal-requires : tie.Need-normal-requires
-normal-requires c κs = search needs
-
-kind-of-requires : tie.Need-kind-of-requires
-kind-of-requires c κs = search needs
-
-to-bits-requires : tie.Need-to-bits-requires
-to-bits-requires c κs = search needs
-
-to-bits-requires-2 : tie.Need-to-bits-requires-2
-to-bits-requires-2 c κs = search needs
-
-to-bits-requires-3 : tie.Need-to-bits-requires-3
-to-bits-requires-3 c κs = search needs
-
-to-bits-requires-4 : tie.Need-to-bits-requires-4
-to-bits-requires-4 c κs = search needs
-
 returns : tie.Need-returns
 unfolding Words.planeWords
 returns c = c .kind-of .ensures ∙ sym (ap (λ (w : ℕ). getD (Words.planeWords (c .before .before .before .args .plane)) w 0) (c .before .match .keys1))
@@ -55,12 +37,12 @@ pub plane-word-spec : {M : Type 1} → statement M
 plane-word-spec =
     tie.close
     (tie.spec
-    normal-requires
-    kind-of-requires
-    to-bits-requires
-    to-bits-requires-2
-    to-bits-requires-3
-    to-bits-requires-4
+    (λ c κs. search needs)
+    (λ c κs. search needs)
+    (λ c κs. search needs)
+    (λ c κs. search needs)
+    (λ c κs. search needs)
+    (λ c κs. search needs)
     returns
     returns-2
     returns-3

@@ -11,24 +11,6 @@ use Rattle.ffi_math.proofs.planes.point_word.Tie as tie
 from-five : (w : ℕ) → 5 ≤ w → w ≡ suc (suc (suc (suc (suc (w - 5)))))
 from-five w h = omega arith
 
-to-bits-requires : tie.Need-to-bits-requires
-to-bits-requires c κs = search needs
-
-to-bits-requires-2 : tie.Need-to-bits-requires-2
-to-bits-requires-2 c κs = search needs
-
-to-bits-requires-3 : tie.Need-to-bits-requires-3
-to-bits-requires-3 c κs = search needs
-
-to-bits-requires-4 : tie.Need-to-bits-requires-4
-to-bits-requires-4 c κs = search needs
-
-sub-plane-word : tie.Need-sub-plane-word
-sub-plane-word c = search needs
-
-plane-word-requires : tie.Need-plane-word-requires
-plane-word-requires c κs = search needs
-
 returns : tie.Need-returns
 unfolding Words.pointWords
 returns c = sym (ap (λ (w : ℕ). getD (Words.pointWords (c .before .before .args .crossing)) w 0) (c .match .keys1))
@@ -57,12 +39,12 @@ pub point-word-spec : {M : Type 1} → statement M
 point-word-spec =
     tie.close
     (tie.spec
-    to-bits-requires
-    to-bits-requires-2
-    to-bits-requires-3
-    to-bits-requires-4
-    sub-plane-word
-    plane-word-requires
+    (λ c κs. search needs)
+    (λ c κs. search needs)
+    (λ c κs. search needs)
+    (λ c κs. search needs)
+    (λ c. search needs)
+    (λ c κs. search needs)
     returns
     returns-2
     returns-3

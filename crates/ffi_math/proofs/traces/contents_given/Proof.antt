@@ -16,18 +16,6 @@ module _ (ws : List ℕ) {n : ℕ} {r : CodedContents} (w : n ≡ getD ws 0 0) (
   unfolding Traces.contentsGiven
   given = ap Traces.contentsOr (e ∙ ap contentsOf w)
 
-word-at-requires : tie.Need-word-at-requires
-word-at-requires c κs = search needs
-
-contents-of-requires : tie.Need-contents-of-requires
-contents-of-requires c κs = search needs
-
-enum-known-contents : tie.Need-enum-known-contents
-enum-known-contents c = search needs
-
-enum-told : tie.Need-enum-told
-enum-told c = search needs
-
 returns : tie.Need-returns
 returns c = sym (ap Traces.contentsOr (c .before .contents .given .1)) ∙ given (now (c .before .before .before .before .before .before .args .words)) (c .before .before .before .before .word-at .ensures) (c .before .before .before .contents-of .ensures)
 
@@ -38,9 +26,9 @@ pub contents-given-spec : {M : Type 1} → statement M
 contents-given-spec =
     tie.close
     (tie.spec
-    word-at-requires
-    contents-of-requires
-    enum-known-contents
-    enum-told
+    (λ c κs. search needs)
+    (λ c κs. search needs)
+    (λ c. search needs)
+    (λ c. search needs)
     returns
     returns-2)

@@ -6,42 +6,9 @@ use Rattle.ffi_math.specs.Traces as Traces
 use Rattle.ffi_math.proofs.traces.end_given.Statement.{statement}
 use Rattle.ffi_math.proofs.traces.end_given.Tie as tie
 
-point-at-requires : tie.Need-point-at-requires
-point-at-requires c κs = search needs
-
-word-at-requires : tie.Need-word-at-requires
-word-at-requires c κs = search needs
-
-terminal-requires : tie.Need-terminal-requires
-terminal-requires c κs = search needs
-
 returns : tie.Need-returns
 unfolding Traces.endGiven
 returns c = simp (c .terminal .ensures, c .before .before .before .point-at .ensures, eq-eqb _ 0 (sym (c .before .before .word-at .ensures) ∙ c .before .if1 .taken))
-
-word-at-requires-2 : tie.Need-word-at-requires-2
-word-at-requires-2 c κs = search needs
-
-float-at-requires : tie.Need-float-at-requires
-float-at-requires c κs = search needs
-
-float-at-requires-2 : tie.Need-float-at-requires-2
-float-at-requires-2 c κs = search needs
-
-float-at-requires-3 : tie.Need-float-at-requires-3
-float-at-requires-3 c κs = search needs
-
-float-at-requires-4 : tie.Need-float-at-requires-4
-float-at-requires-4 c κs = search needs
-
-plane-given-requires : tie.Need-plane-given-requires
-plane-given-requires c κs = search needs
-
-float-at-requires-5 : tie.Need-float-at-requires-5
-float-at-requires-5 c κs = search needs
-
-boundary-requires : tie.Need-boundary-requires
-boundary-requires c κs = search needs
 
 returns-2 : tie.Need-returns-2
 unfolding Traces.endGiven
@@ -64,16 +31,16 @@ pub end-given-spec : {M : Type 1} → statement M
 end-given-spec =
     tie.close
     (tie.spec
-    point-at-requires
-    word-at-requires
-    terminal-requires
+    (λ c κs. search needs)
+    (λ c κs. search needs)
+    (λ c κs. search needs)
     returns
-    word-at-requires-2
-    float-at-requires
-    float-at-requires-2
-    float-at-requires-3
-    float-at-requires-4
-    plane-given-requires
-    float-at-requires-5
-    boundary-requires
+    (λ c κs. search needs)
+    (λ c κs. search needs)
+    (λ c κs. search needs)
+    (λ c κs. search needs)
+    (λ c κs. search needs)
+    (λ c κs. search needs)
+    (λ c κs. search needs)
+    (λ c κs. search needs)
     returns-2)

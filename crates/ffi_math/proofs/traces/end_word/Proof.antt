@@ -11,21 +11,6 @@ use Rattle.ffi_math.proofs.traces.end_word.Tie as tie
 from-three : (w : ℕ) → 3 ≤ w → w ≡ suc (suc (suc (w - 3)))
 from-three w h = omega arith
 
-to-bits-requires : tie.Need-to-bits-requires
-to-bits-requires c κs = search needs
-
-to-bits-requires-2 : tie.Need-to-bits-requires-2
-to-bits-requires-2 c κs = search needs
-
-to-bits-requires-3 : tie.Need-to-bits-requires-3
-to-bits-requires-3 c κs = search needs
-
-sub-kind-word : tie.Need-sub-kind-word
-sub-kind-word c = search needs
-
-kind-word-requires : tie.Need-kind-word-requires
-kind-word-requires c κs = search needs
-
 returns : tie.Need-returns
 unfolding Traces.endWords
 returns c = c .to-bits .ensures ∙ sym (ap (λ (w : ℕ). getD (Traces.endWords (c .before .before .args .end)) w 0) (c .before .match .keys1))
@@ -48,11 +33,11 @@ pub end-word-spec : {M : Type 1} → statement M
 end-word-spec =
     tie.close
     (tie.spec
-    to-bits-requires
-    to-bits-requires-2
-    to-bits-requires-3
-    sub-kind-word
-    kind-word-requires
+    (λ c κs. search needs)
+    (λ c κs. search needs)
+    (λ c κs. search needs)
+    (λ c. search needs)
+    (λ c κs. search needs)
     returns
     returns-2
     returns-3

@@ -21,24 +21,6 @@ past-first : (x : ℕ) (xs : List ℕ) (w : ℕ) → (w ≡ 0 → ⊥) → getD 
 past-first x xs zero h = absurd (h refl)
 past-first x xs (suc w) h = ap (λ (n : ℕ). getD xs n 0) (minus-one w)
 
-enum-known-joined : tie.Need-enum-known-joined
-enum-known-joined c = search needs
-
-sub-trace-word : tie.Need-sub-trace-word
-sub-trace-word c = search needs
-
-trace-word-requires : tie.Need-trace-word-requires
-trace-word-requires c κs = search needs
-
-enum-known-joined-2 : tie.Need-enum-known-joined-2
-enum-known-joined-2 c = search needs
-
-number-requires : tie.Need-number-requires
-number-requires c κs = search needs
-
-returns : tie.Need-returns
-returns c = search needs
-
 returns-2 : tie.Need-returns-2
 returns-2 c = c .trace-word .ensures ∙ sym (ap (λ (j : Joined). getD (Traces.joinedWords (Tr.joinedOf j)) (c .before .before .before .before .before .args .word) 0) (c .before .before .before .joined .given .1) ∙ past-first 0 (Traces.traceWords (c .before .before .before .joined .given .0 .0)) _ (c .before .if1 .left))
 
@@ -52,12 +34,12 @@ pub joined-word-spec : {M : Type 1} → statement M
 joined-word-spec =
     tie.close
     (tie.spec
-    enum-known-joined
-    sub-trace-word
-    trace-word-requires
-    enum-known-joined-2
-    number-requires
-    returns
+    (λ c. search needs)
+    (λ c. search needs)
+    (λ c κs. search needs)
+    (λ c. search needs)
+    (λ c κs. search needs)
+    (λ c. search needs)
     returns-2
     returns-3
     returns-4)

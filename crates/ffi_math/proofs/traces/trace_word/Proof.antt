@@ -11,30 +11,6 @@ use Rattle.ffi_math.proofs.traces.trace_word.Tie as tie
 from-six : (w : ℕ) → 6 ≤ w → w ≡ suc (suc (suc (suc (suc (suc (w - 6))))))
 from-six w h = omega arith
 
-code-requires : tie.Need-code-requires
-code-requires c κs = search needs
-
-flag-word-requires : tie.Need-flag-word-requires
-flag-word-requires c κs = search needs
-
-to-bits-requires : tie.Need-to-bits-requires
-to-bits-requires c κs = search needs
-
-to-bits-requires-2 : tie.Need-to-bits-requires-2
-to-bits-requires-2 c κs = search needs
-
-to-bits-requires-3 : tie.Need-to-bits-requires-3
-to-bits-requires-3 c κs = search needs
-
-to-bits-requires-4 : tie.Need-to-bits-requires-4
-to-bits-requires-4 c κs = search needs
-
-sub-end-word : tie.Need-sub-end-word
-sub-end-word c = search needs
-
-end-word-requires : tie.Need-end-word-requires
-end-word-requires c κs = search needs
-
 returns : tie.Need-returns
 unfolding Traces.traceWords
 returns c = c .code .ensures ∙ sym (ap (λ (w : ℕ). getD (Traces.traceWords (c .before .before .before .before .args .trace)) w 0) (c .before .match .keys1))
@@ -69,14 +45,14 @@ pub trace-word-spec : {M : Type 1} → statement M
 trace-word-spec =
     tie.close
     (tie.spec
-    code-requires
-    flag-word-requires
-    to-bits-requires
-    to-bits-requires-2
-    to-bits-requires-3
-    to-bits-requires-4
-    sub-end-word
-    end-word-requires
+    (λ c κs. search needs)
+    (λ c κs. search needs)
+    (λ c κs. search needs)
+    (λ c κs. search needs)
+    (λ c κs. search needs)
+    (λ c κs. search needs)
+    (λ c. search needs)
+    (λ c κs. search needs)
     returns
     returns-2
     returns-3

@@ -8,32 +8,8 @@ use Rattle.record_words.specs.Layout.{edgeWords}
 use Rattle.ffi_records.proofs.answer.give_edge.Statement.{statement}
 use Rattle.ffi_records.proofs.answer.give_edge.Tie as tie
 
-edge-requires : tie.Need-edge-requires
-edge-requires c κs = search needs
-
-enum-known-e : tie.Need-enum-known-e
-enum-known-e c = search needs
-
-number-requires : tie.Need-number-requires
-number-requires c κs = search needs
-
-enum-known-value : tie.Need-enum-known-value
-enum-known-value c = search needs
-
-edge-words-requires : tie.Need-edge-words-requires
-edge-words-requires c κs = search needs
-
-slice-aggregate-give : tie.Need-slice-aggregate-give
-slice-aggregate-give c = search needs
-
-give-requires : tie.Need-give-requires
-give-requires c κs = search needs
-
 returns : tie.Need-returns
 returns c = refuses edgeAnswer edgeWords (c .before .before .before .before .edge .ensures) (c .before .before .e .given .1) refl (c .number .ensures)
-
-same-length : tie.Need-same-length
-same-length c = search needs
 
 returns-2 : tie.Need-returns-2
 returns-2 c = gives edgeAnswer edgeWords (c .before .before .before .before .before .before .before .before .before .before .before .before .args .out .now) (c .before .before .before .before .before .before .before .before .before .edge .ensures) (c .before .before .before .before .before .before .before .value .given .1) refl (c .before .before .before .before .before .edge-words .ensures) (omega (arith, c .before .before .before .before .before .before .before .before .before .before .before .before .pre)) (c .before .before .give .ensures)
@@ -42,13 +18,13 @@ pub give-edge-spec : {M : Type 1} → statement M
 give-edge-spec =
     tie.close
     (tie.spec
-    edge-requires
-    enum-known-e
-    number-requires
-    enum-known-value
-    edge-words-requires
-    slice-aggregate-give
-    give-requires
+    (λ c κs. search needs)
+    (λ c. search needs)
+    (λ c κs. search needs)
+    (λ c. search needs)
+    (λ c κs. search needs)
+    (λ c. search needs)
+    (λ c κs. search needs)
     returns
-    same-length
+    (λ c. search needs)
     returns-2)

@@ -8,32 +8,8 @@ use Rattle.record_words.specs.Layout.{faceWords}
 use Rattle.ffi_records.proofs.answer.give_face.Statement.{statement}
 use Rattle.ffi_records.proofs.answer.give_face.Tie as tie
 
-face-requires : tie.Need-face-requires
-face-requires c κs = search needs
-
-enum-known-e : tie.Need-enum-known-e
-enum-known-e c = search needs
-
-number-requires : tie.Need-number-requires
-number-requires c κs = search needs
-
-enum-known-value : tie.Need-enum-known-value
-enum-known-value c = search needs
-
-face-words-requires : tie.Need-face-words-requires
-face-words-requires c κs = search needs
-
-slice-aggregate-give : tie.Need-slice-aggregate-give
-slice-aggregate-give c = search needs
-
-give-requires : tie.Need-give-requires
-give-requires c κs = search needs
-
 returns : tie.Need-returns
 returns c = refuses faceAnswer faceWords (c .before .before .before .before .face .ensures) (c .before .before .e .given .1) refl (c .number .ensures)
-
-same-length : tie.Need-same-length
-same-length c = search needs
 
 returns-2 : tie.Need-returns-2
 returns-2 c = gives faceAnswer faceWords (c .before .before .before .before .before .before .before .before .before .before .before .before .args .out .now) (c .before .before .before .before .before .before .before .before .before .face .ensures) (c .before .before .before .before .before .before .before .value .given .1) refl (c .before .before .before .before .before .face-words .ensures) (omega (arith, c .before .before .before .before .before .before .before .before .before .before .before .before .pre)) (c .before .before .give .ensures)
@@ -42,13 +18,13 @@ pub give-face-spec : {M : Type 1} → statement M
 give-face-spec =
     tie.close
     (tie.spec
-    face-requires
-    enum-known-e
-    number-requires
-    enum-known-value
-    face-words-requires
-    slice-aggregate-give
-    give-requires
+    (λ c κs. search needs)
+    (λ c. search needs)
+    (λ c κs. search needs)
+    (λ c. search needs)
+    (λ c κs. search needs)
+    (λ c. search needs)
+    (λ c κs. search needs)
     returns
-    same-length
+    (λ c. search needs)
     returns-2)

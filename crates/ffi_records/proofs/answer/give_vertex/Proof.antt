@@ -8,32 +8,8 @@ use Rattle.record_words.specs.Layout.{vectorWords}
 use Rattle.ffi_records.proofs.answer.give_vertex.Statement.{statement}
 use Rattle.ffi_records.proofs.answer.give_vertex.Tie as tie
 
-vertex-requires : tie.Need-vertex-requires
-vertex-requires c κs = search needs
-
-enum-known-e : tie.Need-enum-known-e
-enum-known-e c = search needs
-
-number-requires : tie.Need-number-requires
-number-requires c κs = search needs
-
-enum-known-value : tie.Need-enum-known-value
-enum-known-value c = search needs
-
-vector-words-requires : tie.Need-vector-words-requires
-vector-words-requires c κs = search needs
-
-slice-aggregate-give : tie.Need-slice-aggregate-give
-slice-aggregate-give c = search needs
-
-give-requires : tie.Need-give-requires
-give-requires c κs = search needs
-
 returns : tie.Need-returns
 returns c = refuses vertexAnswer vectorWords (c .before .before .before .before .vertex .ensures) (c .before .before .e .given .1) refl (c .number .ensures)
-
-same-length : tie.Need-same-length
-same-length c = search needs
 
 returns-2 : tie.Need-returns-2
 returns-2 c = gives vertexAnswer vectorWords (c .before .before .before .before .before .before .before .before .before .before .before .before .args .out .now) (c .before .before .before .before .before .before .before .before .before .vertex .ensures) (c .before .before .before .before .before .before .before .value .given .1) refl (c .before .before .before .before .before .vector-words .ensures) (omega (arith, c .before .before .before .before .before .before .before .before .before .before .before .before .pre)) (c .before .before .give .ensures)
@@ -42,13 +18,13 @@ pub give-vertex-spec : {M : Type 1} → statement M
 give-vertex-spec =
     tie.close
     (tie.spec
-    vertex-requires
-    enum-known-e
-    number-requires
-    enum-known-value
-    vector-words-requires
-    slice-aggregate-give
-    give-requires
+    (λ c κs. search needs)
+    (λ c. search needs)
+    (λ c κs. search needs)
+    (λ c. search needs)
+    (λ c κs. search needs)
+    (λ c. search needs)
+    (λ c κs. search needs)
     returns
-    same-length
+    (λ c. search needs)
     returns-2)

@@ -3,18 +3,6 @@ use borrow.Author.Needs.{needs}
 use Rattle.ffi_sizes.proofs.layout.sizes_in.Statement.{statement}
 use Rattle.ffi_sizes.proofs.layout.sizes_in.Tie as tie
 
-vector-of-requires : tie.Need-vector-of-requires
-vector-of-requires c κs = search needs
-
-vector-of-requires-2 : tie.Need-vector-of-requires-2
-vector-of-requires-2 c κs = search needs
-
-vector-of-requires-3 : tie.Need-vector-of-requires-3
-vector-of-requires-3 c κs = search needs
-
-vector-of-requires-4 : tie.Need-vector-of-requires-4
-vector-of-requires-4 c κs = search needs
-
 returns : tie.Need-returns
 returns c = simp (c .before .before .before .vector-of .ensures, c .before .before .vector-of2 .ensures, c .before .vector-of3 .ensures, c .vector-of4 .ensures)
 
@@ -22,8 +10,8 @@ pub sizes-in-spec : {M : Type 1} → statement M
 sizes-in-spec =
     tie.close
     (tie.spec
-    vector-of-requires
-    vector-of-requires-2
-    vector-of-requires-3
-    vector-of-requires-4
+    (λ c κs. search needs)
+    (λ c κs. search needs)
+    (λ c κs. search needs)
+    (λ c κs. search needs)
     returns)

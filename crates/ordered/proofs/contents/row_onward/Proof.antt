@@ -4,24 +4,6 @@ use borrow.Author.Needs.{needs}
 use Rattle.ordered.proofs.contents.row_onward.Statement.{statement}
 use Rattle.ordered.proofs.contents.row_onward.Tie as tie
 
-read-row-requires : tie.Need-read-row-requires
-read-row-requires c κs = search needs
-
-enum-known-e : tie.Need-enum-known-e
-enum-known-e c = search needs
-
-enum-known-w : tie.Need-enum-known-w
-enum-known-w c = search needs
-
-pick-by-number-requires : tie.Need-pick-by-number-requires
-pick-by-number-requires c κs = search needs
-
-enum-known-e-2 : tie.Need-enum-known-e-2
-enum-known-e-2 c = search needs
-
-enum-known-word : tie.Need-enum-known-word
-enum-known-word c = search needs
-
 returns : tie.Need-returns
 returns c = made-unread _ _ _ _ _ _ (c .before .before .before .read-row .ensures) _ (c .before .e .given .1)
 
@@ -35,12 +17,12 @@ pub row-onward-spec : {M : Type 1} → statement M
 row-onward-spec =
     tie.close
     (tie.spec
-    read-row-requires
-    enum-known-e
-    enum-known-w
-    pick-by-number-requires
-    enum-known-e-2
-    enum-known-word
+    (λ c κs. search needs)
+    (λ c. search needs)
+    (λ c. search needs)
+    (λ c κs. search needs)
+    (λ c. search needs)
+    (λ c. search needs)
     returns
     returns-2
     returns-3)

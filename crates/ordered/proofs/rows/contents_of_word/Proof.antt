@@ -5,21 +5,6 @@ use borrow.Author.Needs.{needs}
 use Rattle.ordered.proofs.rows.contents_of_word.Statement.{statement}
 use Rattle.ordered.proofs.rows.contents_of_word.Tie as tie
 
-sub-contents-of : tie.Need-sub-contents-of
-sub-contents-of c = search needs
-
-add-contents-of : tie.Need-add-contents-of
-add-contents-of c = search needs
-
-contents-of-requires : tie.Need-contents-of-requires
-contents-of-requires c κs = search needs
-
-enum-known-c : tie.Need-enum-known-c
-enum-known-c c = search needs
-
-enum-told : tie.Need-enum-told
-enum-told c = search needs
-
 returns : tie.Need-returns
 returns c = code-of _ _ (c .before .before .before .contents-of .ensures) (omega arith) _ (c .before .c .given .1)
 
@@ -30,10 +15,10 @@ pub contents-of-word-spec : {M : Type 1} → statement M
 contents-of-word-spec =
     tie.close
     (tie.spec
-    sub-contents-of
-    add-contents-of
-    contents-of-requires
-    enum-known-c
-    enum-told
+    (λ c. search needs)
+    (λ c. search needs)
+    (λ c κs. search needs)
+    (λ c. search needs)
+    (λ c. search needs)
     returns
     returns-2)

@@ -34,17 +34,8 @@ returns-2 c = record { says = sym (ap (after _) (trace-spent _ _ _ _ _ (c .if2 .
 row-dists-requires : tie.Need-row-dists-requires Inv-loop μ-loop
 row-dists-requires c κs = omega (arith, c .before .before .loop .inv .0, c .before .if1 .left)
 
-enum-known-e : tie.Need-enum-known-e Inv-loop μ-loop
-enum-known-e c = search needs
-
 returns-3 : tie.Need-returns-3 Inv-loop μ-loop
 returns-3 c = record { says = unread _ _ (c .before .before .before .before .before .before .before .before .args .table .now) _ _ _ _ (c .before .before .before .before .before .before .loop .place) (c .before .before .before .before .if2 .left) (omega (arith, c .before .before .before .before .before .before .loop .inv .0, c .before .before .before .before .before .if1 .left)) (c .before .before .before .row-dists .result) (c .before .before .before .row-dists .ensures) _ (c .before .e .given .1) ∙ c .before .before .before .before .before .before .loop .inv .2; falls = search needs }
-
-enum-known-w : tie.Need-enum-known-w Inv-loop μ-loop
-enum-known-w c = search needs
-
-one-more-requires : tie.Need-one-more-requires Inv-loop μ-loop
-one-more-requires c κs = search needs
 
 sub-left : tie.Need-sub-left Inv-loop μ-loop
 sub-left c = omega (arith, c .before .before .before .before .before .if2 .left)
@@ -52,17 +43,8 @@ sub-left c = omega (arith, c .before .before .before .before .before .if2 .left)
 returns-4 : tie.Need-returns-4 Inv-loop μ-loop
 returns-4 c = record { says = crosses _ _ (c .before .before .before .before .before .before .before .before .before .before .args .table .now) _ _ _ _ (c .before .before .before .before .before .before .before .before .loop .place) (c .before .before .before .before .before .before .if2 .left) (omega (arith, c .before .before .before .before .before .before .before .before .loop .inv .0, c .before .before .before .before .before .before .before .if1 .left)) (c .before .before .before .before .before .row-dists .result) (c .before .before .before .before .before .row-dists .ensures) _ _ _ (c .before .before .before .w .given .1) (c .if3 .taken) _ (c .before .one-more .ensures) ∙ c .before .before .before .before .before .before .before .before .loop .inv .2; falls = omega (arith, c .before .before .before .before .before .before .if2 .left, c .before .before .before .before .before .before .before .before .loop .inv .1) }
 
-on-requires : tie.Need-on-requires Inv-loop μ-loop
-on-requires c κs = search needs
-
-contents-of-word-requires : tie.Need-contents-of-word-requires Inv-loop μ-loop
-contents-of-word-requires c κs = search needs
-
 returns-5 : tie.Need-returns-5 Inv-loop μ-loop
 returns-5 c = record { says = in-leaf _ _ (c .before .before .before .before .before .before .before .before .before .before .before .before .before .args .table .now) _ _ _ _ (c .before .before .before .before .before .before .before .before .before .before .before .loop .place) (c .before .before .before .before .before .before .before .before .before .if2 .left) (omega (arith, c .before .before .before .before .before .before .before .before .before .before .before .loop .inv .0, c .before .before .before .before .before .before .before .before .before .before .if1 .left)) (c .before .before .before .before .before .before .before .before .row-dists .result) (c .before .before .before .before .before .before .before .before .row-dists .ensures) _ _ _ (c .before .before .before .before .before .before .w .given .1) (c .before .before .before .if3 .left) _ (c .before .before .on .ensures) _ (c .before .before .before .before .one-more .ensures) (c .before .if4 .taken) _ (c .contents-of-word .ensures) ∙ c .before .before .before .before .before .before .before .before .before .before .before .loop .inv .2; falls = search needs }
-
-cast-place : tie.Need-cast-place Inv-loop μ-loop
-cast-place c = search needs
 
 loop-less : tie.Need-loop-less Inv-loop μ-loop
 loop-less c = omega (arith, c .before .before .before .before .before .before .before .before .if2 .left)
@@ -80,15 +62,15 @@ descend-spec =
     returns
     returns-2
     row-dists-requires
-    enum-known-e
+    (λ c. search needs)
     returns-3
-    enum-known-w
-    one-more-requires
+    (λ c. search needs)
+    (λ c κs. search needs)
     sub-left
     returns-4
-    on-requires
-    contents-of-word-requires
+    (λ c κs. search needs)
+    (λ c κs. search needs)
     returns-5
-    cast-place
+    (λ c. search needs)
     loop-less
     loop-again)

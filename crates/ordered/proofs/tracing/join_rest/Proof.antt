@@ -6,21 +6,6 @@ use borrow.Author.Needs.{needs}
 use Rattle.ordered.proofs.tracing.join_rest.Statement.{statement}
 use Rattle.ordered.proofs.tracing.join_rest.Tie as tie
 
-enum-known-far : tie.Need-enum-known-far
-enum-known-far c = search needs
-
-enum-known-far-2 : tie.Need-enum-known-far-2
-enum-known-far-2 c = search needs
-
-join-requires : tie.Need-join-requires
-join-requires c κs = search needs
-
-enum-known-joined : tie.Need-enum-known-joined
-enum-known-joined c = search needs
-
-enum-known-e : tie.Need-enum-known-e
-enum-known-e c = search needs
-
 returns : tie.Need-returns
 returns c = sym (ap (λ f. joinFar (c .before .before .before .args .near) (tracedAnswer f)) (c .before .far .given .1))
 
@@ -34,11 +19,11 @@ pub join-rest-spec : {M : Type 1} → statement M
 join-rest-spec =
     tie.close
     (tie.spec
-    enum-known-far
-    enum-known-far-2
-    join-requires
-    enum-known-joined
-    enum-known-e
+    (λ c. search needs)
+    (λ c. search needs)
+    (λ c κs. search needs)
+    (λ c. search needs)
+    (λ c. search needs)
     returns
     returns-2
     returns-3)

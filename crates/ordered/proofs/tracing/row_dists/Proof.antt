@@ -6,24 +6,6 @@ use borrow.Author.Needs.{needs}
 use Rattle.ordered.proofs.tracing.row_dists.Statement.{statement}
 use Rattle.ordered.proofs.tracing.row_dists.Tie as tie
 
-read-row-requires : tie.Need-read-row-requires
-read-row-requires c κs = search needs
-
-enum-known-e : tie.Need-enum-known-e
-enum-known-e c = search needs
-
-enum-known-w : tie.Need-enum-known-w
-enum-known-w c = search needs
-
-dists-by-number-requires : tie.Need-dists-by-number-requires
-dists-by-number-requires c κs = search needs
-
-enum-known-e-2 : tie.Need-enum-known-e-2
-enum-known-e-2 c = search needs
-
-enum-known-a : tie.Need-enum-known-a
-enum-known-a c = search needs
-
 returns : tie.Need-returns
 returns c = made-unread _ _ _ _ _ _ (c .before .before .before .read-row .ensures) _ (c .before .e .given .1)
 
@@ -37,12 +19,12 @@ pub row-dists-spec : {M : Type 1} → statement M
 row-dists-spec =
     tie.close
     (tie.spec
-    read-row-requires
-    enum-known-e
-    enum-known-w
-    dists-by-number-requires
-    enum-known-e-2
-    enum-known-a
+    (λ c κs. search needs)
+    (λ c. search needs)
+    (λ c. search needs)
+    (λ c κs. search needs)
+    (λ c. search needs)
+    (λ c. search needs)
     returns
     returns-2
     returns-3)
