@@ -1,18 +1,16 @@
 -- What the calls are refused with (specs/Refusals.antt says it): loaded/proofs/Refusals.antt and loaded/proofs/Loading.antt, and 22 and 20 for lists and tables.
 -- Assumes nothing.
 use Prim.Native.Nat.{ℕ, zero, suc, _<_}
-use mathlib.Core.Bool.{Bool, true, false, cond}
-use mathlib.Core.List.{List, [], _∷_, _++_}
+use mathlib.Core.Bool.{Bool, true, false}
+use mathlib.Core.List.{List, [], _∷_}
 use mathlib.Core.Logic.{inl, inr}
 use mathlib.Core.Path.{_≡_, refl, sym, subst, _∙_}
 use borrow.Author.Tests.{lt-ltb, ltb-true, ltb-false}
 use lib.Dec.{ltb}
 use lib.Ieee.{Float}
-use lib.ListN.{length, drop}
+use lib.ListN.{length}
 use Rattle.format.specs.Answer as Ans
-use Rattle.format.specs.Answer.{Answer, answer, mapped, thenAnswer}
-use Rattle.format.specs.Listed.{listed, into}
-use Rattle.format.specs.Step.{when}
+use Rattle.format.specs.Answer.{Answer, answer, thenAnswer}
 use Rattle.format.specs.declared.section.BspData.{BspData}
 use Rattle.format.specs.declared.section.BspFileSectionId.the-variants.{RenderNodes, CollisionNodes}
 use Rattle.phys.specs.declared.Trace.{Trace}
@@ -33,10 +31,10 @@ use Rattle.loaded.specs.Refusals.{OneOf, ofWalks, ofTraces, RefusedOnly}
 use Rattle.loaded.proofs.Loading.{loading-refuses}
 use Rattle.loaded.proofs.Refusals as Core
 use Rattle.loaded.proofs.Refusals.{answers, refuses, of-mapped, of-record}
-use Rattle.words.specs.Words.{Written, written, given, atLeast, Left, left, enough, listedIn, numberWords, mapWords, mapOf}
+use Rattle.words.specs.Words.{numberWords, mapWords, mapOf}
 use Rattle.served.specs.Cited.{bspLoad, bspTreeCheck, bspContents, bspFindLeaf, bspTrace, bspContentsNodes, bspFindLeafNodes, bspTraceNodes, pointAt, tableNumbered, checkOf, TableNumbered, Table, NoTable, hullFrom, hullIn, contentsWords, leafWords, traceWords}
 use Rattle.served.specs.Refusals.{ZeroOr, OfLoad, ofContents, ofFindLeaf, ofTrace, ofTreeCheck, EveryRefusal}
-use Rattle.served.proofs.Statuses.{OfWords, of-table, of-none, of-words}
+use Rattle.served.proofs.Statuses.{of-given, at-least, both, of-listed, OfWords, of-table, of-none, of-words}
 
 -- ---- the tree check, for the tables of any file and map record
 
@@ -69,36 +67,6 @@ module _ (P : ℕ → Type 0) (p20 : P 20) (p22 : P 22) (p23 : P 23) (p30 : P 30
       by : (b : Bool) → ltb (length marks) (nodesOf s m t .count) ≡ b → P r
       by true q = refuses P {A = ℕ} 22 p22 r (sym (too-few t marks root (ltb-true _ _ q)) ∙ e)
       by false q = of-fails t root r (refused-for (nodesOf s m t) root marks r (ltb-false _ _ q) e)
-
--- ---- a call's status, by its definition's parts
-
-module _ (P : ℕ → Type 0) (p0 : P 0) where
-  pub of-given : {A : Type 0} (w : A → List ℕ) (x : Answer A) (out : List ℕ) → RefusedOnly P x → P (given (mapped w x) out .status)
-  of-given w (answer v) out f = p0
-  of-given w (Ans.refused n) out f = f n refl
-
-  module _ (p22 : P 22) where
-    at-least : {A : Type 0} (n : ℕ) (ws : List A) (out : List ℕ) (rest : Written) → P (rest .status) → P (atLeast n ws out rest .status)
-    at-least n ws out rest f = by (ltb (length ws) n)
-      where
-        by : (b : Bool) → P (cond b (written 22 out) rest .status)
-        by true = p22
-        by false = f
-
-    both : {A : Type 0} (n : ℕ) (ws : List A) (list out : List ℕ) (rest : Left) → P (rest .status) → P (enough n ws list out rest .status)
-    both n ws list out rest f = by (ltb (length ws) n)
-      where
-        by : (b : Bool) → P (cond b (left 22 list out) rest .status)
-        by true = p22
-        by false = f
-
-    of-listed : (x : Answer (List ℕ)) (list out : List ℕ) → RefusedOnly P x → P (listedIn (into x list) out .status)
-    of-listed (Ans.refused n) list out f = f n refl
-    of-listed (answer ns) list out f = by (ltb (length list) (length ns))
-      where
-        by : (b : Bool) → P (listedIn (when b (listed (Ans.refused 22) list) (listed (answer (length ns)) (ns ++ drop (length ns) list))) out .status)
-        by true = p22
-        by false = p0
 
 of-entered : {A : Type 0} (P : ℕ → Type 0) (o : Outcome A) → RefusedOnly P (withVisits o) → RefusedOnly P (nodesEntered o)
 of-entered P (done a ns) f = answers P ns

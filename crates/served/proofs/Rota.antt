@@ -3,15 +3,14 @@
 use Prim.Native.Nat.{ℕ, zero, suc, _-_, _<_, _≤_}
 use mathlib.Core.Path.{_≡_, refl, sym, ap, subst, _∙_}
 use mathlib.Core.Bool.{Bool, true, false, cond}
-use mathlib.Core.List.{List, [], _∷_, _++_}
+use mathlib.Core.List.{List, [], _∷_}
 use native.Mathlib.Omega.{arith}
 use borrow.Author.Tests.{le-ltb}
 use lib.Dec.{ltb}
 use lib.Ieee.{Float}
-use lib.ListN.{length, drop, replicate, length-replicate}
+use lib.ListN.{length, replicate, length-replicate}
 use Rattle.format.specs.Answer.{Answer, answer, refused, mapped, thenAnswer}
-use Rattle.format.specs.Listed.{Listed, listed, into}
-use Rattle.format.specs.Step.{when}
+use Rattle.format.specs.Listed.{into}
 use Rattle.format.specs.Section.{recordCount}
 use Rattle.format.specs.declared.section.BspFileSectionId.the-variants.{Leaves, Models, CollisionNodes}
 use Rattle.models.specs.Model.{fileModelAt, fileModelOf}
@@ -33,13 +32,13 @@ use Rattle.accept.proofs.Numbers.{Known, known-accept}
 use Rattle.rota.specs.Promise as Promise
 use Rattle.rota.specs.Promise.{Queries, Walks}
 use Rattle.rota.proofs.Promise as Promised
-use Rattle.words.specs.Words.{Written, written, given, put, atLeast, Left, left, enough, beside, listedIn, numberWords, mapOf}
+use Rattle.words.specs.Words.{Written, written, given, put, atLeast, Left, listedIn, numberWords, mapOf}
 use Rattle.served.specs.Cited.{bspLoad, bspHull, bspTreeCheck, bspContents, bspFindLeaf, bspTrace, bspPvs, bspAccept, pointAt, tableNumbered, checkOf, TableNumbered, Table, hullFrom, hullIn, hullWords, tableWord, contentsWords, leafWords, traceWords, statusOf, judgedIn}
 use Rattle.served.specs.Words.{hullTable, hullRoot, treeHeight, renderTable}
 use Rattle.served.specs.EveryCall.{nodesIn, mapWritten}
 use Rattle.served.specs.Rota.{NotByShape, Roots, Passed, NotRefused, Answered, EveryMap, EveryFile}
 use Rattle.served.proofs.EveryCall.{Loads, load-passed, Checked, check-passed, every-call}
-use Rattle.served.proofs.Statuses.{Some, long, long-both, was-long, was-answered, from-words, word-floats}
+use Rattle.served.proofs.Statuses.{Some, long, long-both, was-long, was-answered, from-words, word-floats, of-given, at-least, both, of-listed}
 
 -- ---- statuses
 
@@ -50,23 +49,12 @@ short-fine : NotByShape 22
 short-fine l h = omega arith
 
 -- a list too short is 22
-at-least-fine : {A : Type 0} (n : ℕ) (ws : List A) (out : List ℕ) (rest : Written) → NotByShape (rest .status) → NotByShape (atLeast n ws out rest .status)
-at-least-fine n ws out rest f = by (ltb (length ws) n)
-  where
-    by : (b : Bool) → NotByShape (cond b (written 22 out) rest .status)
-    by true = short-fine
-    by false = f
+fine : {A : Type 0} (n : ℕ) (ws : List A) (out : List ℕ) (rest : Written) → NotByShape (rest .status) → NotByShape (atLeast n ws out rest .status)
+fine n ws out rest f = at-least NotByShape zero-fine short-fine n ws out rest f
 
-enough-fine : {A : Type 0} (n : ℕ) (ws : List A) (list out : List ℕ) (rest : Left) → NotByShape (rest .status) → NotByShape (enough n ws list out rest .status)
-enough-fine n ws list out rest f = by (ltb (length ws) n)
-  where
-    by : (b : Bool) → NotByShape (cond b (left 22 list out) rest .status)
-    by true = short-fine
-    by false = f
-
-given-fine : {A : Type 0} (w : A → List ℕ) (x : Answer A) (out : List ℕ) → Promise.NotByShape A x → NotByShape (given (mapped w x) out .status)
-given-fine w (answer a) out f = zero-fine
-given-fine w (refused n) out f = λ l h. f n l h refl
+-- the numbers that an answer is refused with
+not-by : {A : Type 0} (x : Answer A) → Promise.NotByShape A x → RefusedOnly NotByShape x
+not-by x f n e l h = f n l h e
 
 then-fine : {A B : Type 0} (x : Answer A) (k : A → Answer B) (v : A) → x ≡ answer v → Promise.NotByShape B (k v) → Promise.NotByShape B (thenAnswer x k)
 then-fine {B = B} x k v e f = subst (λ (y : Answer _). Promise.NotByShape B (thenAnswer y k)) (sym e) f
@@ -177,40 +165,32 @@ module _ (s map : List ℕ) (room : 31 ≤ length map) (Q : Queries Promise.NotB
       contents-fine : (point : List Float) (out : List ℕ) → NotByShape (bspContents s map hull point out .status)
       unfolding bspContents
       contents-fine point out =
-          at-least-fine 31 map out _ (at-least-fine 9 hull out _ (at-least-fine 3 point out _ (at-least-fine 2 out out _
-          (given-fine contentsWords _ out (then-fine (hullFrom hull) _ h from (walks .contents (pointAt point 0)))))))
+          fine 31 map out _ (fine 9 hull out _ (fine 3 point out _ (fine 2 out out _
+          (of-given NotByShape zero-fine contentsWords _ out (not-by _ (then-fine (hullFrom hull) _ h from (walks .contents (pointAt point 0))))))))
 
       trace-fine : (segment : List Float) → Floats (pointAt segment 0) → Floats (pointAt segment 3) → (out : List ℕ) → NotByShape (bspTrace s map hull segment out .status)
       unfolding bspTrace
       trace-fine segment F G out =
-          at-least-fine 31 map out _ (at-least-fine 9 hull out _ (at-least-fine 6 segment out _ (at-least-fine 17 out out _
-          (given-fine traceWords _ out
-          (then-fine (hullFrom hull) _ h from (walks .trace (word-floats hull 3) (word-floats hull 6) (pointAt segment 0) (pointAt segment 3) F G))))))
+          fine 31 map out _ (fine 9 hull out _ (fine 6 segment out _ (fine 17 out out _
+          (of-given NotByShape zero-fine traceWords _ out
+          (not-by _ (then-fine (hullFrom hull) _ h from (walks .trace (word-floats hull 3) (word-floats hull 6) (pointAt segment 0) (pointAt segment 3) F G)))))))
 
   leaf-fine : (root : ℕ) (marks height : List ℕ) → Passed s map renderTable root marks height → (point : List Float) (out : List ℕ) → NotByShape (bspFindLeaf s map root point out .status)
   unfolding bspFindLeaf
   leaf-fine root marks height passed point out =
       let c = C renderTable root marks height passed in
-      at-least-fine 31 map out _ (at-least-fine 3 point out _ (at-least-fine 2 out out _
-      (given-fine leafWords _ out (walks renderTable root marks height passed (0 ∷ root ∷ []) refl refl .leaf (render (c .t) (c .is-table)) (pointAt point 0)))))
+      fine 31 map out _ (fine 3 point out _ (fine 2 out out _
+      (of-given NotByShape zero-fine leafWords _ out (not-by _ (walks renderTable root marks height passed (0 ∷ root ∷ []) refl refl .leaf (render (c .t) (c .is-table)) (pointAt point 0))))))
     where
       render : (t : HullTable) → renderTable ≡ tableWord t → t ≡ Render
       render Render e = refl
       render Clip e = absurd (omega (arith, e))
       render Box e = absurd (omega (arith, e))
 
-  listed-fine : (x : Answer (List ℕ)) (list out : List ℕ) → Promise.NotByShape (List ℕ) x → NotByShape (listedIn (into x list) out .status)
-  listed-fine (refused n) list out f = λ l h. f n l h refl
-  listed-fine (answer entries) list out f = by (ltb (length list) (length entries))
-    where
-      by : (b : Bool) → NotByShape (listedIn (when b (listed (refused 22) list) (listed (answer (length entries)) (entries ++ drop (length entries) list))) out .status)
-      by true = short-fine
-      by false = zero-fine
-
   pvs-fine : (leaf count : ℕ) → leaf < recordCount Leaves (mapOf map .leaves) → count ≤ recordCount Leaves (mapOf map .leaves)
       → (list out : List ℕ) → NotByShape (bspPvs s map leaf count list out .status)
   unfolding bspPvs
-  pvs-fine leaf count h l list out = enough-fine 31 map list out _ (enough-fine 1 out list out _ (listed-fine (pvsOf s (mapOf map) leaf count) list out (Q .visibility leaf count h l)))
+  pvs-fine leaf count h l list out = both NotByShape zero-fine short-fine 31 map list out _ (both NotByShape zero-fine short-fine 1 out list out _ (of-listed NotByShape zero-fine short-fine (pvsOf s (mapOf map) leaf count) list out (not-by _ (Q .visibility leaf count h l))))
 
 -- ---- visibility, answered
 

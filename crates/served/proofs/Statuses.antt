@@ -2,20 +2,21 @@
 use Prim.Native.Nat.{ℕ, _≤_}
 use native.Mathlib.Omega.{arith}
 use mathlib.Core.Bool.{Bool, true, false, cond}
-use mathlib.Core.List.{List}
+use mathlib.Core.List.{List, _++_}
 use mathlib.Core.Path.{_≡_, refl}
 use borrow.Author.Tests.{le-ltb, ltb-false}
 use lib.Dec.{ltb, eqb}
 use lib.Ieee.{binary32}
 use lib.Ieee.Bits.{ofBits-fits}
-use lib.ListN.{length, getD}
+use lib.ListN.{length, getD, drop}
 use Rattle.format.specs.Answer.{Answer, answer, refused, mapped}
+use Rattle.format.specs.Listed.{listed, into}
 use Rattle.format.specs.Step.{when}
 use Rattle.nodes.specs.declared.table.HullTable.{HullTable}
 use Rattle.nodes.specs.declared.table.HullTable.the-variants.{Render, Clip, Box}
 use Rattle.tree.specs.Readable.{Floats}
 use Rattle.loaded.specs.Refusals.{RefusedOnly}
-use Rattle.words.specs.Words.{Written, written, given, atLeast, Left, left, enough}
+use Rattle.words.specs.Words.{Written, written, given, atLeast, Left, left, enough, listedIn}
 use Rattle.served.specs.Cited.{hullFrom, vectorAt, hullIn, tableWord}
 
 abbrev pub Some : ℕ → Type 0
@@ -50,6 +51,36 @@ module _ {A : Type 0} (n : ℕ) (ws : List A) where
 pub was-answered : {A : Type 0} (w : A → List ℕ) (x : Answer A) (out : List ℕ) → RefusedOnly Some x → given (mapped w x) out .status ≡ 0 → (v : A) × (x ≡ answer v)
 was-answered w (answer v) out f e = (v, refl)
 was-answered w (refused n) out f e = let l : 1 ≤ n = f n refl in absurd (omega (arith, e, l))
+
+-- ---- a call's status, by its definition's parts
+
+module _ (P : ℕ → Type 0) (p0 : P 0) where
+  pub of-given : {A : Type 0} (w : A → List ℕ) (x : Answer A) (out : List ℕ) → RefusedOnly P x → P (given (mapped w x) out .status)
+  of-given w (answer v) out f = p0
+  of-given w (refused n) out f = f n refl
+
+  module _ (p22 : P 22) where
+    pub at-least : {A : Type 0} (n : ℕ) (ws : List A) (out : List ℕ) (rest : Written) → P (rest .status) → P (atLeast n ws out rest .status)
+    at-least n ws out rest f = by (ltb (length ws) n)
+      where
+        by : (b : Bool) → P (cond b (written 22 out) rest .status)
+        by true = p22
+        by false = f
+
+    pub both : {A : Type 0} (n : ℕ) (ws : List A) (list out : List ℕ) (rest : Left) → P (rest .status) → P (enough n ws list out rest .status)
+    both n ws list out rest f = by (ltb (length ws) n)
+      where
+        by : (b : Bool) → P (cond b (left 22 list out) rest .status)
+        by true = p22
+        by false = f
+
+    pub of-listed : (x : Answer (List ℕ)) (list out : List ℕ) → RefusedOnly P x → P (listedIn (into x list) out .status)
+    of-listed (refused n) list out f = f n refl
+    of-listed (answer ns) list out f = by (ltb (length list) (length ns))
+      where
+        by : (b : Bool) → P (listedIn (when b (listed (refused 22) list) (listed (answer (length ns)) (ns ++ drop (length ns) list))) out .status)
+        by true = p22
+        by false = p0
 
 -- ---- the words of a hull
 
