@@ -31,9 +31,7 @@ use Rattle.nodes.specs.Fast.{nodeOf, planeIn}
 use Rattle.nodes.specs.Fast as Fast
 use Rattle.nodes.specs.declared.table.Tables.{Tables}
 use Rattle.nodes.specs.declared.read.Words.{Words as WordsT}
-use Rattle.hull.specs.Traces.{metAnswer, metChild, metOn, withinLeaf, outOfLeaf, stopsAt, joinedWith, joinFar, tracedAnswer, crossedAt, resumed}
-use Rattle.hull.specs.declared.tracing.Traced.{Traced}
-use Rattle.hull.specs.declared.tracing.Traced.the-variants as T
+use Rattle.hull.specs.Traces.{metAnswer, metChild, metOn, withinLeaf, outOfLeaf, stopsAt, joinedWith, joinFar, crossedAt, resumed}
 use Rattle.hull.specs.declared.tracing.MetChild.{MetChild}
 use Rattle.hull.specs.declared.tracing.MetChild.the-variants as M
 use Rattle.hull.specs.declared.tracing.Descent.{Descent}
@@ -81,8 +79,8 @@ module _ (f : List ℕ) (t : Tables) (w : WordsT) (s e : Vector3) (a b : Float) 
     met-on z is-z = is-m ∙ ap (λ (y : HyperplaneSide). metChild table (childOn nd y)) (is-fr ∙ is-z)
 
     -- visits that are counted already
-    counted-is : (r : Traced) (y : TraceT) → r ≡ T.Trace y v → tracedAnswer r ≡ after v (done y [])
-    counted-is r y q = ap tracedAnswer q ∙ ap (λ (z : ℕ). answer (y, z)) {x = v} {y = held (v + 0)} (omega arith)
+    counted-is : (r : Answer (TraceT × ℕ)) (y : TraceT) → r ≡ answer (y, v) → r ≡ after v (done y [])
+    counted-is r y q = q ∙ ap (λ (z : ℕ). answer (y, z)) {x = v} {y = held (v + 0)} (omega arith)
 
     module _ (is-side : side ≡ Pl.pointSide h s) where
       near-met : (y : MetChild) → m ≡ y → nearPart ≡ onMet (λ i. go i s (x .point)) (λ c. outOfLeaf s (x .point) (x .ratio) turned c) (metAnswer y)
@@ -90,10 +88,10 @@ module _ (f : List ℕ) (t : Tables) (w : WordsT) (s e : Vector3) (a b : Float) 
           onto-met table (λ i. go i s (x .point)) (λ c. outOfLeaf s (x .point) (x .ratio) turned c) (childOn nd (Pl.pointSide h s))
           ∙ ap (onMet (λ i. go i s (x .point)) (λ c. outOfLeaf s (x .point) (x .ratio) turned c)) (sym (met-on (Pl.pointSide h s) is-side) ∙ ap metAnswer q)
 
-      pub near-node : (i : ℕ) → m ≡ M.Node i → (r : Traced) → tracedAnswer r ≡ after v (go i s mid) → tracedAnswer r ≡ after v nearPart
+      pub near-node : (i : ℕ) → m ≡ M.Node i → (r : Answer (TraceT × ℕ)) → r ≡ after v (go i s mid) → r ≡ after v nearPart
       near-node i q r is-r = is-r ∙ ap (λ (z : Vector3). after v (go i s z)) is-mid ∙ sym (ap (after v) (near-met (M.Node i) q))
 
-      pub near-leaf : (c : BspLeafContents) → m ≡ M.Contents c → (r : Traced) → r ≡ T.Trace (outOfLeaf s mid (x .ratio) turned c) v → tracedAnswer r ≡ after v nearPart
+      pub near-leaf : (c : BspLeafContents) → m ≡ M.Contents c → (r : Answer (TraceT × ℕ)) → r ≡ answer (outOfLeaf s mid (x .ratio) turned c, v) → r ≡ after v nearPart
       near-leaf c q r is-r =
           counted-is r (outOfLeaf s mid (x .ratio) turned c) is-r ∙ ap (λ (z : Vector3). after v (done (outOfLeaf s z (x .ratio) turned c) [])) is-mid
           ∙ sym (ap (after v) (near-met (M.Contents c) q))
@@ -107,10 +105,10 @@ module _ (f : List ℕ) (t : Tables) (w : WordsT) (s e : Vector3) (a b : Float) 
           onto-met table (λ i. go i (x .point) e) (λ c. withinLeaf (x .point) (x .ratio) e c) (childOn nd (Pl.pointSide h e))
           ∙ ap (onMet (λ i. go i (x .point) e) (λ c. withinLeaf (x .point) (x .ratio) e c)) (sym (met-on (Pl.pointSide h e) is-side) ∙ ap metAnswer q)
 
-      pub far-node : (i : ℕ) → m ≡ M.Node i → (r : Traced) → tracedAnswer r ≡ after v (go i mid e) → tracedAnswer r ≡ after v farPart
+      pub far-node : (i : ℕ) → m ≡ M.Node i → (r : Answer (TraceT × ℕ)) → r ≡ after v (go i mid e) → r ≡ after v farPart
       far-node i q r is-r = is-r ∙ ap (λ (z : Vector3). after v (go i z e)) is-mid ∙ sym (ap (after v) (far-met (M.Node i) q))
 
-      pub far-leaf : (c : BspLeafContents) → m ≡ M.Contents c → (r : Traced) → r ≡ T.Trace (withinLeaf mid (x .ratio) e c) v → tracedAnswer r ≡ after v farPart
+      pub far-leaf : (c : BspLeafContents) → m ≡ M.Contents c → (r : Answer (TraceT × ℕ)) → r ≡ answer (withinLeaf mid (x .ratio) e c, v) → r ≡ after v farPart
       far-leaf c q r is-r =
           counted-is r (withinLeaf mid (x .ratio) e c) is-r ∙ ap (λ (z : Vector3). after v (done (withinLeaf z (x .ratio) e c) [])) is-mid
           ∙ sym (ap (after v) (far-met (M.Contents c) q))
@@ -127,17 +125,17 @@ module _ (f : List ℕ) (t : Tables) (w : WordsT) (s e : Vector3) (a b : Float) 
     pub no-plane : (z : Refusal) → p ≡ P.Refused z → Ans.refused (numberOf z) ≡ all
     no-plane z q = sym (ap (λ (y : PlaneAnswer). after n (crossedAt table k nd s e a b (planeAnswer y))) q) ∙ says-there
 
-    module _ (q : p ≡ P.Value h) (near : Traced) (near-is : tracedAnswer near ≡ after n nearPart) where
+    module _ (q : p ≡ P.Value h) (near : Answer (TraceT × ℕ)) (near-is : near ≡ after n nearPart) where
       whole : after n (withNear table go nd h s e x nearPart) ≡ all
       whole = sym (ap (λ (y : PlaneAnswer). after n (crossedAt table k nd s e a b (planeAnswer y))) q) ∙ says-there
 
-      pub near-declined : (z : Refusal) → near ≡ T.Refused z → Ans.refused (numberOf z) ≡ all
+      pub near-declined : (z : Refusal) → near ≡ Ans.refused (numberOf z) → Ans.refused (numberOf z) ≡ all
       near-declined z is-z =
-          sym (ap (λ (o : Outcome TraceT). after n (withNear table go nd h s e x o)) (after-refused n nearPart (numberOf z) (sym near-is ∙ ap tracedAnswer is-z))) ∙ whole
+          sym (ap (λ (o : Outcome TraceT). after n (withNear table go nd h s e x o)) (after-refused n nearPart (numberOf z) (sym near-is ∙ is-z))) ∙ whole
 
-      module _ (y : TraceT) (v : ℕ) (is-y : near ≡ T.Trace y v) (mid : Vector3) (is-mid : mid ≡ x .point) (st : Bool) (is-st : st ≡ stopsAt y mid) where
+      module _ (y : TraceT) (v : ℕ) (is-y : near ≡ answer (y, v)) (mid : Vector3) (is-mid : mid ≡ x .point) (st : Bool) (is-st : st ≡ stopsAt y mid) where
         near-done : (ns : List ℕ) × (nearPart ≡ done y ns) × (held (n + length ns) ≡ v)
-        near-done = after-done n nearPart y v (sym near-is ∙ ap tracedAnswer is-y)
+        near-done = after-done n nearPart y v (sym near-is ∙ is-y)
 
         stops-is : stops y x ≡ st
         stops-is = sym (is-st ∙ ap (stopsAt y) is-mid)
@@ -152,7 +150,7 @@ module _ (f : List ℕ) (t : Tables) (w : WordsT) (s e : Vector3) (a b : Float) 
             ap (λ (i : ℕ). answer (y, i)) (sym (near-done .2))
             ∙ sym (ap (λ (c : Bool). after n (afterNear table go nd h s e x y (near-done .0) c)) z) ∙ passed
 
-        pub both : st ≡ false → (far : Traced) → tracedAnswer far ≡ after v farPart → (res : Traced) → tracedAnswer res ≡ joinFar y (tracedAnswer far) → tracedAnswer res ≡ all
+        pub both : st ≡ false → (far : Answer (TraceT × ℕ)) → far ≡ after v farPart → (res : Answer (TraceT × ℕ)) → res ≡ joinFar y far → res ≡ all
         both z far far-is res is-res =
             is-res ∙ ap (joinFar y) far-is ∙ joins y n v (near-done .0) (near-done .2) farPart
             ∙ sym (ap (λ (c : Bool). after n (afterNear table go nd h s e x y (near-done .0) c)) z) ∙ passed

@@ -13,9 +13,8 @@ use Rattle.format.specs.declared.section.BspData.{BspData}
 use Rattle.math.specs.declared.Vector3.{Vector3}
 use Rattle.walk.specs.Table.{Table}
 use Rattle.phys.specs.declared.Trace.{Trace}
-use Rattle.walk.specs.Walk.{withVisits, after, meet, pointWalk}
-use Rattle.walk.specs.Trace.{trace, recursiveTrace}
-use Rattle.walk.proofs.Steps.{after-none}
+use Rattle.walk.specs.Walk.{withVisits, meet, pointWalk}
+use Rattle.walk.specs.Trace.{trace}
 use Rattle.nodes.specs.Tables.{End, tableOf, leafTable}
 use Rattle.nodes.specs.Fast as Fast
 use Rattle.nodes.specs.Fast.{tablesOf, endOf, contentsMet}
@@ -34,12 +33,10 @@ module _ (s : List ℕ) (m : BspData) (tab : HullTable) (mins maxs : Vector3) (t
   pub table-same : Fast.table s t ≡ tableOf s m tab mins maxs
   table-same = ap (Fast.table s) is-t ∙ table-is s m mins maxs tab
 
-  -- a trace with no visits before it
-  pub trace-is : (root : ℕ) (a b : Vector3) {r : Answer (Trace × ℕ)} → r ≡ after 0 (recursiveTrace (Fast.table s t) 512 root a b)
+  -- a trace
+  pub trace-is : (root : ℕ) (a b : Vector3) {r : Answer (Trace × ℕ)} → r ≡ withVisits (trace (Fast.table s t) root a b)
       → r ≡ withVisits (trace (tableOf s m tab mins maxs) root a b)
-  trace-is root a b e =
-      e ∙ sym (after-none (recursiveTrace (Fast.table s t) 512 root a b))
-      ∙ ap (λ (T : Table End BspLeafContents). withVisits (recursiveTrace T 512 root a b)) table-same
+  trace-is root a b e = e ∙ ap (λ (T : Table End BspLeafContents). withVisits (trace T root a b)) table-same
 
   -- the contents at a point
   pub contents-are : (root : ℕ) (p : Vector3) {r : Answer (BspLeafContents × ℕ)} → r ≡ withVisits (pointWalk (Fast.table s t) root p)

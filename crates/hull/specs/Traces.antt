@@ -2,7 +2,7 @@
 -- again at a crossing, with the nodes entered before.
 use Prim.Native.Nat.{ℕ, suc, _≤_}
 use mathlib.Core.Path.{_≡_}
-use mathlib.Core.Bool.{Bool, not, _||_}
+use mathlib.Core.Bool.{Bool, true, false, cond, not, _||_, _&&_}
 use mathlib.Core.List.{List}
 use lib.Ieee.{Float}
 use Rattle.format.specs.Answer as Ans
@@ -15,7 +15,11 @@ use Rattle.math.specs.Plane as Pl
 use Rattle.math.specs.declared.Vector3.{Vector3}
 use Rattle.math.specs.declared.Hyperplane.{Hyperplane}
 use Rattle.phys.specs.Trace as Tr
+use Rattle.format.specs.Contents as Contents
+use Rattle.format.specs.declared.contents.BspLeafContents.the-variants.{Solid}
 use Rattle.phys.specs.declared.Trace.{Trace as TraceT}
+use Rattle.phys.specs.declared.TraceStart.{TraceStart}
+use Rattle.phys.specs.declared.TraceEnd.{TraceEnd}
 use Rattle.walk.specs.Table.{Child, node, end, Node, Table, childOn}
 use Rattle.walk.specs.Walk.{Outcome, refused, after, meet}
 use Rattle.walk.specs.Trace.{recursiveTrace, nearOf, withNear}
@@ -24,6 +28,9 @@ use Rattle.nodes.specs.declared.table.Tables.{Tables}
 use Rattle.nodes.specs.declared.read.Words.{Words}
 use Rattle.hull.specs.declared.tracing.Traced.{Traced}
 use Rattle.hull.specs.declared.tracing.Traced.the-variants as T
+use Rattle.hull.specs.declared.tracing.Went.{Went}
+use Rattle.hull.specs.declared.tracing.Way.{Way}
+use Rattle.hull.specs.declared.tracing.Way.the-variants as Y
 use Rattle.hull.specs.declared.tracing.MetChild.{MetChild}
 use Rattle.hull.specs.declared.tracing.MetChild.the-variants as M
 use Rattle.hull.specs.declared.tracing.Descent.{Descent}
@@ -34,7 +41,60 @@ abbrev pub tracedAnswer : Traced → Answer (TraceT × ℕ)
 tracedAnswer (T.Trace t v) = answer (t, v)
 tracedAnswer (T.Refused e) = Ans.refused (numberOf e)
 
+-- ---- a trace by numbers alone: where it comes to, with its plane by number
+
+-- a start of the whole
+abbrev pub atStart : Vector3 → TraceStart
+atStart s = Tr.start s zero32
+
+-- the plane of an answer; where there is none, any
+abbrev pub planeOr : Answer Hyperplane → Hyperplane
+planeOr (answer h) = h
+planeOr (Ans.refused n) = Pl.axisX zero32
+
+-- the plane of a number, turned to a side
+abbrev pub planeMet : List ℕ → Tables → ℕ → Bool → Hyperplane
+planeMet f t i front = Pl.facing (Pl.sideIf front) (planeOr (Fast.planeIn f t i))
+
+-- its end, and the trace from a start
+abbrev pub endOf : List ℕ → Tables → Went → TraceEnd
+endOf f t g = cond (g .met) (Tr.boundary (g .end) (g .ratio) (planeMet f t (g .plane) (g .front))) (Tr.terminal (g .end))
+
+abbrev pub wentTrace : List ℕ → Tables → TraceStart → Went → TraceT
+wentTrace f t s g = Tr.trace s (endOf f t g) (g .contents) (g .«start_solid»)
+
+abbrev pub wayAnswer : List ℕ → Tables → TraceStart → Way → Answer (TraceT × ℕ)
+wayAnswer f t s (Y.Went g) = answer (wentTrace f t s g, g .visits)
+wayAnswer f t s (Y.Refused e) = Ans.refused (numberOf e)
+
 -- ---- for private contracts
+
+-- all in one leaf
+abbrev pub endedIn : Vector3 → BspLeafContents → ℕ → Went
+endedIn e c v =
+    record { end = e; contents = c; «start_solid» = Contents.equal c Solid; met = false; plane = 0; front = false; ratio = zero32; visits = v }
+
+-- the trace ends with its near part
+abbrev pub endsWith : Went → Vector3 → Bool
+endsWith g m = cond (g .met) (not (Vec.same (g .end) m)) true
+
+-- joined with the far part: its end with the whole's contents and start, or the near part with the nodes of both
+abbrev pub carriedTo : Went → BspLeafContents → Bool → Went
+carriedTo g c b =
+    record { end = g .end; contents = c; «start_solid» = b; met = g .met; plane = g .plane; front = g .front; ratio = g .ratio; visits = g .visits }
+
+abbrev pub countedAs : Went → ℕ → Went
+countedAs g v =
+    record { end = g .end; contents = g .contents; «start_solid» = g .«start_solid»; met = g .met; plane = g .plane; front = g .front; ratio = g .ratio; visits = v }
+
+abbrev pub joinParts : Went → Went → Went
+joinParts g u =
+    cond (Contents.equal (g .contents) (u .contents)) (carriedTo u (g .contents) (g .«start_solid»))
+    (cond (Contents.equal (g .contents) Solid && not (Contents.equal (u .contents) Solid)) (carriedTo u (u .contents) true) (countedAs g (u .visits)))
+
+abbrev pub joinWay : Went → Way → Way
+joinWay g (Y.Went u) = Y.Went (joinParts g u)
+joinWay g (Y.Refused e) = Y.Refused e
 
 -- a child that was met
 pub data Met : Type 0 where
@@ -76,6 +136,11 @@ joinedWith v (Ans.refused n) = Ans.refused n
 abbrev pub joinFar : TraceT → Answer (TraceT × ℕ) → Answer (TraceT × ℕ)
 joinFar near (answer f) = joinedWith (f .1) (Tr.join near (f .0))
 joinFar near (Ans.refused n) = Ans.refused n
+
+-- out of a leaf through the plane h, which has the number i
+abbrev pub MetAt : Vector3 → Vector3 → Float → ℕ → Hyperplane → BspLeafContents → ℕ → Way → Type 0
+MetAt s e k i h c v r =
+    (f : List ℕ) (t : Tables) → Fast.planeIn f t i ≡ answer h → wayAnswer f t (atStart s) r ≡ answer (outOfLeaf s e k (Pl.facing (Pl.pointSide h s) h) c, v)
 
 -- the trace at a crossing whose ends are at the distances a and b, with k calls left below it
 abbrev pub crossedAt : {E : Type 0} → Table E BspLeafContents → ℕ → Node E → Vector3 → Vector3 → Float → Float → Answer Hyperplane → Outcome TraceT

@@ -3,7 +3,7 @@
 -- Assumes nothing.
 use Prim.Native.Nat.{suc, _≤_, _^_}
 use native.Mathlib.Omega.{arith}
-use mathlib.Core.Path.{_≡_, sym, ap, _∙_, subst}
+use mathlib.Core.Path.{_≡_, refl, sym, ap, _∙_, subst}
 use mathlib.Core.Logic.{⊎-elim}
 use mathlib.Core.List.{List}
 use lib.Ieee.{Float}
@@ -14,7 +14,13 @@ use Rattle.math.specs.declared.Hyperplane.{Hyperplane}
 use Rattle.walk.specs.Walk.{after}
 use Rattle.nodes.specs.declared.table.Tables.{Tables}
 use Rattle.nodes.specs.declared.read.Words.{Words}
-use Rattle.hull.specs.Traces.{tracedAnswer, withOneMore, resumed}
+use Rattle.math.specs.Vector.{zero32}
+use Rattle.phys.specs.Trace as Tr
+use Rattle.format.specs.Answer.{answer}
+use Rattle.records.specs.Plane.{planeAnswer}
+use Rattle.nodes.specs.Fast.{planeIn}
+use Rattle.hull.specs.Traces.{atStart, wayAnswer, wentTrace, withOneMore, resumed}
+use Rattle.hull.proofs.Ways.{visits-small, ends-stops, joins-way}
 use Rattle.hull.proofs.Crossings.{nearPart, farPart, near-node, near-leaf, near-none, far-node, far-leaf, far-none, no-plane, near-declined, near-stops, both}
 use borrow.Author.Needs.{needs}
 use Prim.Native.Nat.{ℕ, _<_}
@@ -24,11 +30,12 @@ use Rattle.hull.proofs.tracing.recursive_trace.Reads as self
 use Rattle.hull.proofs.tracing.recursive_trace.Kinds as kinds
 use Rattle.hull.proofs.tracing.+recursive_trace.Lts-recursive_trace as lts
 use Rattle.hull.proofs.tracing.descend.Reads as descend-reads
-use Rattle.hull.proofs.tracing.join_far.Reads as join-far-reads
+use Rattle.hull.proofs.tracing.join_way.Reads as join-way-reads
 use Rattle.hull.proofs.tracing.meet_on.Reads as meet-on-reads
-use Rattle.hull.proofs.tracing.out_of_leaf.Reads as out-of-leaf-reads
-use Rattle.hull.proofs.tracing.stops.Reads as stops-reads
-use Rattle.hull.proofs.tracing.within_leaf.Reads as within-leaf-reads
+use Rattle.hull.proofs.tracing.met_at.Reads as met-at-reads
+use Rattle.hull.proofs.tracing.ends_with.Reads as ends-with-reads
+use Rattle.hull.proofs.tracing.again.Reads as again-reads
+use Rattle.hull.proofs.tracing.ended.Reads as ended-reads
 use Rattle.math.proofs.Hyperplane.point_side.Reads as point-side-reads
 use Rattle.math.proofs.Vector3.add.Reads as add-reads
 use Rattle.math.proofs.Vector3.scale.Reads as scale-reads
@@ -51,7 +58,7 @@ below t = and 1 kinds.ps (falls 1 kinds.ps _<_ μ t) self.Pre
 -- what each call asks and gives
 abbrev claims : ℕ → lts.Claims
 claims t =
-    (descend-reads.Asked, descend-reads.Learnt, within-leaf-reads.Asked, within-leaf-reads.Learnt, plane-at-reads.Asked, plane-at-reads.Learnt, sub-reads.Asked, sub-reads.Learnt, scale-reads.Asked, scale-reads.Learnt, add-reads.Asked, add-reads.Learnt, point-side-reads.Asked, point-side-reads.Learnt, is-front-reads.Asked, is-front-reads.Learnt, meet-on-reads.Asked, meet-on-reads.Learnt, below t, self.Post, out-of-leaf-reads.Asked, out-of-leaf-reads.Learnt, stops-reads.Asked, stops-reads.Learnt, join-far-reads.Asked, join-far-reads.Learnt)
+    (descend-reads.Asked, descend-reads.Learnt, ended-reads.Asked, ended-reads.Learnt, plane-at-reads.Asked, plane-at-reads.Learnt, sub-reads.Asked, sub-reads.Learnt, scale-reads.Asked, scale-reads.Learnt, add-reads.Asked, add-reads.Learnt, point-side-reads.Asked, point-side-reads.Learnt, is-front-reads.Asked, is-front-reads.Learnt, meet-on-reads.Asked, meet-on-reads.Learnt, below t, self.Post, met-at-reads.Asked, met-at-reads.Learnt, ends-with-reads.Asked, ends-with-reads.Learnt, again-reads.Asked, again-reads.Learnt, join-way-reads.Asked, join-way-reads.Learnt)
 
 module _ (t : ℕ) where
   -- ---- at a crossing: the call's arguments, the node's words, the distances, the calls left below, the visits
@@ -103,27 +110,27 @@ module _ (t : ℕ) where
   small-n : (c : lts.After-known-told3 (claims t) (at t) self.Post) → n (c .before) < 2 ^ 64
   small-n c = omega arith
 
-  small-near : (c : lts.After-known-told9 (claims t) (at t) self.Post) → c .before .near .given .0 .1 .0 < 2 ^ 64
-  small-near c = omega arith
+  plane-here : (c : R) → planeIn (f (c .before .before .before .before .before .before .before .before .before .before .before .before)) (tb (c .before .before .before .before .before .before .before .before .before .before .before .before)) (w (c .before .before .before .before .before .before .before .before .before .before .before .before) .plane) ≡ answer (h c)
+  plane-here c = sym (c .before .before .before .before .before .before .before .before .before .plane-at .ensures) ∙ ap planeAnswer (c .before .before .before .before .before .before .before .plane .given .1)
 
   -- the near part's answer
-  near-is : (c : lts.At-match3-came (claims t) (at t) self.Post) → tracedAnswer (c .match3 .near) ≡ after (n (c .before .before .before .before .before .before .before .before .before .before .before .before .before)) (nearPart (f (c .before .before .before .before .before .before .before .before .before .before .before .before .before)) (tb (c .before .before .before .before .before .before .before .before .before .before .before .before .before)) (w (c .before .before .before .before .before .before .before .before .before .before .before .before .before)) (s (c .before .before .before .before .before .before .before .before .before .before .before .before .before)) (e (c .before .before .before .before .before .before .before .before .before .before .before .before .before)) (a (c .before .before .before .before .before .before .before .before .before .before .before .before .before)) (b (c .before .before .before .before .before .before .before .before .before .before .before .before .before)) (k (c .before .before .before .before .before .before .before .before .before .before .before .before .before)) (h (c .before)))
+  near-is : (c : lts.At-match3-came (claims t) (at t) self.Post) → wayAnswer (f (c .before .before .before .before .before .before .before .before .before .before .before .before .before)) (tb (c .before .before .before .before .before .before .before .before .before .before .before .before .before)) (atStart (s (c .before .before .before .before .before .before .before .before .before .before .before .before .before))) (c .match3 .near) ≡ after (n (c .before .before .before .before .before .before .before .before .before .before .before .before .before)) (nearPart (f (c .before .before .before .before .before .before .before .before .before .before .before .before .before)) (tb (c .before .before .before .before .before .before .before .before .before .before .before .before .before)) (w (c .before .before .before .before .before .before .before .before .before .before .before .before .before)) (s (c .before .before .before .before .before .before .before .before .before .before .before .before .before)) (e (c .before .before .before .before .before .before .before .before .before .before .before .before .before)) (a (c .before .before .before .before .before .before .before .before .before .before .before .before .before)) (b (c .before .before .before .before .before .before .before .before .before .before .before .before .before)) (k (c .before .before .before .before .before .before .before .before .before .before .before .before .before)) (h (c .before)))
   near-is c =
       ⊎-elim
-      (λ z. ap tracedAnswer (z .4) ∙ near-node _ _ _ _ _ _ _ (k (c .before .before .before .before .before .before .before .before .before .before .before .before .before)) (h (c .before)) _ (mid-is (c .before)) _ (small-n (c .before .before .before .before .before .before .before .before .before .before .before .before)) _ _ (c .before .before .is-front .ensures) _ (c .before .meet-on .ensures) (c .before .before .before .point-side .ensures) _ (z .1 .given .1) (z .3 .result) (z .3 .ensures))
+      (λ z. ap (wayAnswer (f (c .before .before .before .before .before .before .before .before .before .before .before .before .before)) (tb (c .before .before .before .before .before .before .before .before .before .before .before .before .before)) (atStart (s (c .before .before .before .before .before .before .before .before .before .before .before .before .before)))) (z .4) ∙ near-node _ _ _ _ _ _ _ (k (c .before .before .before .before .before .before .before .before .before .before .before .before .before)) (h (c .before)) _ (mid-is (c .before)) _ (small-n (c .before .before .before .before .before .before .before .before .before .before .before .before)) _ _ (c .before .before .is-front .ensures) _ (c .before .meet-on .ensures) (c .before .before .before .point-side .ensures) _ (z .1 .given .1) _ (z .3 .ensures))
       (⊎-elim
-      (λ z. ap tracedAnswer (z .4) ∙ near-leaf _ _ _ _ _ _ _ (k (c .before .before .before .before .before .before .before .before .before .before .before .before .before)) (h (c .before)) _ (mid-is (c .before)) _ (small-n (c .before .before .before .before .before .before .before .before .before .before .before .before)) _ _ (c .before .before .is-front .ensures) _ (c .before .meet-on .ensures) (c .before .before .before .point-side .ensures) _ (z .1 .given .1) (z .3 .result) (z .3 .ensures))
-      (λ z. ap tracedAnswer (z .3) ∙ near-none _ _ _ _ _ _ _ (k (c .before .before .before .before .before .before .before .before .before .before .before .before .before)) (h (c .before)) _ (mid-is (c .before)) _ (small-n (c .before .before .before .before .before .before .before .before .before .before .before .before)) _ _ (c .before .before .is-front .ensures) _ (c .before .meet-on .ensures) (c .before .before .before .point-side .ensures) _ (z .1 .given .1)))
+      (λ z. ap (wayAnswer (f (c .before .before .before .before .before .before .before .before .before .before .before .before .before)) (tb (c .before .before .before .before .before .before .before .before .before .before .before .before .before)) (atStart (s (c .before .before .before .before .before .before .before .before .before .before .before .before .before)))) (z .4) ∙ near-leaf _ _ _ _ _ _ _ (k (c .before .before .before .before .before .before .before .before .before .before .before .before .before)) (h (c .before)) _ (mid-is (c .before)) _ (small-n (c .before .before .before .before .before .before .before .before .before .before .before .before)) _ _ (c .before .before .is-front .ensures) _ (c .before .meet-on .ensures) (c .before .before .before .point-side .ensures) _ (z .1 .given .1) _ (z .3 .ensures (f (c .before .before .before .before .before .before .before .before .before .before .before .before .before)) (tb (c .before .before .before .before .before .before .before .before .before .before .before .before .before)) (plane-here (c .before))))
+      (λ z. ap (wayAnswer (f (c .before .before .before .before .before .before .before .before .before .before .before .before .before)) (tb (c .before .before .before .before .before .before .before .before .before .before .before .before .before)) (atStart (s (c .before .before .before .before .before .before .before .before .before .before .before .before .before)))) (z .3) ∙ near-none _ _ _ _ _ _ _ (k (c .before .before .before .before .before .before .before .before .before .before .before .before .before)) (h (c .before)) _ (mid-is (c .before)) _ (small-n (c .before .before .before .before .before .before .before .before .before .before .before .before)) _ _ (c .before .before .is-front .ensures) _ (c .before .meet-on .ensures) (c .before .before .before .point-side .ensures) _ (z .1 .given .1)))
       (c .match3 .came)
 
-  -- the far part's answer, with the near part's visits
-  far-is : (c : lts.At-match5-came (claims t) (at t) self.Post) → tracedAnswer (c .match5 .far) ≡ after (c .before .before .before .before .before .before .before .near .given .0 .1 .0) (farPart (f (c .before .before .before .before .before .before .before .before .before .before .before .before .before .before .before .before .before .before .before .before .before .before)) (tb (c .before .before .before .before .before .before .before .before .before .before .before .before .before .before .before .before .before .before .before .before .before .before)) (w (c .before .before .before .before .before .before .before .before .before .before .before .before .before .before .before .before .before .before .before .before .before .before)) (s (c .before .before .before .before .before .before .before .before .before .before .before .before .before .before .before .before .before .before .before .before .before .before)) (e (c .before .before .before .before .before .before .before .before .before .before .before .before .before .before .before .before .before .before .before .before .before .before)) (a (c .before .before .before .before .before .before .before .before .before .before .before .before .before .before .before .before .before .before .before .before .before .before)) (b (c .before .before .before .before .before .before .before .before .before .before .before .before .before .before .before .before .before .before .before .before .before .before)) (k (c .before .before .before .before .before .before .before .before .before .before .before .before .before .before .before .before .before .before .before .before .before .before)) (h (c .before .before .before .before .before .before .before .before .before .before)))
+  -- the far part's answer, with the near part's visits; its start is dropped where it is joined
+  far-is : (c : lts.At-match5-came (claims t) (at t) self.Post) → (r : Float) × (wayAnswer (f (c .before .before .before .before .before .before .before .before .before .before .before .before .before .before .before .before .before .before .before .before .before .before)) (tb (c .before .before .before .before .before .before .before .before .before .before .before .before .before .before .before .before .before .before .before .before .before .before)) (Tr.start (c .before .before .before .before .before .before .before .before .before .before .before .before .before .add .result) r) (c .match5 .far) ≡ after (c .before .before .before .before .before .before .before .near .given .0 .0 .visits) (farPart (f (c .before .before .before .before .before .before .before .before .before .before .before .before .before .before .before .before .before .before .before .before .before .before)) (tb (c .before .before .before .before .before .before .before .before .before .before .before .before .before .before .before .before .before .before .before .before .before .before)) (w (c .before .before .before .before .before .before .before .before .before .before .before .before .before .before .before .before .before .before .before .before .before .before)) (s (c .before .before .before .before .before .before .before .before .before .before .before .before .before .before .before .before .before .before .before .before .before .before)) (e (c .before .before .before .before .before .before .before .before .before .before .before .before .before .before .before .before .before .before .before .before .before .before)) (a (c .before .before .before .before .before .before .before .before .before .before .before .before .before .before .before .before .before .before .before .before .before .before)) (b (c .before .before .before .before .before .before .before .before .before .before .before .before .before .before .before .before .before .before .before .before .before .before)) (k (c .before .before .before .before .before .before .before .before .before .before .before .before .before .before .before .before .before .before .before .before .before .before)) (h (c .before .before .before .before .before .before .before .before .before .before))))
   far-is c =
       ⊎-elim
-      (λ z. ap tracedAnswer (z .4) ∙ far-node _ _ _ _ _ _ _ (k (c .before .before .before .before .before .before .before .before .before .before .before .before .before .before .before .before .before .before .before .before .before .before)) (h (c .before .before .before .before .before .before .before .before .before .before)) _ (mid-is (c .before .before .before .before .before .before .before .before .before .before)) _ (small-near (c .before .before .before .before .before .before)) _ _ (c .before .before .is-front2 .ensures) _ (c .before .meet-on2 .ensures) (c .before .before .before .point-side2 .ensures) _ (z .1 .given .1) (z .3 .result) (z .3 .ensures))
+      (λ z. (zero32, ap (wayAnswer (f (c .before .before .before .before .before .before .before .before .before .before .before .before .before .before .before .before .before .before .before .before .before .before)) (tb (c .before .before .before .before .before .before .before .before .before .before .before .before .before .before .before .before .before .before .before .before .before .before)) (Tr.start (c .before .before .before .before .before .before .before .before .before .before .before .before .before .add .result) zero32)) (z .4) ∙ far-node _ _ _ _ _ _ _ (k (c .before .before .before .before .before .before .before .before .before .before .before .before .before .before .before .before .before .before .before .before .before .before)) (h (c .before .before .before .before .before .before .before .before .before .before)) _ (mid-is (c .before .before .before .before .before .before .before .before .before .before)) _ (visits-small (n (c .before .before .before .before .before .before .before .before .before .before .before .before .before .before .before .before .before .before .before .before .before .before)) (nearPart (f (c .before .before .before .before .before .before .before .before .before .before .before .before .before .before .before .before .before .before .before .before .before .before)) (tb (c .before .before .before .before .before .before .before .before .before .before .before .before .before .before .before .before .before .before .before .before .before .before)) (w (c .before .before .before .before .before .before .before .before .before .before .before .before .before .before .before .before .before .before .before .before .before .before)) (s (c .before .before .before .before .before .before .before .before .before .before .before .before .before .before .before .before .before .before .before .before .before .before)) (e (c .before .before .before .before .before .before .before .before .before .before .before .before .before .before .before .before .before .before .before .before .before .before)) (a (c .before .before .before .before .before .before .before .before .before .before .before .before .before .before .before .before .before .before .before .before .before .before)) (b (c .before .before .before .before .before .before .before .before .before .before .before .before .before .before .before .before .before .before .before .before .before .before)) (k (c .before .before .before .before .before .before .before .before .before .before .before .before .before .before .before .before .before .before .before .before .before .before)) (h (c .before .before .before .before .before .before .before .before .before .before))) (wentTrace (f (c .before .before .before .before .before .before .before .before .before .before .before .before .before .before .before .before .before .before .before .before .before .before)) (tb (c .before .before .before .before .before .before .before .before .before .before .before .before .before .before .before .before .before .before .before .before .before .before)) (atStart (s (c .before .before .before .before .before .before .before .before .before .before .before .before .before .before .before .before .before .before .before .before .before .before))) (c .before .before .before .before .before .before .before .near .given .0 .0)) (c .before .before .before .before .before .before .before .near .given .0 .0 .visits) (sym (near-is (c .before .before .before .before .before .before .before .before .before)) ∙ ap (wayAnswer (f (c .before .before .before .before .before .before .before .before .before .before .before .before .before .before .before .before .before .before .before .before .before .before)) (tb (c .before .before .before .before .before .before .before .before .before .before .before .before .before .before .before .before .before .before .before .before .before .before)) (atStart (s (c .before .before .before .before .before .before .before .before .before .before .before .before .before .before .before .before .before .before .before .before .before .before)))) (c .before .before .before .before .before .before .before .near .given .1))) _ _ (c .before .before .is-front2 .ensures) _ (c .before .meet-on2 .ensures) (c .before .before .before .point-side2 .ensures) _ (z .1 .given .1) _ (z .3 .ensures)))
       (⊎-elim
-      (λ z. ap tracedAnswer (z .4) ∙ far-leaf _ _ _ _ _ _ _ (k (c .before .before .before .before .before .before .before .before .before .before .before .before .before .before .before .before .before .before .before .before .before .before)) (h (c .before .before .before .before .before .before .before .before .before .before)) _ (mid-is (c .before .before .before .before .before .before .before .before .before .before)) _ (small-near (c .before .before .before .before .before .before)) _ _ (c .before .before .is-front2 .ensures) _ (c .before .meet-on2 .ensures) (c .before .before .before .point-side2 .ensures) _ (z .1 .given .1) (z .3 .result) (z .3 .ensures))
-      (λ z. ap tracedAnswer (z .3) ∙ far-none _ _ _ _ _ _ _ (k (c .before .before .before .before .before .before .before .before .before .before .before .before .before .before .before .before .before .before .before .before .before .before)) (h (c .before .before .before .before .before .before .before .before .before .before)) _ (mid-is (c .before .before .before .before .before .before .before .before .before .before)) _ (small-near (c .before .before .before .before .before .before)) _ _ (c .before .before .is-front2 .ensures) _ (c .before .meet-on2 .ensures) (c .before .before .before .point-side2 .ensures) _ (z .1 .given .1)))
+      (λ z. ((Pl.ratioOf (a (c .before .before .before .before .before .before .before .before .before .before .before .before .before .before .before .before .before .before .before .before .before .before)) (b (c .before .before .before .before .before .before .before .before .before .before .before .before .before .before .before .before .before .before .before .before .before .before))), ap (wayAnswer (f (c .before .before .before .before .before .before .before .before .before .before .before .before .before .before .before .before .before .before .before .before .before .before)) (tb (c .before .before .before .before .before .before .before .before .before .before .before .before .before .before .before .before .before .before .before .before .before .before)) (Tr.start (c .before .before .before .before .before .before .before .before .before .before .before .before .before .add .result) (Pl.ratioOf (a (c .before .before .before .before .before .before .before .before .before .before .before .before .before .before .before .before .before .before .before .before .before .before)) (b (c .before .before .before .before .before .before .before .before .before .before .before .before .before .before .before .before .before .before .before .before .before .before))))) (z .4 ∙ z .3 .ensures) ∙ far-leaf _ _ _ _ _ _ _ (k (c .before .before .before .before .before .before .before .before .before .before .before .before .before .before .before .before .before .before .before .before .before .before)) (h (c .before .before .before .before .before .before .before .before .before .before)) _ (mid-is (c .before .before .before .before .before .before .before .before .before .before)) _ (visits-small (n (c .before .before .before .before .before .before .before .before .before .before .before .before .before .before .before .before .before .before .before .before .before .before)) (nearPart (f (c .before .before .before .before .before .before .before .before .before .before .before .before .before .before .before .before .before .before .before .before .before .before)) (tb (c .before .before .before .before .before .before .before .before .before .before .before .before .before .before .before .before .before .before .before .before .before .before)) (w (c .before .before .before .before .before .before .before .before .before .before .before .before .before .before .before .before .before .before .before .before .before .before)) (s (c .before .before .before .before .before .before .before .before .before .before .before .before .before .before .before .before .before .before .before .before .before .before)) (e (c .before .before .before .before .before .before .before .before .before .before .before .before .before .before .before .before .before .before .before .before .before .before)) (a (c .before .before .before .before .before .before .before .before .before .before .before .before .before .before .before .before .before .before .before .before .before .before)) (b (c .before .before .before .before .before .before .before .before .before .before .before .before .before .before .before .before .before .before .before .before .before .before)) (k (c .before .before .before .before .before .before .before .before .before .before .before .before .before .before .before .before .before .before .before .before .before .before)) (h (c .before .before .before .before .before .before .before .before .before .before))) (wentTrace (f (c .before .before .before .before .before .before .before .before .before .before .before .before .before .before .before .before .before .before .before .before .before .before)) (tb (c .before .before .before .before .before .before .before .before .before .before .before .before .before .before .before .before .before .before .before .before .before .before)) (atStart (s (c .before .before .before .before .before .before .before .before .before .before .before .before .before .before .before .before .before .before .before .before .before .before))) (c .before .before .before .before .before .before .before .near .given .0 .0)) (c .before .before .before .before .before .before .before .near .given .0 .0 .visits) (sym (near-is (c .before .before .before .before .before .before .before .before .before)) ∙ ap (wayAnswer (f (c .before .before .before .before .before .before .before .before .before .before .before .before .before .before .before .before .before .before .before .before .before .before)) (tb (c .before .before .before .before .before .before .before .before .before .before .before .before .before .before .before .before .before .before .before .before .before .before)) (atStart (s (c .before .before .before .before .before .before .before .before .before .before .before .before .before .before .before .before .before .before .before .before .before .before)))) (c .before .before .before .before .before .before .before .near .given .1))) _ _ (c .before .before .is-front2 .ensures) _ (c .before .meet-on2 .ensures) (c .before .before .before .point-side2 .ensures) _ (z .1 .given .1) _ refl))
+      (λ z. (zero32, ap (wayAnswer (f (c .before .before .before .before .before .before .before .before .before .before .before .before .before .before .before .before .before .before .before .before .before .before)) (tb (c .before .before .before .before .before .before .before .before .before .before .before .before .before .before .before .before .before .before .before .before .before .before)) (Tr.start (c .before .before .before .before .before .before .before .before .before .before .before .before .before .add .result) zero32)) (z .3) ∙ far-none _ _ _ _ _ _ _ (k (c .before .before .before .before .before .before .before .before .before .before .before .before .before .before .before .before .before .before .before .before .before .before)) (h (c .before .before .before .before .before .before .before .before .before .before)) _ (mid-is (c .before .before .before .before .before .before .before .before .before .before)) _ (visits-small (n (c .before .before .before .before .before .before .before .before .before .before .before .before .before .before .before .before .before .before .before .before .before .before)) (nearPart (f (c .before .before .before .before .before .before .before .before .before .before .before .before .before .before .before .before .before .before .before .before .before .before)) (tb (c .before .before .before .before .before .before .before .before .before .before .before .before .before .before .before .before .before .before .before .before .before .before)) (w (c .before .before .before .before .before .before .before .before .before .before .before .before .before .before .before .before .before .before .before .before .before .before)) (s (c .before .before .before .before .before .before .before .before .before .before .before .before .before .before .before .before .before .before .before .before .before .before)) (e (c .before .before .before .before .before .before .before .before .before .before .before .before .before .before .before .before .before .before .before .before .before .before)) (a (c .before .before .before .before .before .before .before .before .before .before .before .before .before .before .before .before .before .before .before .before .before .before)) (b (c .before .before .before .before .before .before .before .before .before .before .before .before .before .before .before .before .before .before .before .before .before .before)) (k (c .before .before .before .before .before .before .before .before .before .before .before .before .before .before .before .before .before .before .before .before .before .before)) (h (c .before .before .before .before .before .before .before .before .before .before))) (wentTrace (f (c .before .before .before .before .before .before .before .before .before .before .before .before .before .before .before .before .before .before .before .before .before .before)) (tb (c .before .before .before .before .before .before .before .before .before .before .before .before .before .before .before .before .before .before .before .before .before .before)) (atStart (s (c .before .before .before .before .before .before .before .before .before .before .before .before .before .before .before .before .before .before .before .before .before .before))) (c .before .before .before .before .before .before .before .near .given .0 .0)) (c .before .before .before .before .before .before .before .near .given .0 .0 .visits) (sym (near-is (c .before .before .before .before .before .before .before .before .before)) ∙ ap (wayAnswer (f (c .before .before .before .before .before .before .before .before .before .before .before .before .before .before .before .before .before .before .before .before .before .before)) (tb (c .before .before .before .before .before .before .before .before .before .before .before .before .before .before .before .before .before .before .before .before .before .before)) (atStart (s (c .before .before .before .before .before .before .before .before .before .before .before .before .before .before .before .before .before .before .before .before .before .before)))) (c .before .before .before .before .before .before .before .near .given .1))) _ _ (c .before .before .is-front2 .ensures) _ (c .before .meet-on2 .ensures) (c .before .before .before .point-side2 .ensures) _ (z .1 .given .1))))
       (c .match5 .came)
 
   descend-requires : lts.Need-descend-requires (claims t) (at t) self.Post
@@ -135,8 +142,8 @@ module _ (t : ℕ) where
   enum-known-c : lts.Need-enum-known-c (claims t) (at t) self.Post
   enum-known-c c = search needs
 
-  within-leaf-requires : lts.Need-within-leaf-requires (claims t) (at t) self.Post
-  within-leaf-requires c κs = search needs
+  ended-requires : lts.Need-ended-requires (claims t) (at t) self.Post
+  ended-requires c κs = search needs
 
   enum-known-w : lts.Need-enum-known-w (claims t) (at t) self.Post
   enum-known-w c = search needs
@@ -180,8 +187,8 @@ module _ (t : ℕ) where
   enum-known-c-2 : lts.Need-enum-known-c-2 (claims t) (at t) self.Post
   enum-known-c-2 c = search needs
 
-  out-of-leaf-requires : lts.Need-out-of-leaf-requires (claims t) (at t) self.Post
-  out-of-leaf-requires c κs = search needs
+  met-at-requires : lts.Need-met-at-requires (claims t) (at t) self.Post
+  met-at-requires c κs = search needs
 
   enum-known-e-3 : lts.Need-enum-known-e-3 (claims t) (at t) self.Post
   enum-known-e-3 c = search needs
@@ -193,13 +200,16 @@ module _ (t : ℕ) where
   enum-told c = search needs
 
   returns : lts.Need-returns (claims t) (at t) self.Post
-  returns c = ap tracedAnswer (c .enum-told .given .1) ∙ near-declined _ _ _ _ _ _ _ _ _ _ _ _ (c .before .before .before .before .before .before .before .before .before .before .before .before .before .before .before .before .before .descend .ensures .says) (c .before .before .before .before .before .before .before .before .before .before .before .before .before .before .before .w .given .1) _ (c .before .before .before .before .before .before .before .before .before .before .before .before .plane-at .ensures) (c .before .before .before .before .before .before .before .before .before .before .plane .given .1) _ (near-is (c .before .before)) _ (c .enum-told .given .1)
+  returns c = ap (wayAnswer _ _ _) (c .enum-told .given .1) ∙ near-declined _ _ _ _ _ _ _ _ _ _ _ _ (c .before .before .before .before .before .before .before .before .before .before .before .before .before .before .before .before .before .descend .ensures .says) (c .before .before .before .before .before .before .before .before .before .before .before .before .before .before .before .w .given .1) _ (c .before .before .before .before .before .before .before .before .before .before .before .before .plane-at .ensures) (c .before .before .before .before .before .before .before .before .before .before .plane .given .1) _ (near-is (c .before .before)) (c .enum-told .given .0 .0) (ap (wayAnswer (f (c .before .before .before .before .before .before .before .before .before .before .before .before .before .before .before)) (tb (c .before .before .before .before .before .before .before .before .before .before .before .before .before .before .before)) (atStart (s (c .before .before .before .before .before .before .before .before .before .before .before .before .before .before .before)))) (c .enum-told .given .1))
 
-  stops-requires : lts.Need-stops-requires (claims t) (at t) self.Post
-  stops-requires c κs = search needs
+  ends-with-requires : lts.Need-ends-with-requires (claims t) (at t) self.Post
+  ends-with-requires c κs = search needs
+
+  again-requires : lts.Need-again-requires (claims t) (at t) self.Post
+  again-requires c κs = search needs
 
   returns-2 : lts.Need-returns-2 (claims t) (at t) self.Post
-  returns-2 c = near-stops _ _ _ _ _ _ _ _ _ _ _ _ (c .before .before .before .before .before .before .before .before .before .before .before .before .before .before .before .before .before .before .before .before .descend .ensures .says) (c .before .before .before .before .before .before .before .before .before .before .before .before .before .before .before .before .before .before .w .given .1) _ (c .before .before .before .before .before .before .before .before .before .before .before .before .before .before .before .plane-at .ensures) (c .before .before .before .before .before .before .before .before .before .before .before .before .before .plane .given .1) _ (near-is (c .before .before .before .before .before)) _ _ (c .before .before .before .near .given .1) _ (mid-is (c .before .before .before .before .before .before)) _ (c .before .stops .ensures) (c .if1 .taken)
+  returns-2 c = ap (wayAnswer _ _ _) (c .again .ensures) ∙ near-stops _ _ _ _ _ _ _ _ _ _ _ _ (c .before .before .before .before .before .before .before .before .before .before .before .before .before .before .before .before .before .before .before .before .before .descend .ensures .says) (c .before .before .before .before .before .before .before .before .before .before .before .before .before .before .before .before .before .before .before .w .given .1) _ (c .before .before .before .before .before .before .before .before .before .before .before .before .before .before .before .before .plane-at .ensures) (c .before .before .before .before .before .before .before .before .before .before .before .before .before .before .plane .given .1) _ (near-is (c .before .before .before .before .before .before)) (wentTrace (f (c .before .before .before .before .before .before .before .before .before .before .before .before .before .before .before .before .before .before .before)) (tb (c .before .before .before .before .before .before .before .before .before .before .before .before .before .before .before .before .before .before .before)) (atStart (s (c .before .before .before .before .before .before .before .before .before .before .before .before .before .before .before .before .before .before .before))) (c .before .before .before .before .near .given .0 .0)) (c .before .before .before .before .near .given .0 .0 .visits) (ap (wayAnswer (f (c .before .before .before .before .before .before .before .before .before .before .before .before .before .before .before .before .before .before .before)) (tb (c .before .before .before .before .before .before .before .before .before .before .before .before .before .before .before .before .before .before .before)) (atStart (s (c .before .before .before .before .before .before .before .before .before .before .before .before .before .before .before .before .before .before .before)))) (c .before .before .before .before .near .given .1)) _ (mid-is (c .before .before .before .before .before .before .before)) _ (c .before .before .ends-with .ensures ∙ ends-stops (f (c .before .before .before .before .before .before .before .before .before .before .before .before .before .before .before .before .before .before .before)) (tb (c .before .before .before .before .before .before .before .before .before .before .before .before .before .before .before .before .before .before .before)) (atStart (s (c .before .before .before .before .before .before .before .before .before .before .before .before .before .before .before .before .before .before .before))) (c .before .before .before .before .near .given .0 .0) (c .before .before .before .before .before .before .before .before .before .before .add .result)) (c .before .if1 .taken)
 
   point-side-requires-2 : lts.Need-point-side-requires-2 (claims t) (at t) self.Post
   point-side-requires-2 c κs = search needs
@@ -219,26 +229,26 @@ module _ (t : ℕ) where
   enum-known-c-3 : lts.Need-enum-known-c-3 (claims t) (at t) self.Post
   enum-known-c-3 c = search needs
 
-  within-leaf-requires-2 : lts.Need-within-leaf-requires-2 (claims t) (at t) self.Post
-  within-leaf-requires-2 c κs = search needs
+  ended-requires-2 : lts.Need-ended-requires-2 (claims t) (at t) self.Post
+  ended-requires-2 c κs = search needs
 
   enum-known-e-4 : lts.Need-enum-known-e-4 (claims t) (at t) self.Post
   enum-known-e-4 c = search needs
 
-  join-far-requires : lts.Need-join-far-requires (claims t) (at t) self.Post
-  join-far-requires c κs = search needs
+  join-way-requires : lts.Need-join-way-requires (claims t) (at t) self.Post
+  join-way-requires c κs = search needs
 
   returns-3 : lts.Need-returns-3 (claims t) (at t) self.Post
   returns-3 c = sym (ap (resumed _ _ _ _) (c .before .e .given .1)) ∙ c .before .before .before .descend .ensures .says
 
   returns-4 : lts.Need-returns-4 (claims t) (at t) self.Post
-  returns-4 c = ap tracedAnswer (c .within-leaf .ensures) ∙ sym (ap (resumed _ _ _ _) (c .before .before .c .given .1)) ∙ c .before .before .before .before .descend .ensures .says
+  returns-4 c = ap (wayAnswer _ _ _) (c .ended .ensures) ∙ sym (ap (resumed _ _ _ _) (c .before .before .c .given .1)) ∙ c .before .before .before .before .descend .ensures .says
 
   returns-5 : lts.Need-returns-5 (claims t) (at t) self.Post
   returns-5 c = no-plane _ _ _ _ _ _ _ _ (axisX (a (c .before .before .before .before .before .before))) _ _ _ (c .before .before .before .before .before .before .before .before .descend .ensures .says) (c .before .before .before .before .before .before .w .given .1) _ (c .before .before .before .plane-at .ensures) _ (c .before .e2 .given .1)
 
   returns-6 : lts.Need-returns-6 (claims t) (at t) self.Post
-  returns-6 c = both _ _ _ _ _ _ _ _ _ _ _ _ (c .before .before .before .before .before .before .before .before .before .before .before .before .before .before .before .before .before .before .before .before .before .before .before .before .before .descend .ensures .says) (c .before .before .before .before .before .before .before .before .before .before .before .before .before .before .before .before .before .before .before .before .before .before .before .w .given .1) _ (c .before .before .before .before .before .before .before .before .before .before .before .before .before .before .before .before .before .before .before .before .plane-at .ensures) (c .before .before .before .before .before .before .before .before .before .before .before .before .before .before .before .before .before .before .plane .given .1) _ (near-is (c .before .before .before .before .before .before .before .before .before .before)) _ _ (c .before .before .before .before .before .before .before .before .near .given .1) _ (mid-is (c .before .before .before .before .before .before .before .before .before .before .before)) _ (c .before .before .before .before .before .before .stops .ensures) (c .before .before .before .before .before .if1 .left) (c .before .match5 .far) (far-is (c .before)) (c .join-far .result) (c .join-far .ensures)
+  returns-6 c = both _ _ _ _ _ _ _ _ _ _ _ _ (c .before .before .before .before .before .before .before .before .before .before .before .before .before .before .before .before .before .before .before .before .before .before .before .before .before .descend .ensures .says) (c .before .before .before .before .before .before .before .before .before .before .before .before .before .before .before .before .before .before .before .before .before .before .before .w .given .1) _ (c .before .before .before .before .before .before .before .before .before .before .before .before .before .before .before .before .before .before .before .before .plane-at .ensures) (c .before .before .before .before .before .before .before .before .before .before .before .before .before .before .before .before .before .before .plane .given .1) _ (near-is (c .before .before .before .before .before .before .before .before .before .before)) (wentTrace (f (c .before .before .before .before .before .before .before .before .before .before .before .before .before .before .before .before .before .before .before .before .before .before .before)) (tb (c .before .before .before .before .before .before .before .before .before .before .before .before .before .before .before .before .before .before .before .before .before .before .before)) (atStart (s (c .before .before .before .before .before .before .before .before .before .before .before .before .before .before .before .before .before .before .before .before .before .before .before))) (c .before .before .before .before .before .before .before .before .near .given .0 .0)) (c .before .before .before .before .before .before .before .before .near .given .0 .0 .visits) (ap (wayAnswer (f (c .before .before .before .before .before .before .before .before .before .before .before .before .before .before .before .before .before .before .before .before .before .before .before)) (tb (c .before .before .before .before .before .before .before .before .before .before .before .before .before .before .before .before .before .before .before .before .before .before .before)) (atStart (s (c .before .before .before .before .before .before .before .before .before .before .before .before .before .before .before .before .before .before .before .before .before .before .before)))) (c .before .before .before .before .before .before .before .before .near .given .1)) _ (mid-is (c .before .before .before .before .before .before .before .before .before .before .before)) _ (c .before .before .before .before .before .before .ends-with .ensures ∙ ends-stops (f (c .before .before .before .before .before .before .before .before .before .before .before .before .before .before .before .before .before .before .before .before .before .before .before)) (tb (c .before .before .before .before .before .before .before .before .before .before .before .before .before .before .before .before .before .before .before .before .before .before .before)) (atStart (s (c .before .before .before .before .before .before .before .before .before .before .before .before .before .before .before .before .before .before .before .before .before .before .before))) (c .before .before .before .before .before .before .before .before .near .given .0 .0) (c .before .before .before .before .before .before .before .before .before .before .before .before .before .before .add .result)) (c .before .before .before .before .before .if1 .left) _ (far-is (c .before) .1) _ (ap (wayAnswer (f (c .before .before .before .before .before .before .before .before .before .before .before .before .before .before .before .before .before .before .before .before .before .before .before)) (tb (c .before .before .before .before .before .before .before .before .before .before .before .before .before .before .before .before .before .before .before .before .before .before .before)) (atStart (s (c .before .before .before .before .before .before .before .before .before .before .before .before .before .before .before .before .before .before .before .before .before .before .before)))) (c .join-way .ensures) ∙ joins-way (f (c .before .before .before .before .before .before .before .before .before .before .before .before .before .before .before .before .before .before .before .before .before .before .before)) (tb (c .before .before .before .before .before .before .before .before .before .before .before .before .before .before .before .before .before .before .before .before .before .before .before)) (atStart (s (c .before .before .before .before .before .before .before .before .before .before .before .before .before .before .before .before .before .before .before .before .before .before .before))) (c .before .before .before .before .before .before .before .before .near .given .0 .0) (c .before .before .before .before .before .before .before .before .before .before .before .before .before .before .add .result) (sym (c .before .before .before .before .before .before .ends-with .ensures) ∙ c .before .before .before .before .before .if1 .left) (far-is (c .before) .0) (c .before .match5 .far))
 
 pub +recursive-trace-spec : {M : Type 1} → statement M
 +recursive-trace-spec =
@@ -247,7 +257,7 @@ pub +recursive-trace-spec : {M : Type 1} → statement M
     (descend-requires t)
     (enum-known-e t)
     (enum-known-c t)
-    (within-leaf-requires t)
+    (ended-requires t)
     (enum-known-w t)
     (cast-plane-at t)
     (plane-at-requires t)
@@ -262,12 +272,13 @@ pub +recursive-trace-spec : {M : Type 1} → statement M
     (enum-known-i t)
     (recursive-trace-requires t)
     (enum-known-c-2 t)
-    (out-of-leaf-requires t)
+    (met-at-requires t)
     (enum-known-e-3 t)
     (enum-known-near t)
     (enum-told t)
     (returns t)
-    (stops-requires t)
+    (ends-with-requires t)
+    (again-requires t)
     (returns-2 t)
     (point-side-requires-2 t)
     (is-front-requires-2 t)
@@ -275,9 +286,9 @@ pub +recursive-trace-spec : {M : Type 1} → statement M
     (enum-known-i-2 t)
     (recursive-trace-requires-2 t)
     (enum-known-c-3 t)
-    (within-leaf-requires-2 t)
+    (ended-requires-2 t)
     (enum-known-e-4 t)
-    (join-far-requires t)
+    (join-way-requires t)
     (returns-3 t)
     (returns-4 t)
     (returns-5 t)
