@@ -7,6 +7,7 @@
 
 use crate::Refusal;
 use bsp29_sys::*;
+use std::mem::MaybeUninit;
 
 /// The words of a map record.
 pub(crate) type MapWords = [u32; MAP_WORDS];
@@ -22,6 +23,27 @@ pub(crate) type Segment = [f32; 6];
 fn answered<T>(status: u32, value: T) -> Result<T, Refusal> {
     if status == 0 {
         Ok(value)
+    } else {
+        Err(Refusal::from_number(status))
+    }
+}
+
+/// What is made of the words of an answer, once a call says 0. A refusal leaves the words unwritten, and they
+/// are not looked at.
+///
+/// # Safety
+///
+/// `status` is that of a call which was lent `words`, and whose answer has as many words as they are: such a
+/// call is proved to write every one of them where it answers 0.
+#[inline]
+unsafe fn whole<W, T>(
+    status: u32,
+    words: &MaybeUninit<W>,
+    of: impl FnOnce(&W) -> T,
+) -> Result<T, Refusal> {
+    if status == 0 {
+        // SAFETY: all words were written, as the caller says; any word is a number.
+        Ok(of(unsafe { words.assume_init_ref() }))
     } else {
         Err(Refusal::from_number(status))
     }
@@ -329,14 +351,15 @@ pub(crate) fn find_leaf(
 
 /// `bsp_trace`: the words of a trace.
 #[inline]
-pub(crate) fn trace(
+pub(crate) fn trace<T>(
     file: &[u8],
     map: &MapWords,
     hull: &HullWords,
     segment: &Segment,
-) -> Result<[u64; TRACE_WORDS], Refusal> {
-    let mut out = [0; TRACE_WORDS];
-    // SAFETY: as in `load`.
+    of: impl FnOnce(&[u64; TRACE_WORDS]) -> T,
+) -> Result<T, Refusal> {
+    let mut out = MaybeUninit::<[u64; TRACE_WORDS]>::uninit();
+    // SAFETY: as in `load`; the call reads nothing of the list that it is lent for its answer.
     let status = unsafe {
         bsp_trace(
             file.as_ptr(),
@@ -347,23 +370,25 @@ pub(crate) fn trace(
             hull.len(),
             segment.as_ptr(),
             segment.len(),
-            out.as_mut_ptr(),
-            out.len(),
+            out.as_mut_ptr().cast(),
+            TRACE_WORDS,
         )
     };
-    answered(status, out)
+    // SAFETY: as `whole` asks: the list has as many words as the answer.
+    unsafe { whole(status, &out, of) }
 }
 
 /// `bsp_trace_line`: the words of a whole-line trace.
 #[inline]
-pub(crate) fn trace_line(
+pub(crate) fn trace_line<T>(
     file: &[u8],
     map: &MapWords,
     hull: &HullWords,
     segment: &Segment,
-) -> Result<[u64; LINE_WORDS], Refusal> {
-    let mut out = [0; LINE_WORDS];
-    // SAFETY: as in `load`.
+    of: impl FnOnce(&[u64; LINE_WORDS]) -> T,
+) -> Result<T, Refusal> {
+    let mut out = MaybeUninit::<[u64; LINE_WORDS]>::uninit();
+    // SAFETY: as in `load`; the call reads nothing of the list that it is lent for its answer.
     let status = unsafe {
         bsp_trace_line(
             file.as_ptr(),
@@ -374,11 +399,12 @@ pub(crate) fn trace_line(
             hull.len(),
             segment.as_ptr(),
             segment.len(),
-            out.as_mut_ptr(),
-            out.len(),
+            out.as_mut_ptr().cast(),
+            LINE_WORDS,
         )
     };
-    answered(status, out)
+    // SAFETY: as `whole` asks: the list has as many words as the answer.
+    unsafe { whole(status, &out, of) }
 }
 
 /// `bsp_contents_nodes`: the nodes in `list`, and their number.
@@ -716,15 +742,16 @@ pub(crate) fn order_contents(
 
 /// `bsp_order_trace`: the trace's words.
 #[inline]
-pub(crate) fn order_trace(
+pub(crate) fn order_trace<T>(
     file: &[u8],
     map: &MapWords,
     list: &[i32],
     root: u64,
     segment: &Segment,
-) -> Result<[u64; TRACE_WORDS], Refusal> {
-    let mut out = [0; TRACE_WORDS];
-    // SAFETY: as in `load`.
+    of: impl FnOnce(&[u64; TRACE_WORDS]) -> T,
+) -> Result<T, Refusal> {
+    let mut out = MaybeUninit::<[u64; TRACE_WORDS]>::uninit();
+    // SAFETY: as in `load`; the call reads nothing of the list that it is lent for its answer.
     let status = unsafe {
         bsp_order_trace(
             file.as_ptr(),
@@ -736,11 +763,12 @@ pub(crate) fn order_trace(
             root,
             segment.as_ptr(),
             segment.len(),
-            out.as_mut_ptr(),
-            out.len(),
+            out.as_mut_ptr().cast(),
+            TRACE_WORDS,
         )
     };
-    answered(status, out)
+    // SAFETY: as `whole` asks: the list has as many words as the answer.
+    unsafe { whole(status, &out, of) }
 }
 
 /// `bsp_made_up`: the file of a made-up map at the front of `buffer`, and its length.

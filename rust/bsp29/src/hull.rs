@@ -94,6 +94,7 @@ impl Hull {
     }
 
     /// Its words.
+    #[inline]
     pub fn words(&self) -> &[u64; 11] {
         &self.words
     }
@@ -219,15 +220,16 @@ impl BoxHull {
 
     /// What is at a point, and how many of the six nodes were entered: as
     /// [`Map::contents`](crate::MapOf::contents).
+    #[inline]
     pub fn contents(&self, point: [f32; 3]) -> Result<(Contents, u64), Refusal> {
         ffi::contents(&[], &NO_MAP, self.hull.words(), &point)
             .map(|[code, visits]| (Contents::of(code), visits))
     }
 
     /// What a moving point meets: as [`Map::trace`](crate::MapOf::trace).
+    #[inline]
     pub fn trace(&self, start: [f32; 3], end: [f32; 3]) -> Result<Trace, Refusal> {
-        ffi::trace(&[], &NO_MAP, self.hull.words(), &both(start, end))
-            .map(|words| Trace::of(&words))
+        ffi::trace(&[], &NO_MAP, self.hull.words(), &both(start, end), Trace::of)
     }
 
     /// What a whole shot meets: as [`Map::trace_line`](crate::MapOf::trace_line).
@@ -238,9 +240,9 @@ impl BoxHull {
     /// assert_eq!((line.end, line.normal), ([-1.03125, 0.0, 0.0], [-1.0, 0.0, 0.0]));
     /// # Ok::<(), bsp29::Refusal>(())
     /// ```
+    #[inline]
     pub fn trace_line(&self, start: [f32; 3], end: [f32; 3]) -> Result<LineTrace, Refusal> {
-        ffi::trace_line(&[], &NO_MAP, self.hull.words(), &both(start, end))
-            .map(|words| LineTrace::of(&words))
+        ffi::trace_line(&[], &NO_MAP, self.hull.words(), &both(start, end), LineTrace::of)
     }
 }
 

@@ -564,6 +564,7 @@ impl<B: AsRef<[u8]>> MapOf<B> {
     /// assert_eq!(map.contents(&hull, [120.0, 0.0, -60.0])?.0, Contents::Solid);
     /// # Ok::<(), bsp29::Refusal>(())
     /// ```
+    #[inline]
     pub fn contents(&self, hull: &Hull, point: [f32; 3]) -> Result<(Contents, u64), Refusal> {
         ffi::contents(self.file(), &self.words, hull.words(), &point)
             .map(|[code, visits]| (Contents::of(code), visits))
@@ -612,6 +613,7 @@ impl<B: AsRef<[u8]>> MapOf<B> {
     /// assert_eq!(map.find_leaf([300.0, 0.0, 0.0])?, (0, 1));
     /// # Ok::<(), bsp29::Refusal>(())
     /// ```
+    #[inline]
     pub fn find_leaf(&self, point: [f32; 3]) -> Result<(usize, u64), Refusal> {
         self.find_leaf_from(0, point)
     }
@@ -626,6 +628,7 @@ impl<B: AsRef<[u8]>> MapOf<B> {
     /// assert_eq!(map.find_leaf_from(door.hull_roots[0], [9.0, 0.0, 0.0])?.0, 5);
     /// # Ok::<(), bsp29::Refusal>(())
     /// ```
+    #[inline]
     pub fn find_leaf_from(&self, root: usize, point: [f32; 3]) -> Result<(usize, u64), Refusal> {
         ffi::find_leaf(self.file(), &self.words, root as u64, &point)
             .map(|[leaf, visits]| (leaf as usize, visits))
@@ -673,9 +676,9 @@ impl<B: AsRef<[u8]>> MapOf<B> {
     /// assert_eq!((again.end, again.kind), (trace.end, TraceEnd::Terminal));
     /// # Ok::<(), bsp29::Refusal>(())
     /// ```
+    #[inline]
     pub fn trace(&self, hull: &Hull, start: [f32; 3], end: [f32; 3]) -> Result<Trace, Refusal> {
-        ffi::trace(self.file(), &self.words, hull.words(), &both(start, end))
-            .map(|words| Trace::of(&words))
+        ffi::trace(self.file(), &self.words, hull.words(), &both(start, end), Trace::of)
     }
 
     /// What a whole shot meets: the line from `start` to `end` through a hull, by the published rule of id
@@ -702,14 +705,14 @@ impl<B: AsRef<[u8]>> MapOf<B> {
     /// assert!(line.in_open && !line.all_solid && !line.start_solid);
     /// # Ok::<(), bsp29::Refusal>(())
     /// ```
+    #[inline]
     pub fn trace_line(
         &self,
         hull: &Hull,
         start: [f32; 3],
         end: [f32; 3],
     ) -> Result<LineTrace, Refusal> {
-        ffi::trace_line(self.file(), &self.words, hull.words(), &both(start, end))
-            .map(|words| LineTrace::of(&words))
+        ffi::trace_line(self.file(), &self.words, hull.words(), &both(start, end), LineTrace::of)
     }
 
     /// The nodes that [`contents`](MapOf::contents) enters, in order.
@@ -1107,6 +1110,7 @@ impl Ordered<'_> {
 
     /// The contents at a point, from the first node on, and how many nodes were entered. As
     /// [`Map::contents`](MapOf::contents); of nodes that a caller made it refuses with 30, 31 and 23.
+    #[inline]
     pub fn contents(&self, point: [f32; 3]) -> Result<(Contents, u64), Refusal> {
         ffi::order_contents(self.file, self.words, &self.nodes, 0, &point)
             .map(|[code, visits]| (Contents::of(code), visits))
@@ -1114,8 +1118,8 @@ impl Ordered<'_> {
 
     /// What a point meets that moves from `start` to `end`, from the first node on. As [`Map::trace`](MapOf::trace); of
     /// nodes that a caller made it refuses with 30, 32 and 23.
+    #[inline]
     pub fn trace(&self, start: [f32; 3], end: [f32; 3]) -> Result<Trace, Refusal> {
-        ffi::order_trace(self.file, self.words, &self.nodes, 0, &both(start, end))
-            .map(|words| Trace::of(&words))
+        ffi::order_trace(self.file, self.words, &self.nodes, 0, &both(start, end), Trace::of)
     }
 }

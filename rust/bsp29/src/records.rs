@@ -72,6 +72,7 @@ impl Contents {
     /// assert_eq!(Contents::from_code(6), Some(Contents::Sky));
     /// assert_eq!(Contents::from_code(7), None);
     /// ```
+    #[inline]
     pub fn from_code(code: u32) -> Option<Contents> {
         Some(match code {
             1 => Contents::Empty,
