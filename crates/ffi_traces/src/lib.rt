@@ -7,14 +7,20 @@ ghost use Rattle.words.specs.Words.{written, given};
 ghost use Rattle.walk.specs.Walk.{withVisits};
 ghost use Rattle.walk.specs.Trace as Tracing;
 ghost use Rattle.hull.specs.Hull.{hullTable};
+ghost use Rattle.hull.specs.Traces as Traces;
 ghost use Rattle.ffi_traces.specs.Layout as Layout;
 ghost use Rattle.ffi_traces.specs.Calls as Calls;
 use ffi_hull::layout;
 use format::section::BspData;
 use hull::collision::BspCollisionHull;
 use hull::collision::HullAnswer;
-use hull::tracing::Traced;
+use hull::tracing::Way;
+use hull::tracing::Went;
+use hull::tracing::plane_met;
+use hull::tracing::trace_way;
 use math::Vector3;
+use nodes::table::Tables;
+use nodes::table::tables_of;
 use phys::Trace;
 use phys::TraceEndBoundary;
 use phys::TraceEndKind;
@@ -72,6 +78,45 @@ pub fn trace_words(trace: Trace, visits: u64) -> [u64; 17]
     ]
 }
 
+// The same of a trace by numbers alone: its plane is read by its number.
+fn met_words(file: &[u8], t: Tables, part: Went) -> [u64; 7]
+    ensures { λ r. ⌜ r ≡ Layout.kindWords (Traces.endOf (now (file .entry)) t part .kind) ⌝ }
+{
+    if part.met {
+        let p = words::plane_words(plane_met(file, t, part.plane, part.front));
+        return [1, float_word(part.ratio), p[0], p[1], p[2], p[3], p[4]];
+    }
+    [0, 0, 0, 0, 0, 0, 0]
+}
+
+fn went_words(file: &[u8], t: Tables, from: Vector3, part: Went) -> [u64; 17]
+    ensures { λ r. ⌜ r ≡ Layout.traceWords (Traces.wentTrace (now (file .entry)) t (Traces.atStart from) part, part .visits) ⌝ }
+{
+    let contents = part.contents;
+    let to = part.end;
+    let k = met_words(file, t, part);
+    [
+        part.visits,
+        contents.code() as u64,
+        flag_word(part.start_solid),
+        float_word(from.x),
+        float_word(from.y),
+        float_word(from.z),
+        float_word(0.0),
+        float_word(to.x),
+        float_word(to.y),
+        float_word(to.z),
+        k[0],
+        k[1],
+        k[2],
+        k[3],
+        k[4],
+        k[5],
+        k[6],
+    ]
+}
+
+// As `hull::tracing::trace`, here step by step, so that the trace's record is not made.
 fn give_trace(
     file: &[u8],
     map: BspData,
@@ -83,9 +128,11 @@ fn give_trace(
     requires { ⌜ 17 ≤ length (now out) ⌝ }
     ensures { λ r. ⌜ written r (now (out .exit)) ≡ given (mapped Layout.traceWords (withVisits (Tracing.trace (hullTable (now (file .entry)) map hull) (hull .«node_id») start end))) (now (out .entry)) ⌝ }
 {
-    match hull::tracing::trace(file, map, hull, start, end) {
-        Traced::Refused(e) => e.number(),
-        Traced::Trace(value, visits) => give(&trace_words(value, visits), out),
+    let table = hull.table;
+    let t = tables_of(map, table, hull.mins, hull.maxs);
+    match trace_way(file, t, hull.node_id, start, end) {
+        Way::Refused(e) => e.number(),
+        Way::Went(part) => give(&went_words(file, t, start, part), out),
     }
 }
 

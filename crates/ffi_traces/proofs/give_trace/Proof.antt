@@ -6,7 +6,8 @@ use Rattle.words.proofs.Giving.{refuses, gives}
 use Prim.Native.Nat.{ℕ, _≤_}
 use lib.ListN.{length}
 use Rattle.phys.specs.declared.Trace.{Trace}
-use Rattle.hull.specs.Traces.{tracedAnswer}
+use Rattle.hull.specs.Traces.{atStart, wentTrace, wayAnswer}
+use Rattle.hull.proofs.Founds.{trace-is}
 use Rattle.ffi_traces.specs.Layout.{traceWords, kindWords}
 use Rattle.phys.specs.declared.TraceEndKind.{TraceEndKind}
 use Rattle.phys.specs.declared.TraceEndKind.the-variants.{Terminal, Boundary}
@@ -20,8 +21,11 @@ seven (Boundary b) = refl
 long : (a : Trace × ℕ) (n : ℕ) → 17 ≤ n → length (traceWords a) ≤ n
 long a n h = let e = seven (a .0 .end .kind) in omega arith
 
-trace-requires : tie.Need-trace-requires
-trace-requires c κs = search needs
+tables-of-requires : tie.Need-tables-of-requires
+tables-of-requires c κs = search needs
+
+trace-way-requires : tie.Need-trace-way-requires
+trace-way-requires c κs = search needs
 
 enum-known-e : tie.Need-enum-known-e
 enum-known-e c = search needs
@@ -29,11 +33,11 @@ enum-known-e c = search needs
 number-requires : tie.Need-number-requires
 number-requires c κs = search needs
 
-enum-known-value : tie.Need-enum-known-value
-enum-known-value c = search needs
+enum-known-part : tie.Need-enum-known-part
+enum-known-part c = search needs
 
-trace-words-requires : tie.Need-trace-words-requires
-trace-words-requires c κs = search needs
+went-words-requires : tie.Need-went-words-requires
+went-words-requires c κs = search needs
 
 slice-aggregate-give : tie.Need-slice-aggregate-give
 slice-aggregate-give c = search needs
@@ -42,23 +46,32 @@ give-requires : tie.Need-give-requires
 give-requires c κs = search needs
 
 returns : tie.Need-returns
-returns c = refuses tracedAnswer traceWords (c .before .before .before .before .trace .ensures) (c .before .before .e .given .1) refl (c .number .ensures)
+returns c =
+    refuses (wayAnswer (c .before .before .before .before .before .before .before .before .args .file .now) (c .before .before .before .before .before .tables-of .result) (atStart (c .before .before .before .before .before .before .before .before .args .start))) traceWords
+    (trace-is _ _ _ _ _ _ (c .before .before .before .before .before .tables-of .ensures) _ _ _ (c .before .before .before .before .trace-way .ensures)) (c .before .before .e .given .1) refl (c .number .ensures)
 
 same-length : tie.Need-same-length
 same-length c = search needs
 
 returns-2 : tie.Need-returns-2
-returns-2 c = gives tracedAnswer traceWords (c .before .before .before .before .before .before .before .before .before .before .before .before .args .out .now) (c .before .before .before .before .before .before .before .before .before .trace .ensures) (c .before .before .before .before .before .before .before .value .given .1) refl (c .before .before .before .before .before .trace-words .ensures) (long (c .before .before .before .before .before .before .before .value .given .0 .0, c .before .before .before .before .before .before .before .value .given .0 .1 .0) (length (c .before .before .before .before .before .before .before .before .before .before .before .before .args .out .now)) (c .before .before .before .before .before .before .before .before .before .before .before .before .pre)) (c .before .before .give .ensures)
+returns-2 c =
+    let z = c .before .before .before .before .before .before .before .before .before .before .before .before .before in
+    let t = c .before .before .before .before .before .before .before .before .before .before .tables-of .result in
+    let part = c .before .before .before .before .before .before .before .part .given .0 .0 in
+    gives (wayAnswer (z .args .file .now) t (atStart (z .args .start))) traceWords (z .args .out .now)
+    (trace-is _ _ _ _ _ _ (c .before .before .before .before .before .before .before .before .before .before .tables-of .ensures) _ _ _ (c .before .before .before .before .before .before .before .before .before .trace-way .ensures)) (c .before .before .before .before .before .before .before .part .given .1) refl (c .before .before .before .before .before .went-words .ensures)
+    (long (wentTrace (z .args .file .now) t (atStart (z .args .start)) part, part .visits) (length (z .args .out .now)) (z .pre)) (c .before .before .give .ensures)
 
 pub give-trace-spec : {M : Type 1} → statement M
 give-trace-spec =
     tie.close
     (tie.spec
-    trace-requires
+    tables-of-requires
+    trace-way-requires
     enum-known-e
     number-requires
-    enum-known-value
-    trace-words-requires
+    enum-known-part
+    went-words-requires
     slice-aggregate-give
     give-requires
     returns

@@ -1,21 +1,8 @@
 -- `ffi_traces::trace_words` meets its contract. Assumes nothing.
 use borrow.Author.Needs.{needs}
-use mathlib.Core.Path.{_≡_, refl}
-use mathlib.Core.List.{[], _∷_}
-use lib.ListN.{getD}
-use Rattle.phys.specs.declared.TraceEndKind.{TraceEndKind}
-use Rattle.phys.specs.declared.TraceEndKind.the-variants.{Terminal, Boundary}
-use Rattle.ffi_traces.specs.Layout.{kindWords}
+use Rattle.ffi_traces.proofs.Sevens.{seven}
 use Rattle.ffi_traces.proofs.trace_words.Statement.{statement}
 use Rattle.ffi_traces.proofs.trace_words.Tie as tie
-
--- seven words, one by one
-seven : (k : TraceEndKind)
-    → getD (kindWords k) 0 0 ∷ getD (kindWords k) 1 0 ∷ getD (kindWords k) 2 0 ∷ getD (kindWords k) 3 0 ∷ getD (kindWords k) 4 0 ∷ getD (kindWords k) 5 0
-    ∷ getD (kindWords k) 6 0 ∷ []
-    ≡ kindWords k
-seven Terminal = refl
-seven (Boundary b) = refl
 
 kind-words-requires : tie.Need-kind-words-requires
 kind-words-requires c κs = search needs
