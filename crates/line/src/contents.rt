@@ -20,6 +20,7 @@ use nodes::walking::Onward;
 use nodes::walking::SegmentAt;
 use nodes::walking::ends_in;
 use nodes::walking::look_in;
+use nodes::walking::point_of;
 use records::plane::PlaneAnswer;
 
 // What a line goes through: the tables, whether the file has all of their nodes and planes, and the root.
@@ -50,11 +51,11 @@ pub fn node_at(
     g: Ground,
     index: usize,
     left: u32,
-    p: Vector3,
-    q: Vector3,
+    p: &[f32; 3],
+    q: &[f32; 3],
 ) -> SegmentAt
     requires { ⌜ Answers.Lent (now s) (now nodes) (now planes) g ⌝ }
-    ensures { λ r. ⌜ Walks.segmentAnswer (g .t .table) r ≡ Answers.nodeFor (Walks.nodeAndDists p q) (now (s .entry)) (g .t) index left ⌝ }
+    ensures { λ r. ⌜ Walks.segmentAnswer (g .t .table) r ≡ Answers.nodeFor (Walks.nodeAndDists (Fast.pointOf (now (p .entry))) (Fast.pointOf (now (q .entry)))) (now (s .entry)) (g .t) index left ⌝ }
 {
     let t = g.t;
     if (t.nodes.count as usize) <= index {
@@ -67,7 +68,7 @@ pub fn node_at(
         let table = t.table;
         return ends_in(nodes, planes, table.is_render(), index, p, q);
     }
-    node_any(s, t, index, p, q)
+    node_any(s, t, index, point_of(p), point_of(q))
 }
 
 // The word of a node's child on a point's side of its plane, by the point's distance, from any table, record by record.
@@ -91,10 +92,10 @@ fn look_at(
     g: Ground,
     index: usize,
     left: u32,
-    point: Vector3,
+    point: &[f32; 3],
 ) -> Onward
     requires { ⌜ Answers.Lent (now s) (now nodes) (now planes) g ⌝ }
-    ensures { λ r. ⌜ Walks.onwardAnswer (g .t .table) r ≡ Answers.nodeFor (Walks.childByDistance point) (now (s .entry)) (g .t) index left ⌝ }
+    ensures { λ r. ⌜ Walks.onwardAnswer (g .t .table) r ≡ Answers.nodeFor (Walks.childByDistance (Fast.pointOf (now (point .entry)))) (now (s .entry)) (g .t) index left ⌝ }
 {
     let t = g.t;
     if (t.nodes.count as usize) <= index {
@@ -107,7 +108,7 @@ fn look_at(
         let table = t.table;
         return look_in(nodes, planes, table.is_render(), index, point);
     }
-    look_any(s, t, index, point)
+    look_any(s, t, index, point_of(point))
 }
 
 // The contents at a point from a node on, at most 512 nodes deep.
@@ -122,10 +123,11 @@ pub fn contents_from(
     requires { ⌜ Answers.Lent (now s) (now nodes) (now planes) g ⌝ }
     ensures { λ r. ⌜ Fast.endAnswer r ≡ Line.contentsFrom (Fast.table (now (s .entry)) (g .t)) 512 top point ⌝ }
 {
+    let coordinates = [point.x, point.y, point.z];
     let mut node = top;
     let mut left: u32 = 512;
     loop {
-        match look_at(s, nodes, planes, g, node, left, point) {
+        match look_at(s, nodes, planes, g, node, left, &coordinates) {
             Onward::Refused(e) => return EndContents::Refused(e),
             Onward::Word(word) => {
                 left -= 1;

@@ -71,10 +71,14 @@ fn descend(
     requires { ⌜ Answers.Lent (now s) (now nodes) (now planes) g ⌝ }
     ensures { λ r. ⌜ Answers.Comes (now (s .entry)) (g .t) top calls part r ⌝ }
 {
+    let start = part.start;
+    let end = part.end;
+    let p = [start.x, start.y, start.z];
+    let q = [end.x, end.y, end.z];
     let mut node = top;
     let mut left = calls;
     loop {
-        match node_at(s, nodes, planes, g, node, left, part.start, part.end) {
+        match node_at(s, nodes, planes, g, node, left, &p, &q) {
             SegmentAt::Refused(e) => return Descent::Refused(e),
             SegmentAt::Dists(w, a, b) => {
                 left -= 1;

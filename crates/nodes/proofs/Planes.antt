@@ -8,8 +8,8 @@ use native.Mathlib.Omega.{arith}
 use borrow.Author.Tests.{lt-ltb, le-ltb, ltb-true, ltb-false, ne-eqb}
 use lib.Dec.{ltb}
 use lib.Ieee as Ieee
-use lib.Ieee.{Float, binary32}
-use lib.ListN.{length}
+use lib.Ieee.{Float, binary32, nan}
+use lib.ListN.{length, getD}
 use mir.Syntax.{w32}
 use mir.Val.{toZ}
 use Rattle.format.specs.Answer as Ans
@@ -25,7 +25,7 @@ use Rattle.format.specs.Section.{placeAnswer}
 use Rattle.format.specs.declared.refusal.Refusal.{Refusal}
 use Rattle.format.specs.declared.section.Place.{Place}
 use Rattle.format.specs.declared.section.Place.the-variants.{At, Refused}
-use Rattle.nodes.specs.Fast.{isBox, u32, f32, along, normal, placeIn, hereAt, planeWith, planeHere, planeRead, planeFor, planeOfIndex, planeIn, boxPlane, twoDists}
+use Rattle.nodes.specs.Fast.{isBox, u32, f32, along, pointOf, normal, placeIn, hereAt, planeWith, planeHere, planeRead, planeFor, planeOfIndex, planeIn, boxPlane, twoDists}
 use Rattle.nodes.specs.declared.table.HullTable.{HullTable}
 use Rattle.nodes.specs.declared.table.HullTable.the-variants.{Render, Clip, Box}
 use Rattle.nodes.specs.declared.table.Tables.{Tables}
@@ -56,6 +56,13 @@ module _ (s : List ℕ) (at : ℕ) (h : at + 20 ≤ length s) where
   pub plane-is : planeRead s at ≡ answer (planeHere s at)
   unfolding planeRead planeAt planeHere
   plane-is = rw (vector-is, f32-is s (at + 12) (omega arith), kind-place, i32-is s (at + 16) (omega arith)) (ap answer (by-half (u32 s (at + 16)) (normal s at) (f32 s (at + 12)) (ltb (u32 s (at + 16)) 2147483648) refl))
+
+-- the coordinate along an axis, by its number
+pub coordinate-of : (l : List Float) (k : ℕ) → k < 3 → getD l k nan ≡ along (pointOf l) k
+coordinate-of l zero h = refl
+coordinate-of l (suc zero) h = refl
+coordinate-of l (suc (suc zero)) h = refl
+coordinate-of l (suc (suc (suc k))) h = absurd (omega arith)
 
 -- an axis plane, by its type
 module _ (k : ℕ) (n : Vector3) (d : Float) where

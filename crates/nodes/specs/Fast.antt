@@ -6,7 +6,7 @@ use mathlib.Core.Bool.{Bool, true, false, cond}
 use mathlib.Core.List.{List}
 use lib.Dec.{ltb, leb, eqb}
 use lib.ListN.{length, getD}
-use lib.Ieee.{Float, binary32, ofBits}
+use lib.Ieee.{Float, binary32, ofBits, nan}
 use Rattle.format.specs.Answer.{Answer, answer, refused, mapped}
 use Rattle.format.specs.Refusal.{numberOf}
 use Rattle.format.specs.Step.{when}
@@ -204,6 +204,10 @@ nodeAt s t i = nodeIn (t .table) s (t .nodes) i
 
 abbrev pub along : Vector3 → ℕ → Float
 along p k = cond (eqb k 0) (p .x) (cond (eqb k 1) (p .y) (p .z))
+
+-- the point of three coordinates
+abbrev pub pointOf : List Float → Vector3
+pointOf l = Vec.vector (getD l 0 nan) (getD l 1 nan) (getD l 2 nan)
 
 abbrev pub normal : List ℕ → ℕ → Vector3
 normal s at = Vec.vector (f32 s at) (f32 s (at + 4)) (f32 s (at + 8))

@@ -13,6 +13,7 @@ use crate::read::Dists;
 use crate::read::EndContents;
 use crate::read::ReadWords;
 use crate::read::Words;
+use crate::walking::point_of;
 use format::code::CodedContents;
 use format::code::contents_of;
 use format::refusal::Refusal;
@@ -104,18 +105,19 @@ pub fn dists_here(s: &[u8], at: usize, p: Vector3, q: Vector3) -> Dists
     Dists::Two(plane.point_dist(p), plane.point_dist(q))
 }
 
-// The same for a whole-line trace, which has readers of its own (docs/DECISIONS.md 64).
-pub fn ends_here(s: &[u8], at: usize, p: Vector3, q: Vector3) -> Dists
+// The same for a whole-line trace, which has readers of its own (docs/DECISIONS.md 64). The points are lists, so that the coordinate along
+// an axis is found by its number and not by a branch.
+pub fn ends_here(s: &[u8], at: usize, p: &[f32; 3], q: &[f32; 3]) -> Dists
     requires { ⌜ at + 20 ≤ length (now s) ⌝ }
-    ensures { λ r. ⌜ Fast.distsAnswer r ≡ answer (Fast.twoDists p q (Fast.planeHere (now (s .entry)) at)) ⌝ }
+    ensures { λ r. ⌜ Fast.distsAnswer r ≡ answer (Fast.twoDists (Fast.pointOf (now (p .entry))) (Fast.pointOf (now (q .entry))) (Fast.planeHere (now (s .entry)) at)) ⌝ }
 {
     let dist = f32_at(s, at + 12);
     let kind = u32_at(s, at + 16);
     if kind < 3 {
-        return Dists::Two(along(p, kind) - dist, along(q, kind) - dist);
+        return Dists::Two(p[kind as usize] - dist, q[kind as usize] - dist);
     }
     let plane = Hyperplane::new(normal_at(s, at), dist);
-    Dists::Two(plane.point_dist(p), plane.point_dist(q))
+    Dists::Two(plane.point_dist(point_of(p)), plane.point_dist(point_of(q)))
 }
 
 pub fn plane_here(s: &[u8], at: usize) -> Hyperplane

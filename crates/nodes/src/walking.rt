@@ -258,17 +258,28 @@ pub fn segment_from(
     segment_any(s, t, index, p, q)
 }
 
+// The point of three coordinates.
+pub fn point_of(p: &[f32; 3]) -> Vector3
+    ensures { λ r. ⌜ r ≡ Fast.pointOf (now (p .entry)) ⌝ }
+{
+    Vector3 {
+        x: p[0],
+        y: p[1],
+        z: p[2],
+    }
+}
+
 // The same for a whole-line trace, which has readers of its own (docs/DECISIONS.md 64).
 fn ends_at(
     nodes: &[u8],
     planes: &[u8],
     render: bool,
     index: usize,
-    p: Vector3,
-    q: Vector3,
+    p: &[f32; 3],
+    q: &[f32; 3],
 ) -> SegmentAt
     requires { ⌜ index * Fast.nodeSize render + Fast.nodeSize render ≤ length (now nodes) ⌝ }
-    ensures { λ r. ⌜ Walks.MadeIn (Walks.nodeAndDists p q) render (now (nodes .entry)) (now (planes .entry)) (index * Fast.nodeSize render) (Walks.segmentAnswer (Fast.fileTable render) r) ⌝ }
+    ensures { λ r. ⌜ Walks.MadeIn (Walks.nodeAndDists (Fast.pointOf (now (p .entry))) (Fast.pointOf (now (q .entry)))) render (now (nodes .entry)) (now (planes .entry)) (index * Fast.nodeSize render) (Walks.segmentAnswer (Fast.fileTable render) r) ⌝ }
 {
     match words_in(nodes, render, index) {
         ReadWords::Refused(e) => SegmentAt::Refused(e),
@@ -291,10 +302,10 @@ pub fn ends_in(
     planes: &[u8],
     render: bool,
     index: usize,
-    p: Vector3,
-    q: Vector3,
+    p: &[f32; 3],
+    q: &[f32; 3],
 ) -> SegmentAt
-    ensures { λ r. ⌜ Walks.MadeOf (Walks.nodeAndDists p q) render (now (nodes .entry)) (now (planes .entry)) index (λ t. Walks.segmentAnswer t r) ⌝ }
+    ensures { λ r. ⌜ Walks.MadeOf (Walks.nodeAndDists (Fast.pointOf (now (p .entry))) (Fast.pointOf (now (q .entry)))) render (now (nodes .entry)) (now (planes .entry)) index (λ t. Walks.segmentAnswer t r) ⌝ }
 {
     if has_node(nodes, render, index) {
         return ends_at(nodes, planes, render, index, p, q);
@@ -303,22 +314,22 @@ pub fn ends_in(
 }
 
 // The child's word on the side of the point's distance from the plane at a place: 0 is the front, a NaN the back.
-fn word_by_distance(planes: &[u8], at: usize, words: Words, point: Vector3) -> u16
+fn word_by_distance(planes: &[u8], at: usize, words: Words, point: &[f32; 3]) -> u16
     requires { ⌜ at + 20 ≤ length (now planes) ⌝ }
-    ensures { λ r. ⌜ r ≡ Walks.wordAt words (Pl.fromDist (Pl.pointDist (Fast.planeHere (now (planes .entry)) at) point)) ⌝ }
+    ensures { λ r. ⌜ r ≡ Walks.wordAt words (Pl.fromDist (Pl.pointDist (Fast.planeHere (now (planes .entry)) at) (Fast.pointOf (now (point .entry))))) ⌝ }
 {
     let dist = f32_at(planes, at + 12);
     let kind = u32_at(planes, at + 16);
     if kind < 3 {
-        return words.on(along(point, kind) - dist >= 0.0);
+        return words.on(point[kind as usize] - dist >= 0.0);
     }
-    words.on(Hyperplane::new(normal_at(planes, at), dist).point_dist(point) >= 0.0)
+    words.on(Hyperplane::new(normal_at(planes, at), dist).point_dist(point_of(point)) >= 0.0)
 }
 
 // That word at a node.
-fn look_at(nodes: &[u8], planes: &[u8], render: bool, index: usize, point: Vector3) -> Onward
+fn look_at(nodes: &[u8], planes: &[u8], render: bool, index: usize, point: &[f32; 3]) -> Onward
     requires { ⌜ index * Fast.nodeSize render + Fast.nodeSize render ≤ length (now nodes) ⌝ }
-    ensures { λ r. ⌜ Walks.MadeIn (Walks.childByDistance point) render (now (nodes .entry)) (now (planes .entry)) (index * Fast.nodeSize render) (Walks.onwardAnswer (Fast.fileTable render) r) ⌝ }
+    ensures { λ r. ⌜ Walks.MadeIn (Walks.childByDistance (Fast.pointOf (now (point .entry)))) render (now (nodes .entry)) (now (planes .entry)) (index * Fast.nodeSize render) (Walks.onwardAnswer (Fast.fileTable render) r) ⌝ }
 {
     match words_in(nodes, render, index) {
         ReadWords::Refused(e) => Onward::Refused(e),
@@ -334,8 +345,8 @@ fn look_at(nodes: &[u8], planes: &[u8], render: bool, index: usize, point: Vecto
 
 // The child's word on the side of the point's distance from a node's plane, from the bytes of nodes and planes, whatever they are. 20: there
 // is no such node.
-pub fn look_in(nodes: &[u8], planes: &[u8], render: bool, index: usize, point: Vector3) -> Onward
-    ensures { λ r. ⌜ Walks.MadeOf (Walks.childByDistance point) render (now (nodes .entry)) (now (planes .entry)) index (λ t. Walks.onwardAnswer t r) ⌝ }
+pub fn look_in(nodes: &[u8], planes: &[u8], render: bool, index: usize, point: &[f32; 3]) -> Onward
+    ensures { λ r. ⌜ Walks.MadeOf (Walks.childByDistance (Fast.pointOf (now (point .entry)))) render (now (nodes .entry)) (now (planes .entry)) index (λ t. Walks.onwardAnswer t r) ⌝ }
 {
     if has_node(nodes, render, index) {
         return look_at(nodes, planes, render, index, point);

@@ -1,7 +1,7 @@
 -- `line::contents::look_at` meets its contract. Assumes nothing.
 use mathlib.Core.Path.{_∙_}
 use denote.Ref.{now}
-use Rattle.line.proofs.Seen.{note-outside, note-spent, note-read}
+use Rattle.line.proofs.Seen.{same-point, note-outside, note-spent, note-read}
 use borrow.Author.Needs.{needs}
 use Rattle.line.proofs.contents.look_at.Statement.{statement}
 use Rattle.line.proofs.contents.look_at.Tie as tie
@@ -24,11 +24,14 @@ look-in-requires c κs = search needs
 returns-3 : tie.Need-returns-3
 returns-3 c = let a = c .before .before .before .before .before .before .before .before .before .before .args in c .look-in .ensures .1 (now (a .s)) (a .g .t) (a .g .whole) (c .before .before .before .before .before .before .before .before .before .before .pre) (c .before .before .if3 .taken) (c .before .is-render .ensures) ∙ note-read _ _ _ _ _ (c .before .before .before .before .if1 .left) (c .before .before .before .if2 .left)
 
+point-of-requires : tie.Need-point-of-requires
+point-of-requires c κs = search needs
+
 look-any-requires : tie.Need-look-any-requires
 look-any-requires c κs = search needs
 
 returns-4 : tie.Need-returns-4
-returns-4 c = c .look-any .ensures ∙ note-read _ _ _ _ _ (c .before .before .before .if1 .left) (c .before .before .if2 .left)
+returns-4 c = c .look-any .ensures ∙ same-point _ _ _ _ _ (c .before .point-of .ensures) ∙ note-read _ _ _ _ _ (c .before .before .before .before .if1 .left) (c .before .before .before .if2 .left)
 
 pub look-at-spec : {M : Type 1} → statement M
 look-at-spec =
@@ -40,5 +43,6 @@ look-at-spec =
     is-render-requires
     look-in-requires
     returns-3
+    point-of-requires
     look-any-requires
     returns-4)

@@ -2,7 +2,7 @@
 -- Assumes nothing.
 use Prim.Native.Nat.{_*_}
 use denote.Ref.{now}
-use Rattle.nodes.specs.Fast.{fileTable, nodeOf, nodeSize, planeHere}
+use Rattle.nodes.specs.Fast.{fileTable, nodeOf, nodeSize, planeHere, pointOf}
 use Rattle.nodes.specs.Walks.{nodeAndDists}
 use Rattle.nodes.proofs.Making.{in-unread, in-outside, in-made, here-dists, here-always, with-dists}
 use borrow.Author.Needs.{needs}
@@ -22,7 +22,7 @@ cast-plane : tie.Need-cast-plane
 cast-plane c = search needs
 
 returns : tie.Need-returns
-returns c = let a = c .before .before .before .before .before .before .before .before .args in in-outside (nodeAndDists (a .p) (a .q)) (a .render) (now (a .nodes)) (now (a .planes)) (a .index * nodeSize (a .render)) (c .before .before .before .before .before .words-in .result) (c .before .before .before .before .before .words-in .ensures) _ (c .before .before .before .words .given .1) (c .if1 .taken)
+returns c = let a = c .before .before .before .before .before .before .before .before .args in in-outside (nodeAndDists (pointOf (now (a .p))) (pointOf (now (a .q)))) (a .render) (now (a .nodes)) (now (a .planes)) (a .index * nodeSize (a .render)) (c .before .before .before .before .before .words-in .result) (c .before .before .before .before .before .words-in .ensures) _ (c .before .before .before .words .given .1) (c .if1 .taken)
 
 mul-ends-here : tie.Need-mul-ends-here
 mul-ends-here c = search needs
@@ -37,13 +37,13 @@ enum-known-a : tie.Need-enum-known-a
 enum-known-a c = search needs
 
 returns-2 : tie.Need-returns-2
-returns-2 c = let a = c .before .before .before .before .before .before .args in in-unread (nodeAndDists (a .p) (a .q)) (a .render) (now (a .nodes)) (now (a .planes)) (a .index * nodeSize (a .render)) (c .before .before .before .words-in .result) (c .before .before .before .words-in .ensures) _ (c .before .e .given .1)
+returns-2 c = let a = c .before .before .before .before .before .before .args in in-unread (nodeAndDists (pointOf (now (a .p))) (pointOf (now (a .q)))) (a .render) (now (a .nodes)) (now (a .planes)) (a .index * nodeSize (a .render)) (c .before .before .before .words-in .result) (c .before .before .before .words-in .ensures) _ (c .before .e .given .1)
 
 returns-3 : tie.Need-returns-3
-returns-3 c = let a = c .before .before .before .before .before .before .before .before .before .before .before .before .args in let w = c .before .before .before .before .before .before .before .words .given .0 .0 in absurd (here-always (a .p) (a .q) (planeHere (now (a .planes)) (w .plane * 20)) (c .before .before .before .ends-here .result) (c .before .before .before .ends-here .ensures) _ (c .before .e2 .given .1))
+returns-3 c = let a = c .before .before .before .before .before .before .before .before .before .before .before .before .args in let w = c .before .before .before .before .before .before .before .words .given .0 .0 in absurd (here-always (pointOf (now (a .p))) (pointOf (now (a .q))) (planeHere (now (a .planes)) (w .plane * 20)) (c .before .before .before .ends-here .result) (c .before .before .before .ends-here .ensures) _ (c .before .e2 .given .1))
 
 returns-4 : tie.Need-returns-4
-returns-4 c = let a = c .before .before .before .before .before .before .before .before .before .before .before .before .args in let w = c .before .before .before .before .before .before .before .words .given .0 .0 in let h = planeHere (now (a .planes)) (w .plane * 20) in in-made (nodeAndDists (a .p) (a .q)) (a .render) (now (a .nodes)) (now (a .planes)) (a .index * nodeSize (a .render)) (c .before .before .before .before .before .before .before .before .before .words-in .result) (c .before .before .before .before .before .before .before .before .before .words-in .ensures) w (c .before .before .before .before .before .before .before .words .given .1) (c .before .before .before .before .if1 .left) _ (with-dists (nodeOf (fileTable (a .render)) w) (a .p) (a .q) h _ _ (here-dists (a .p) (a .q) h (c .before .before .before .ends-here .result) (c .before .before .before .ends-here .ensures) _ _ (c .before .a .given .1)))
+returns-4 c = let a = c .before .before .before .before .before .before .before .before .before .before .before .before .args in let w = c .before .before .before .before .before .before .before .words .given .0 .0 in let h = planeHere (now (a .planes)) (w .plane * 20) in in-made (nodeAndDists (pointOf (now (a .p))) (pointOf (now (a .q)))) (a .render) (now (a .nodes)) (now (a .planes)) (a .index * nodeSize (a .render)) (c .before .before .before .before .before .before .before .before .before .words-in .result) (c .before .before .before .before .before .before .before .before .before .words-in .ensures) w (c .before .before .before .before .before .before .before .words .given .1) (c .before .before .before .before .if1 .left) _ (with-dists (nodeOf (fileTable (a .render)) w) (pointOf (now (a .p))) (pointOf (now (a .q))) h _ _ (here-dists (pointOf (now (a .p))) (pointOf (now (a .q))) h (c .before .before .before .ends-here .result) (c .before .before .before .ends-here .ensures) _ _ (c .before .a .given .1)))
 
 pub ends-at-spec : {M : Type 1} → statement M
 ends-at-spec =

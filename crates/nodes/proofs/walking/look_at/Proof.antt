@@ -3,7 +3,7 @@
 use Prim.Native.Nat.{_*_}
 use denote.Ref.{now}
 use Rattle.math.specs.Plane.{pointDist, fromDist}
-use Rattle.nodes.specs.Fast.{fileTable, nodeSize, planeHere}
+use Rattle.nodes.specs.Fast.{fileTable, nodeSize, planeHere, pointOf}
 use Rattle.nodes.specs.Walks.{childByDistance}
 use Rattle.nodes.proofs.Making.{in-unread, in-outside, in-made, at-side}
 use borrow.Author.Needs.{needs}
@@ -23,7 +23,7 @@ cast-plane : tie.Need-cast-plane
 cast-plane c = search needs
 
 returns : tie.Need-returns
-returns c = let a = c .before .before .before .before .before .before .before .before .args in in-outside (childByDistance (a .point)) (a .render) (now (a .nodes)) (now (a .planes)) (a .index * nodeSize (a .render)) (c .before .before .before .before .before .words-in .result) (c .before .before .before .before .before .words-in .ensures) _ (c .before .before .before .words .given .1) (c .if1 .taken)
+returns c = let a = c .before .before .before .before .before .before .before .before .args in in-outside (childByDistance (pointOf (now (a .point)))) (a .render) (now (a .nodes)) (now (a .planes)) (a .index * nodeSize (a .render)) (c .before .before .before .before .before .words-in .result) (c .before .before .before .before .before .words-in .ensures) _ (c .before .before .before .words .given .1) (c .if1 .taken)
 
 mul-word-by-distance : tie.Need-mul-word-by-distance
 mul-word-by-distance c = search needs
@@ -32,10 +32,10 @@ word-by-distance-requires : tie.Need-word-by-distance-requires
 word-by-distance-requires c κs = search needs
 
 returns-2 : tie.Need-returns-2
-returns-2 c = let a = c .before .before .before .before .before .before .args in in-unread (childByDistance (a .point)) (a .render) (now (a .nodes)) (now (a .planes)) (a .index * nodeSize (a .render)) (c .before .before .before .words-in .result) (c .before .before .before .words-in .ensures) _ (c .before .e .given .1)
+returns-2 c = let a = c .before .before .before .before .before .before .args in in-unread (childByDistance (pointOf (now (a .point)))) (a .render) (now (a .nodes)) (now (a .planes)) (a .index * nodeSize (a .render)) (c .before .before .before .words-in .result) (c .before .before .before .words-in .ensures) _ (c .before .e .given .1)
 
 returns-3 : tie.Need-returns-3
-returns-3 c = let a = c .before .before .before .before .before .before .before .before .before .args in let w = c .before .before .before .before .words .given .0 .0 in in-made (childByDistance (a .point)) (a .render) (now (a .nodes)) (now (a .planes)) (a .index * nodeSize (a .render)) (c .before .before .before .before .before .before .words-in .result) (c .before .before .before .before .before .before .words-in .ensures) w (c .before .before .before .before .words .given .1) (c .before .if1 .left) _ (at-side (fileTable (a .render)) w (fromDist (pointDist (planeHere (now (a .planes)) (w .plane * 20)) (a .point))) _ (c .word-by-distance .ensures))
+returns-3 c = let a = c .before .before .before .before .before .before .before .before .before .args in let w = c .before .before .before .before .words .given .0 .0 in in-made (childByDistance (pointOf (now (a .point)))) (a .render) (now (a .nodes)) (now (a .planes)) (a .index * nodeSize (a .render)) (c .before .before .before .before .before .before .words-in .result) (c .before .before .before .before .before .before .words-in .ensures) w (c .before .before .before .before .words .given .1) (c .before .if1 .left) _ (at-side (fileTable (a .render)) w (fromDist (pointDist (planeHere (now (a .planes)) (w .plane * 20)) (pointOf (now (a .point))))) _ (c .word-by-distance .ensures))
 
 pub look-at-spec : {M : Type 1} → statement M
 look-at-spec =
