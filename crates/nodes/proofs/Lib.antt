@@ -11,6 +11,7 @@ mod Wholes
 pub mod Entering
 mod Making
 mod Stepping
+mod Beside
 pub mod Equal
 pub mod Ends
 mod Handed

@@ -3,3 +3,4 @@ pub mod Tables
 pub mod Fast
 pub mod Walks
 pub mod Numbered
+pub mod Lanes

@@ -2,6 +2,7 @@
 // the six nodes of a box. The readers read by need and answer a few numbers.
 mod bytes;
 mod here;
+pub mod lanes;
 pub mod numbered;
 pub mod read;
 pub mod table;

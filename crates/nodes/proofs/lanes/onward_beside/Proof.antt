@@ -1,0 +1,52 @@
+-- `onward_beside` meets its contract: the node, its plane's number (30), the side.
+-- Assumes nothing.
+use Prim.Native.Nat.{_*_}
+use denote.Ref.{now}
+use Rattle.math.specs.Plane.{pointSide}
+use Rattle.nodes.specs.Fast.{fileTable, nodeSize, planeHere}
+use Rattle.nodes.specs.Walks.{childToward}
+use Rattle.nodes.proofs.Making.{in-unread, in-outside, in-made, at-side}
+use borrow.Author.Needs.{needs}
+use Rattle.nodes.proofs.lanes.onward_beside.Statement.{statement}
+use Rattle.nodes.proofs.lanes.onward_beside.Tie as tie
+
+words-beside-requires : tie.Need-words-beside-requires
+words-beside-requires c κs = search needs
+
+enum-known-e : tie.Need-enum-known-e
+enum-known-e c = search needs
+
+enum-known-words : tie.Need-enum-known-words
+enum-known-words c = search needs
+
+cast-plane : tie.Need-cast-plane
+cast-plane c = search needs
+
+returns : tie.Need-returns
+returns c = let a = c .before .before .before .before .before .before .before .before .args in in-outside (childToward (a .point)) (a .render) (now (a .nodes)) (now (a .planes)) (a .index * nodeSize (a .render)) (c .before .before .before .before .before .words-beside .result) (c .before .before .before .before .before .words-beside .ensures) _ (c .before .before .before .words .given .1) (c .if1 .taken)
+
+mul-word-beside : tie.Need-mul-word-beside
+mul-word-beside c = search needs
+
+word-beside-requires : tie.Need-word-beside-requires
+word-beside-requires c κs = search needs
+
+returns-2 : tie.Need-returns-2
+returns-2 c = let a = c .before .before .before .before .before .before .args in in-unread (childToward (a .point)) (a .render) (now (a .nodes)) (now (a .planes)) (a .index * nodeSize (a .render)) (c .before .before .before .words-beside .result) (c .before .before .before .words-beside .ensures) _ (c .before .e .given .1)
+
+returns-3 : tie.Need-returns-3
+returns-3 c = let a = c .before .before .before .before .before .before .before .before .before .args in let w = c .before .before .before .before .words .given .0 .0 in in-made (childToward (a .point)) (a .render) (now (a .nodes)) (now (a .planes)) (a .index * nodeSize (a .render)) (c .before .before .before .before .before .before .words-beside .result) (c .before .before .before .before .before .before .words-beside .ensures) w (c .before .before .before .before .words .given .1) (c .before .if1 .left) _ (at-side (fileTable (a .render)) w (pointSide (planeHere (now (a .planes)) (w .plane * 20)) (a .point)) _ (c .word-beside .ensures))
+
+pub onward-beside-spec : {M : Type 1} → statement M
+onward-beside-spec =
+    tie.close
+    (tie.spec
+    words-beside-requires
+    enum-known-e
+    enum-known-words
+    cast-plane
+    returns
+    mul-word-beside
+    word-beside-requires
+    returns-2
+    returns-3)
