@@ -18,8 +18,9 @@ use Rattle.nodes.specs.declared.table.Tables.{Tables}
 use Rattle.nodes.specs.declared.read.Words.{Words as WordsT}
 use Rattle.ways.specs.Groups.{Meets, settled, onward, meets, readsAt, fill, fronts, backs}
 use Rattle.ways.proofs.Divided.{fill-length, reads-none, settled-reads, settled-bytes, some-left, divided-reads, divided-bytes, divided-other, reads-most, kept-length}
-use Rattle.points.specs.Going.{pointAt, ontoChild, ontoWord, meetingMeets, met, readsOf, settledBy, Settles, Divides, Went}
+use Rattle.points.specs.Going.{pointAt, ontoChild, ontoWord, meetingMeets, met, readsOf, settledBy, Settles, PairIs, TwoSettled, Divides, Went}
 use Rattle.points.specs.declared.group.Onto.{Onto}
+use Rattle.points.specs.declared.one.Pair.{Pair}
 use Rattle.points.specs.declared.group.Meeting.{Meeting}
 use Rattle.points.specs.declared.group.Meeting.the-variants as M
 use Rattle.points.specs.declared.group.Down.{Down}
@@ -119,6 +120,16 @@ module _ (s : List ℕ) (t : Tables) (cs : List Float) where
               other = rw (first-part, second-part) (g .bytes ∙ other-here);
             }
 
+        -- two points go apart and are settled
+        pub ends-two : 0 < f → f < length l → length l ≡ 2 → (m : ℕ) (out′ : List ℕ) → TwoSettled s t cs j w l out m out′ → Settles s t cs k₀ (childAt c₀) ids₀ out₀ (n + 1 + m) out′
+        ends-two a b e m out′ z =
+            let one : f ≡ 1 = omega (arith, a, b, e) in
+            let d : Divides s t cs k₀ (childAt c₀) ids₀ out₀ w 1 j (n + 1) l out = subst (λ (x : ℕ). Divides s t cs k₀ (childAt c₀) ids₀ out₀ w x j (n + 1) l out) one (divided a b) in
+            record {
+              counted = omega (arith, d .counted, z .counted);
+              bytes = z .bytes ∙ ap (λ (x : List ℕ). settledBy s t cs j (childOf (t .table) (wordOn w false)) (drop 1 l) (settledBy s t cs j (childOf (t .table) (wordOn w true)) (take 1 l) x)) (d .kept) ∙ sym (d .bytes);
+            }
+
         module _ (aside′ : List ℕ) (wide : length aside′ ≡ length aside) (c′ : Onto) where
           pub all-behind : f ≡ 0 → c′ ≡ ontoWord (wordOn w false) → Gone k₀ c₀ ids₀ aside₀ out₀ l aside′ out c′ j (n + 1)
           unfolding fill
@@ -166,6 +177,17 @@ module _ (s : List ℕ) (t : Tables) (cs : List Float) where
   pub few-reads : (k : ℕ) (c : Child End) (ids : List ℕ) → k < 4294967296 → length ids ≤ 1024 → readsOf s t cs k c ids ≤ 4398046511104
   few-reads k c ids h m =
       omega (arith, reads-most (table s t) codeOf (pointAt cs) k c ids, mul-le-mul-left k m)
+
+  pub two-few : (k : ℕ) (w : WordsT) (ids before : List ℕ) (n : ℕ) (out : List ℕ) → k < 4294967296 → length ids ≡ 2 → TwoSettled s t cs k w ids before n out → n ≤ 8796093022208
+  two-few k w [] before n out h e z = absurd (omega (arith, e))
+  two-few k w (x ∷ []) before n out h e z = absurd (omega (arith, e))
+  two-few k w (x ∷ y ∷ []) before n out h e z =
+      omega (arith, z .counted, few-reads k (childOf (t .table) (wordOn w true)) (x ∷ []) h (omega arith), few-reads k (childOf (t .table) (wordOn w false)) (y ∷ []) h (omega arith))
+  two-few k w (x ∷ y ∷ v ∷ l) before n out h e z = absurd (omega (arith, e))
+
+  pub pair-few : (k : ℕ) (w : WordsT) (p q : ℕ) (r : Pair) → k < 4294967296 → PairIs s t cs k w p q r → r .first .reads + r .second .reads ≤ 8796093022208
+  pair-few k w p q r h z =
+      omega (arith, z .0 .counted, z .1 .counted, few-reads k (childOf (t .table) (wordOn w true)) (p ∷ []) h (omega arith), few-reads k (childOf (t .table) (wordOn w false)) (q ∷ []) h (omega arith))
 
   -- what going down says, by its answer
   module _ (k : ℕ) (c : Child End) (ids before : List ℕ) (r : Down) (l out : List ℕ) (h : Went s t cs k c ids before r l out) where

@@ -20,6 +20,7 @@ use Rattle.nodes.specs.declared.table.HullTable.{HullTable}
 use Rattle.nodes.specs.declared.table.Tables.{Tables}
 use Rattle.nodes.specs.declared.read.Words.{Words}
 use Rattle.ways.specs.Groups.{Meets, settled, onward, meets, byteAt, readsAt, fill, kept}
+use Rattle.points.specs.declared.one.Pair.{Pair}
 use Rattle.points.specs.declared.one.Passing.{Passing}
 use Rattle.points.specs.declared.one.Passing.the-variants as Q
 use Rattle.points.specs.declared.group.Onto.{Onto}
@@ -94,6 +95,17 @@ module _ (s : List ℕ) (t : Tables) (cs : List Float) where
   pub record OneIs (k : ℕ) (c : Child End) (q b n : ℕ) : Type 0 where
     pub counted : n ≡ readsOf k c (q ∷ [])
     pub byte : b ≡ byteAt (table s t) codeOf k c (pointAt cs q)
+
+  -- two points that go apart at a node with these words: the bytes and the reads of each
+  abbrev pub PairIs : ℕ → Words → ℕ → ℕ → Pair → Type 0
+  PairIs k w p q r =
+      OneIs k (childOf (t .table) (wordOn w true)) p (r .first .byte) (r .first .reads)
+      × OneIs k (childOf (t .table) (wordOn w false)) q (r .second .byte) (r .second .reads)
+
+  -- a group of two is settled so: the reads n, and the bytes out of those before
+  pub record TwoSettled (k : ℕ) (w : Words) (ids before : List ℕ) (n : ℕ) (out : List ℕ) : Type 0 where
+    pub counted : n ≡ readsOf k (childOf (t .table) (wordOn w true)) (take 1 ids) + readsOf k (childOf (t .table) (wordOn w false)) (drop 1 ids)
+    pub bytes : out ≡ settledBy k (childOf (t .table) (wordOn w false)) (drop 1 ids) (settledBy k (childOf (t .table) (wordOn w true)) (take 1 ids) before)
 
   -- a group is divided at a node, into the first f of the points l and the others
   pub record Divides (k : ℕ) (c : Child End) (ids before : List ℕ) (w : Words) (f j n : ℕ) (l out : List ℕ) : Type 0 where

@@ -7,6 +7,7 @@ ghost use Rattle.points.specs.Going as Going;
 use crate::divide::divide;
 use crate::divide::settle;
 use crate::one::settle_one;
+use crate::one::settle_two;
 use math::Hyperplane;
 use nodes::read::EndContents;
 use nodes::read::ReadWords;
@@ -114,6 +115,10 @@ fn go_down(
                 if front == 0 {
                     at = child_on(words, false);
                 } else if front < ids.len() {
+                    if ids.len() == 2 {
+                        let n = settle_two(s, t, coords, words, more, ids, out);
+                        return Down::Settled(reads + n);
+                    }
                     return Down::Divided(words, front, more, reads);
                 } else {
                     at = child_on(words, true);
