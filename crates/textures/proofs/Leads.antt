@@ -21,6 +21,7 @@ use Rattle.textures.specs.Group.{earliestBy}
 use Rattle.textures.specs.Kind.{passing, starts, ends}
 use Rattle.textures.specs.Section.{namesOf}
 use Rattle.textures.specs.Table.{holds, seek, Filled, hits, earliestOf, isLike, knownOf, Known, KnownTo, Heads}
+use Rattle.textures.specs.Sieve.{SameNode}
 use Rattle.textures.specs.declared.kind.Kind.the-variants.{Animated}
 use Rattle.textures.specs.declared.table.Located.{Located}
 use Rattle.textures.specs.declared.table.Located.the-variants.{At}
@@ -172,7 +173,7 @@ module _ (p : ℕ → Bool) (ka kb : ℕ → ℕ) where
     stays-static e = (sym (known-no to j e), heads-skip (λ v a b c. rw e refl))
 
     -- a texture whose stem no texture before the part has
-    module _ (passes : p j ≡ true) (unknown : knownOf p ka kb from j ≡ 4294967295) (l : Located) (is : l ≡ seek t (ka j) (kb j) 145 0 0) where
+    module _ (passes : p j ≡ true) (unknown : knownOf p ka kb from j ≡ 4294967295) (l : Located) (is : SameNode l (seek t (ka j) (kb j) 145 0 0)) where
       not-before : any (isLike p ka kb j) from ≡ false
       not-before = is-none (isLike p ka kb j) from (omega (arith, after, small)) (sym (known-some from j passes) ∙ unknown)
 
@@ -180,7 +181,7 @@ module _ (p : ℕ → Bool) (ka kb : ℕ → ℕ) where
       misses v h k z = by (holds t v (ka j) (kb j)) refl
         where
           by : (x : Bool) → holds t v (ka j) (kb j) ≡ x → hits p ka kb t v j ≡ false
-          by true e = absurd (z (is ∙ holds-seek t w (filled .table) v (ka j) (kb j) h k e))
+          by true e = absurd (z (is .1 v (holds-seek t w (filled .table) v (ka j) (kb j) h k e)))
           by false e = rw (passes, e) refl
 
       pub not-in-part : ((v : ℕ) → l ≡ At v → ⊥) → (4294967295 ≡ knownOf p ka kb to j) × Heads p ka kb t w from heads (j + 1)
@@ -192,7 +193,7 @@ module _ (p : ℕ → Bool) (ka kb : ℕ → ℕ) where
               let b : kb j ≡ kb i = eqb-true _ _ (and-right (eqb (ka j) (ka i)) _ (and-right (p i) _ e)) in
               let d = filled .covers i h k (and-left (p i) _ e) in
               z (d .node)
-              (is ∙ (ap (λ (y : ℕ). seek t y (kb j) 145 0 0) a ∙ (ap (λ (y : ℕ). seek t (ka i) y 145 0 0) b ∙ holds-seek t w (filled .table) (d .node) (ka i) (kb i) (d .positive) (d .inside) (d .has))))
+              (is .1 (d .node) (ap (λ (y : ℕ). seek t y (kb j) 145 0 0) a ∙ (ap (λ (y : ℕ). seek t (ka i) y 145 0 0) b ∙ holds-seek t w (filled .table) (d .node) (ka i) (kb i) (d .positive) (d .inside) (d .has))))
 
           one : (i : ℕ) → i < to → isLike p ka kb j i ≡ false
           one i h = by (ltb i from) (isLike p ka kb j i) refl refl
@@ -204,7 +205,7 @@ module _ (p : ℕ → Bool) (ka kb : ℕ → ℕ) where
 
       module _ (v : ℕ) (at : l ≡ At v) where
         node : (0 < v) × ((v < w) × (holds t v (ka j) (kb j) ≡ true))
-        node = found-node t w (filled .table .below) (ka j) (kb j) 145 0 0 v (filled .table .some) (omega arith) (sym is ∙ at)
+        node = found-node t w (filled .table .below) (ka j) (kb j) 145 0 0 v (filled .table .some) (omega arith) (is .0 v at)
 
         pub node-within : v < w
         node-within = node .1 .0

@@ -7,6 +7,7 @@ mod Keys
 pub mod Tables
 mod Fills
 pub mod Marks
+mod Sieves
 mod Steps
 mod Alone
 mod Sequence

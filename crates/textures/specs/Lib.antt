@@ -6,5 +6,6 @@ pub mod Group
 pub mod Section
 pub mod Kind
 pub mod Table
+pub mod Sieve
 pub mod Frame
 pub mod Access

@@ -1,8 +1,6 @@
 // The accessors of textures on a map record, loaded or made by hand.
 ghost use mathlib.Core.Path.{_≡_};
 ghost use Prim.Native.Nat.{_≤_};
-ghost use Rattle.format.specs.Answer.{Answer};
-ghost use Rattle.format.specs.Step.{andThen};
 ghost use Rattle.records.specs.Access.{reading};
 ghost use Rattle.records.specs.Texinfo.{texinfoAnswer};
 ghost use Rattle.textures.specs.Frame.{fileNumber};
@@ -15,11 +13,10 @@ use crate::answer::FileNumber;
 use crate::answer::TextureAnswer;
 use crate::frame::find_frame;
 use crate::frame::find_static;
-use crate::group::check_groups;
 use crate::name::read_eight;
 use crate::number::texture_number;
 use crate::section::read_texture;
-use crate::section::read_textures;
+use crate::sound::is_sound;
 use format::field::ReadU32;
 use format::field::read_u32;
 use format::refusal::Refusal;
@@ -31,22 +28,6 @@ use records::texinfo::BspTexInfo;
 use records::texinfo::TexInfoAnswer;
 use records::texinfo::texinfo;
 use sections::position::Position;
-
-// Whether the section reads as it does on loading, its end position aside.
-pub fn is_sound(s: &[u8], base: u32, count: u32) -> bool
-    ensures { λ r. ⌜ r ≡ Access.soundAt (now (s .entry)) base count ⌝ }
-{
-    if 2097152 < count {
-        return false;
-    }
-    match read_textures(s, base, count) {
-        Position::Refused(_) => false,
-        Position::At(_) => match check_groups(s, base, count) {
-            Position::Refused(_) => false,
-            Position::At(_) => true,
-        },
-    }
-}
 
 // The static texture of a new number.
 pub fn static_texture(file: &[u8], map: BspData, number: u64) -> FileNumber

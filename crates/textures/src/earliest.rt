@@ -1,5 +1,6 @@
 // The first texture with the stem of each texture, for all textures at once. A table of stems is filled with those of a part of the textures
-// at a time, and all textures from there on are looked up in it, so that the time grows with the textures and the parts.
+// at a time, and all textures from there on are looked up in it, so that the time grows with the textures and the parts. A sieve spares most
+// of the searches for stems of other parts.
 ghost use mathlib.Core.Path.{_≡_};
 ghost use Prim.Native.Nat.{_≤_, _<_, _+_, _*_};
 ghost use lib.ListN.{length, replicate};
@@ -10,17 +11,19 @@ ghost use Rattle.textures.specs.Section.{namesOf};
 ghost use Rattle.textures.specs.Frame.{listLength};
 ghost use Rattle.textures.specs.Access.{earliestTextures};
 ghost use Rattle.textures.specs.Kind.{passing, starts, ends};
+ghost use Rattle.textures.specs.Sieve.{Sieved};
 ghost use Rattle.textures.specs.Table as Tab;
 ghost use Rattle.textures.specs.declared.kind.Kind.the-variants as Of;
-use crate::access::is_sound;
 use crate::answer::TextureList;
 use crate::group::fill;
 use crate::kind::Kind;
 use crate::kind::is_kind;
 use crate::kind::key_of;
+use crate::sieve::seek_sifted;
+use crate::sieve::sift_all;
+use crate::sound::is_sound_in;
 use crate::table::Located;
 use crate::table::clear;
-use crate::table::seek;
 use format::refusal::Refusal;
 use format::section::BspData;
 
@@ -42,9 +45,10 @@ fn look_up(
     index: u32,
     known: u32,
     t: &[u64],
+    sieve: &[u8],
     heads: &mut [u32],
 ) -> u32
-    requires { ⌜ Tab.Filled (passing (now s) base Of.Animated) (starts (now s) base) (ends (now s) base) (part .from) (part .to) (now t) (part .nodes) × ((part .nodes ≤ length (now heads)) × (Tab.Heads (passing (now s) base Of.Animated) (starts (now s) base) (ends (now s) base) (now t) (part .nodes) (part .from) (now heads) index × ((part .from ≤ index) × ((part .from ≤ part .to) × ((index < 2097152) × (known ≡ Tab.knownOf (passing (now s) base Of.Animated) (starts (now s) base) (ends (now s) base) (part .from) index)))))) ⌝ }
+    requires { ⌜ Tab.Filled (passing (now s) base Of.Animated) (starts (now s) base) (ends (now s) base) (part .from) (part .to) (now t) (part .nodes) × ((part .nodes ≤ length (now heads)) × (Tab.Heads (passing (now s) base Of.Animated) (starts (now s) base) (ends (now s) base) (now t) (part .nodes) (part .from) (now heads) index × ((part .from ≤ index) × ((part .from ≤ part .to) × ((index < 2097152) × ((known ≡ Tab.knownOf (passing (now s) base Of.Animated) (starts (now s) base) (ends (now s) base) (part .from) index) × (Sieved (now t) (part .nodes) (now sieve) × (part .nodes ≤ 4611686018427387904)))))))) ⌝ }
     ensures { λ r. ⌜ (r ≡ Tab.knownOf (passing (now (s .entry)) base Of.Animated) (starts (now (s .entry)) base) (ends (now (s .entry)) base) (part .to) index) × Tab.Heads (passing (now (s .entry)) base Of.Animated) (starts (now (s .entry)) base) (ends (now (s .entry)) base) (now (t .entry)) (part .nodes) (part .from) (now (heads .exit)) (index + 1) ⌝ }
 {
     if known != NONE {
@@ -52,7 +56,7 @@ fn look_up(
     }
     let key = key_of(s, base, index);
     if is_kind(Kind::Animated, key) {
-        match seek(t, key.stem_start, key.stem_end) {
+        match seek_sifted(t, part.nodes, sieve, key.stem_start, key.stem_end) {
             Located::Free(_) => NONE,
             Located::Deep => NONE,
             Located::At(v) => {
@@ -76,16 +80,17 @@ fn look_up_all(
     count: u32,
     part: Part,
     t: &[u64],
+    sieve: &[u8],
     heads: &mut [u32],
     list: &mut [u32],
 )
-    requires { ⌜ Tab.Filled (passing (now s) base Of.Animated) (starts (now s) base) (ends (now s) base) (part .from) (part .to) (now t) (part .nodes) × ((part .nodes ≤ length (now heads)) × ((now heads ≡ replicate (length (now heads)) 4294967295) × ((part .from ≤ part .to) × ((part .to ≤ count) × ((count ≤ 2097152) × ((length (now list) ≡ count) × Tab.Known (passing (now s) base Of.Animated) (starts (now s) base) (ends (now s) base) count (part .from) (now list))))))) ⌝ }
+    requires { ⌜ Tab.Filled (passing (now s) base Of.Animated) (starts (now s) base) (ends (now s) base) (part .from) (part .to) (now t) (part .nodes) × ((part .nodes ≤ length (now heads)) × ((now heads ≡ replicate (length (now heads)) 4294967295) × ((part .from ≤ part .to) × ((part .to ≤ count) × ((count ≤ 2097152) × ((length (now list) ≡ count) × (Tab.Known (passing (now s) base Of.Animated) (starts (now s) base) (ends (now s) base) count (part .from) (now list) × Sieved (now t) (part .nodes) (now sieve)))))))) ⌝ }
     ensures { λ _. ⌜ Tab.Known (passing (now (s .entry)) base Of.Animated) (starts (now (s .entry)) base) (ends (now (s .entry)) base) count (part .to) (now (list .exit)) ⌝ }
 {
     let mut i = part.from;
     while i < count {
         let known = list[i as usize];
-        let found = look_up(s, base, part, i, known, t, heads);
+        let found = look_up(s, base, part, i, known, t, sieve, heads);
         list[i as usize] = found;
         i = i + 1;
     }
@@ -102,12 +107,13 @@ fn forget(list: &mut [u32])
     }
 }
 
-// Part by part. The table and the nodes' textures are for the function's own use.
+// Part by part. The table, its sieve and the nodes' textures are for the function's own use.
 fn look_up_parts(
     s: &[u8],
     base: u32,
     count: u32,
     t: &mut [u64],
+    sieve: &mut [u8],
     heads: &mut [u32],
     list: &mut [u32],
 )
@@ -119,68 +125,115 @@ fn look_up_parts(
         clear(t);
         let filling = fill(s, base, Kind::Animated, from, count, t);
         let to = filling.to;
+        let nodes = filling.nodes;
         forget(heads);
+        sift_all(t, nodes, sieve);
         let part = Part {
             from: from,
             to: to,
-            nodes: filling.nodes,
+            nodes: nodes,
         };
-        look_up_all(s, base, count, part, t, heads, list);
+        look_up_all(s, base, count, part, t, sieve, heads, list);
         from = to;
     }
 }
 
-// With a small table, of 1,024 nodes.
-fn find_few(s: &[u8], base: u32, count: u32, list: &mut [u32])
-    requires { ⌜ (count ≤ 2097152) × ((length (now list) ≡ count) × Tab.Known (passing (now s) base Of.Animated) (starts (now s) base) (ends (now s) base) count 0 (now list)) ⌝ }
-    ensures { λ _. ⌜ Tab.Known (passing (now (s .entry)) base Of.Animated) (starts (now (s .entry)) base) (ends (now (s .entry)) base) count count (now (list .exit)) ⌝ }
-{
-    let mut t: [u64; 4096] = [0; 4096];
-    let mut heads: [u32; 1024] = [0; 1024];
-    look_up_parts(s, base, count, &mut t[..], &mut heads[..], list);
-}
-
-// With a large table, of 12,288 nodes: it lies on the stack while `is_sound` has its own, since the compiler makes one function of them, and both
-// together stay below 1 MiB.
-fn find_many(s: &[u8], base: u32, count: u32, list: &mut [u32])
-    requires { ⌜ (count ≤ 2097152) × ((length (now list) ≡ count) × Tab.Known (passing (now s) base Of.Animated) (starts (now s) base) (ends (now s) base) count 0 (now list)) ⌝ }
-    ensures { λ _. ⌜ Tab.Known (passing (now (s .entry)) base Of.Animated) (starts (now (s .entry)) base) (ends (now (s .entry)) base) count count (now (list .exit)) ⌝ }
-{
-    let mut t: [u64; 49152] = [0; 49152];
-    let mut heads: [u32; 12288] = [0; 12288];
-    look_up_parts(s, base, count, &mut t[..], &mut heads[..], list);
-}
-
 // The first texture with the stem of each texture of a section of so many.
-fn find_each(s: &[u8], base: u32, count: u32, list: &mut [u32])
-    requires { ⌜ (count ≤ 2097152) × (length (now list) ≡ count) ⌝ }
+fn find_each(
+    s: &[u8],
+    base: u32,
+    count: u32,
+    t: &mut [u64],
+    sieve: &mut [u8],
+    heads: &mut [u32],
+    list: &mut [u32],
+)
+    requires { ⌜ (8 ≤ length (now t)) × ((length (now t) ≡ 4 * length (now heads)) × ((count ≤ 2097152) × (length (now list) ≡ count))) ⌝ }
     ensures { λ _. ⌜ now (list .exit) ≡ each (earliestBy (namesOf (now (s .entry)) base) count) count ⌝ }
 {
     forget(list);
-    if count < 1024 {
-        find_few(s, base, count, list);
-        return;
-    }
-    find_many(s, base, count, list);
+    look_up_parts(s, base, count, t, sieve, heads, list);
 }
 
 // For each texture of the map, by its number in the file, the first one with its stem, and 2^32 - 1 for a static one, which has none: at the
-// front of a lent list, whose other entries are kept. 23 where the section does not read, then 22; a refusal writes nothing.
-pub fn earliest_textures(file: &[u8], map: BspData, list: &mut [u32]) -> TextureList
+// front of a lent list, whose other entries are kept. 23 where the section does not read, then 22; a refusal writes nothing. The test that the
+// section reads and the search have the table in turn; all but the list is for the function's own use.
+fn list_earliest(
+    file: &[u8],
+    map: BspData,
+    t: &mut [u64],
+    marks: &mut [u8],
+    sieve: &mut [u8],
+    heads: &mut [u32],
+    list: &mut [u32],
+) -> TextureList
+    requires { ⌜ (8 ≤ length (now t)) × ((length (now t) ≡ 4 * length (now marks)) × (length (now t) ≡ 4 * length (now heads))) ⌝ }
     ensures { λ r. ⌜ listed (listLength r) (now (list .exit)) ≡ into (earliestTextures (now (file .entry)) map) (now (list .entry)) ⌝ }
 {
-    if is_sound(file, map.textures.offset, map.texture_count) {
+    let base = map.textures.offset;
+    if is_sound_in(file, base, map.texture_count, t, marks) {
         let count = map.texture_count as usize;
         if list.len() < count {
             return TextureList::Refused(Refusal::ListTooShort);
         }
         find_each(
             file,
-            map.textures.offset,
+            base,
             map.texture_count,
+            t,
+            sieve,
+            heads,
             &mut list[..count],
         );
         return TextureList::Length(map.texture_count);
     }
     TextureList::Refused(Refusal::Unreadable)
+}
+
+// With a small table, of 1,024 nodes.
+fn list_few(file: &[u8], map: BspData, list: &mut [u32]) -> TextureList
+    ensures { λ r. ⌜ listed (listLength r) (now (list .exit)) ≡ into (earliestTextures (now (file .entry)) map) (now (list .entry)) ⌝ }
+{
+    let mut t: [u64; 4096] = [0; 4096];
+    let mut marks: [u8; 1024] = [0; 1024];
+    let mut sieve: [u8; 1024] = [0; 1024];
+    let mut heads: [u32; 1024] = [0; 1024];
+    list_earliest(
+        file,
+        map,
+        &mut t[..],
+        &mut marks[..],
+        &mut sieve[..],
+        &mut heads[..],
+        list,
+    )
+}
+
+// With a large table, of 22,528 nodes: with the rest it stays below 1 MiB.
+fn list_many(file: &[u8], map: BspData, list: &mut [u32]) -> TextureList
+    ensures { λ r. ⌜ listed (listLength r) (now (list .exit)) ≡ into (earliestTextures (now (file .entry)) map) (now (list .entry)) ⌝ }
+{
+    let mut t: [u64; 90112] = [0; 90112];
+    let mut marks: [u8; 22528] = [0; 22528];
+    let mut sieve: [u8; 131072] = [0; 131072];
+    let mut heads: [u32; 22528] = [0; 22528];
+    list_earliest(
+        file,
+        map,
+        &mut t[..],
+        &mut marks[..],
+        &mut sieve[..],
+        &mut heads[..],
+        list,
+    )
+}
+
+// The same, with tables of its own.
+pub fn earliest_textures(file: &[u8], map: BspData, list: &mut [u32]) -> TextureList
+    ensures { λ r. ⌜ listed (listLength r) (now (list .exit)) ≡ into (earliestTextures (now (file .entry)) map) (now (list .entry)) ⌝ }
+{
+    if map.texture_count < 1024 {
+        return list_few(file, map, list);
+    }
+    list_many(file, map, list)
 }

@@ -146,24 +146,6 @@ fn has_lone(s: &[u8], base: u32, count: u32, t: &mut [u64], marks: &mut [u8]) ->
     false
 }
 
-// The same with a small table, of 1,024 nodes.
-fn has_lone_of_few(s: &[u8], base: u32, count: u32) -> bool
-    ensures { λ r. ⌜ r ≡ any (Tab.isLone (passing (now (s .entry)) base Of.Alternate) (passing (now (s .entry)) base Of.Primary) (starts (now (s .entry)) base) (ends (now (s .entry)) base) count) count ⌝ }
-{
-    let mut t: [u64; 4096] = [0; 4096];
-    let mut marks: [u8; 1024] = [0; 1024];
-    has_lone(s, base, count, &mut t[..], &mut marks[..])
-}
-
-// The same with a large table, of 16,384 nodes.
-fn has_lone_of_many(s: &[u8], base: u32, count: u32) -> bool
-    ensures { λ r. ⌜ r ≡ any (Tab.isLone (passing (now (s .entry)) base Of.Alternate) (passing (now (s .entry)) base Of.Primary) (starts (now (s .entry)) base) (ends (now (s .entry)) base) count) count ⌝ }
-{
-    let mut t: [u64; 65536] = [0; 65536];
-    let mut marks: [u8; 16384] = [0; 16384];
-    has_lone(s, base, count, &mut t[..], &mut marks[..])
-}
-
 // Whether the frame letter of an animated texture is missing or wrong.
 fn is_wrong(s: &[u8], base: u32, index: u32) -> bool
     ensures { λ r. ⌜ r ≡ isWrongKey (keyOf (now (s .entry)) base index) ⌝ }
@@ -194,21 +176,45 @@ fn has_wrong(s: &[u8], base: u32, count: u32) -> bool
     false
 }
 
-// The frame letters of all textures, and then the alternate groups without a primary one.
-pub fn check_groups(s: &[u8], base: u32, count: u32) -> Position
+// The frame letters of all textures, and then the alternate groups without a primary one. The table and the marks are for the function's own
+// use.
+pub fn check_groups_in(s: &[u8], base: u32, count: u32, t: &mut [u64], marks: &mut [u8]) -> Position
+    requires { ⌜ (8 ≤ length (now t)) × (length (now t) ≡ 4 * length (now marks)) ⌝ }
     ensures { λ r. ⌜ positionStep r ≡ sequenced (namesOf (now (s .entry)) base) count ⌝ }
 {
     if has_wrong(s, base, count) {
         return Position::Refused(Refusal::InvalidFrame);
     }
-    if count < 1024 {
-        if has_lone_of_few(s, base, count) {
-            return Position::Refused(Refusal::NoPrimaryFrames);
-        }
-        return Position::At(0);
-    }
-    if has_lone_of_many(s, base, count) {
+    if has_lone(s, base, count, t, marks) {
         return Position::Refused(Refusal::NoPrimaryFrames);
     }
     Position::At(0)
+}
+
+// With a small table, of 1,024 nodes.
+fn check_few(s: &[u8], base: u32, count: u32) -> Position
+    ensures { λ r. ⌜ positionStep r ≡ sequenced (namesOf (now (s .entry)) base) count ⌝ }
+{
+    let mut t: [u64; 4096] = [0; 4096];
+    let mut marks: [u8; 1024] = [0; 1024];
+    check_groups_in(s, base, count, &mut t[..], &mut marks[..])
+}
+
+// With a large table, of 16,384 nodes.
+fn check_many(s: &[u8], base: u32, count: u32) -> Position
+    ensures { λ r. ⌜ positionStep r ≡ sequenced (namesOf (now (s .entry)) base) count ⌝ }
+{
+    let mut t: [u64; 65536] = [0; 65536];
+    let mut marks: [u8; 16384] = [0; 16384];
+    check_groups_in(s, base, count, &mut t[..], &mut marks[..])
+}
+
+// With a table of its own.
+pub fn check_groups(s: &[u8], base: u32, count: u32) -> Position
+    ensures { λ r. ⌜ positionStep r ≡ sequenced (namesOf (now (s .entry)) base) count ⌝ }
+{
+    if count < 1024 {
+        return check_few(s, base, count);
+    }
+    check_many(s, base, count)
 }

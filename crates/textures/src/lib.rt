@@ -9,4 +9,6 @@ pub mod load;
 mod name;
 mod number;
 mod section;
+mod sieve;
+mod sound;
 mod table;
