@@ -9,13 +9,13 @@ use borrow.Author.Tests.{eqb-true, eqb-false, ne-eqb, lt-ltb, le-ltb}
 use lib.Dec.{eqb}
 use lib.ListN.{length, getD, set, length-set}
 use lib.Seq.{getD-set-same, getD-set-other}
-use Rattle.textures.specs.Table.{holds, seek, Table}
+use Rattle.textures.specs.Table.{holds, seek, Table, Marked}
 use Rattle.textures.specs.Sieve.{placeOf, mayHave, Sifted, Sieved, SameNode}
 use Rattle.textures.specs.declared.name.Key.{Key}
 use Rattle.textures.specs.declared.table.Located.{Located}
-use Rattle.textures.specs.declared.table.Located.the-variants.{At, Deep}
-use Rattle.textures.proofs.Tables.{true-false, found-node, deep-at}
-use Rattle.textures.proofs.Marks.{and-left, and-right}
+use Rattle.textures.specs.declared.table.Located.the-variants.{At, Free, Deep}
+use Rattle.textures.proofs.Tables.{true-false, found-node, free-at, deep-at}
+use Rattle.textures.proofs.Marks.{and-left, and-right, mark-miss, mark-hit}
 
 module _ (sieve : List ℕ) (a b place : ℕ) (is : place ≡ placeOf a b) where
   -- the answer where the sieve has no such place, and where it has it
@@ -79,3 +79,18 @@ not-sieved t w sieve a b table sieved none = (λ v e. deep-at v e, at)
 
 pub sought-sifted : (key of : Key) → key ≡ of → (t : List ℕ) (l : Located) → SameNode l (seek t (key .«stem_start») (key .«stem_end») 145 0 0) → SameNode l (seek t (of .«stem_start») (of .«stem_end») 145 0 0)
 sought-sifted key of is-key t l e = rw (← is-key) e
+
+-- a node is marked by the search by the sieve
+module _ (p : ℕ → Bool) (ka kb : ℕ → ℕ) (t : List ℕ) (w : ℕ) (table : Table t w) (marks : List ℕ) (j : ℕ) (marked : Marked p ka kb t w marks j) (l : Located)
+    (is : SameNode l (seek t (ka j) (kb j) 145 0 0)) where
+  pub sifted-free : (f : ℕ) → l ≡ Free f → Marked p ka kb t w marks (j + 1)
+  sifted-free f e = mark-miss p ka kb t w table marks j marked (λ v q. free-at f v (sym e ∙ is .1 v q))
+
+  pub sifted-deep : l ≡ Deep → Marked p ka kb t w marks (j + 1)
+  sifted-deep e = mark-miss p ka kb t w table marks j marked (λ v q. deep-at v (sym e ∙ is .1 v q))
+
+  pub sifted-at : (u : ℕ) → p j ≡ true → l ≡ At u → w ≤ length marks → Marked p ka kb t w (set marks u 1) (j + 1)
+  sifted-at u h e k = mark-hit p ka kb t w table marks j marked u h (is .0 u e) k
+
+  pub sifted-inside : (u : ℕ) → l ≡ At u → u < w
+  sifted-inside u e = found-node t w (table .below) (ka j) (kb j) 145 0 0 u (table .some) (omega arith) (is .0 u e) .1 .0

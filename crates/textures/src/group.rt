@@ -100,7 +100,7 @@ fn mark_one(s: &[u8], base: u32, kind: Kind, index: u32, t: &[u64], nodes: usize
 }
 
 // Marks the nodes with the stems of all textures of a kind, and no other.
-pub fn mark(s: &[u8], base: u32, kind: Kind, count: u32, t: &[u64], nodes: usize, marks: &mut [u8])
+fn mark(s: &[u8], base: u32, kind: Kind, count: u32, t: &[u64], nodes: usize, marks: &mut [u8])
     requires { ⌜ Tab.Table (now t) nodes × ((nodes ≤ length (now marks)) × (now marks ≡ replicate (length (now marks)) 0)) ⌝ }
     ensures { λ _. ⌜ Tab.Marked (passing (now (s .entry)) base kind) (starts (now (s .entry)) base) (ends (now (s .entry)) base) (now (t .entry)) nodes (now (marks .exit)) count ⌝ }
 {

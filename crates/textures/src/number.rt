@@ -9,13 +9,15 @@ ghost use Rattle.textures.specs.Count.{count, lowest};
 ghost use Rattle.textures.specs.Group.{numberedBy};
 ghost use Rattle.textures.specs.Section.{namesOf};
 ghost use Rattle.textures.specs.Kind.{passing, starts, ends};
+ghost use Rattle.textures.specs.Sieve.{Sieved};
 ghost use Rattle.textures.specs.Table as Tab;
 ghost use Rattle.textures.specs.declared.kind.Kind.the-variants as Of;
 use crate::group::fill;
-use crate::group::mark;
 use crate::kind::Kind;
 use crate::kind::is_kind;
 use crate::kind::key_of;
+use crate::sieve::seek_sifted;
+use crate::sieve::sift_all;
 use crate::table::Located;
 use crate::table::clear;
 use crate::table::clear_marks;
@@ -43,6 +45,52 @@ pub fn count_static(s: &[u8], base: u32, upto: u32) -> u32
         i = i + 1;
     }
     n
+}
+
+// Marks the node with the stem of a texture, if the texture is animated.
+fn mark_stem(
+    s: &[u8],
+    base: u32,
+    index: u32,
+    t: &[u64],
+    nodes: usize,
+    sieve: &[u8],
+    marks: &mut [u8],
+)
+    requires { ⌜ Tab.Table (now t) nodes × ((nodes ≤ length (now marks)) × (Tab.Marked (passing (now s) base Of.Animated) (starts (now s) base) (ends (now s) base) (now t) nodes (now marks) index × Sieved (now t) nodes (now sieve))) ⌝ }
+    ensures { λ _. ⌜ Tab.Marked (passing (now (s .entry)) base Of.Animated) (starts (now (s .entry)) base) (ends (now (s .entry)) base) (now (t .entry)) nodes (now (marks .exit)) (index + 1) ⌝ }
+{
+    let key = key_of(s, base, index);
+    if is_kind(Kind::Animated, key) {
+        match seek_sifted(t, nodes, sieve, key.stem_start, key.stem_end) {
+            Located::Free(_) => {}
+            Located::Deep => {}
+            Located::At(v) => {
+                marks[v] = 1;
+            }
+        }
+    }
+}
+
+// Marks the nodes with the stems of the first animated textures, and no other. The sieve spares most searches, since most of these stems are
+// of other parts.
+fn mark_stems(
+    s: &[u8],
+    base: u32,
+    count: u32,
+    t: &[u64],
+    nodes: usize,
+    sieve: &[u8],
+    marks: &mut [u8],
+)
+    requires { ⌜ Tab.Table (now t) nodes × ((nodes ≤ length (now marks)) × ((now marks ≡ replicate (length (now marks)) 0) × Sieved (now t) nodes (now sieve))) ⌝ }
+    ensures { λ _. ⌜ Tab.Marked (passing (now (s .entry)) base Of.Animated) (starts (now (s .entry)) base) (ends (now (s .entry)) base) (now (t .entry)) nodes (now (marks .exit)) count ⌝ }
+{
+    let mut i: u32 = 0;
+    while i < count {
+        mark_stem(s, base, i, t, nodes, sieve, marks);
+        i = i + 1;
+    }
 }
 
 // 1 for the earliest texture with its stem. The table has the stem, and marks the stems of the textures before this one; this one's is marked too.
@@ -112,9 +160,17 @@ fn scan(
     Firsts { at: i, seen: seen }
 }
 
-// The earliest texture of the stem with k stems before it, of the first textures; their end if there is none. The table and the marks are for
-// the function's own use.
-fn find_first(s: &[u8], base: u32, upto: u32, k: u32, t: &mut [u64], marks: &mut [u8]) -> Firsts
+// The earliest texture of the stem with k stems before it, of the first textures; their end if there is none. The table, its sieve and the marks
+// are for the function's own use.
+fn find_first(
+    s: &[u8],
+    base: u32,
+    upto: u32,
+    k: u32,
+    t: &mut [u64],
+    sieve: &mut [u8],
+    marks: &mut [u8],
+) -> Firsts
     requires { ⌜ (8 ≤ length (now t)) × (length (now t) ≡ 4 * length (now marks)) ⌝ }
     ensures { λ r. ⌜ Tab.Reached (Tab.isEarliest (passing (now (s .entry)) base Of.Animated) (starts (now (s .entry)) base) (ends (now (s .entry)) base)) k upto (r .at) (r .seen) ⌝ }
 {
@@ -126,7 +182,8 @@ fn find_first(s: &[u8], base: u32, upto: u32, k: u32, t: &mut [u64], marks: &mut
         let nodes = filling.nodes;
         let to = filling.to;
         clear_marks(marks);
-        mark(s, base, Kind::Animated, from, t, nodes, marks);
+        sift_all(t, nodes, sieve);
+        mark_stems(s, base, from, t, nodes, sieve, marks);
         let part = scan(s, base, from, to, k, seen, t, nodes, marks);
         if part.at < to {
             return part;
@@ -173,8 +230,9 @@ fn find_first_of_few(s: &[u8], base: u32, upto: u32, k: u32) -> Firsts
     ensures { λ r. ⌜ Tab.Reached (Tab.isEarliest (passing (now (s .entry)) base Of.Animated) (starts (now (s .entry)) base) (ends (now (s .entry)) base)) k upto (r .at) (r .seen) ⌝ }
 {
     let mut t: [u64; 4096] = [0; 4096];
+    let mut sieve: [u8; 1024] = [0; 1024];
     let mut marks: [u8; 1024] = [0; 1024];
-    find_first(s, base, upto, k, &mut t[..], &mut marks[..])
+    find_first(s, base, upto, k, &mut t[..], &mut sieve[..], &mut marks[..])
 }
 
 // `find_first` with a large table, of 16,384 nodes.
@@ -182,8 +240,9 @@ fn find_first_of_many(s: &[u8], base: u32, upto: u32, k: u32) -> Firsts
     ensures { λ r. ⌜ Tab.Reached (Tab.isEarliest (passing (now (s .entry)) base Of.Animated) (starts (now (s .entry)) base) (ends (now (s .entry)) base)) k upto (r .at) (r .seen) ⌝ }
 {
     let mut t: [u64; 65536] = [0; 65536];
+    let mut sieve: [u8; 131072] = [0; 131072];
     let mut marks: [u8; 16384] = [0; 16384];
-    find_first(s, base, upto, k, &mut t[..], &mut marks[..])
+    find_first(s, base, upto, k, &mut t[..], &mut sieve[..], &mut marks[..])
 }
 
 // The earliest texture of the stem with k stems before it, of the first textures.
