@@ -12,9 +12,10 @@ use lib.Seq.{take-append-seam, drop-append-seam}
 use Rattle.format.specs.Answer.{Answer, answer, refused}
 use Rattle.format.specs.Listed.{Listed, listed, into}
 use Rattle.format.specs.declared.section.BspData.{BspData}
-use Rattle.textures.specs.Access.{isSound, namesIn, earliestTextures}
+use Rattle.textures.specs.Access.{isSound, namesIn}
 use Rattle.textures.specs.Count.{each}
-use Rattle.textures.specs.Group.{numberedBy, earliestBy}
+use Rattle.textures.specs.Group.{numberedBy}
+use Rattle.textures.specs.Private.{earliestBy, earliestTextures}
 use Rattle.textures.proofs.Accesses.{few-textures}
 use Rattle.textures.proofs.Leads.{each-length}
 use Rattle.texture_numbers.specs.Numbers.{textureNumbers}

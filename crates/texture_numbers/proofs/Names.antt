@@ -9,7 +9,8 @@ use borrow.Author.Tests.{eqb-true, eq-eqb, ne-eqb, ltb-true, ltb-false}
 use lib.Dec.{eqb, ltb}
 use lib.ListN.{length, getD}
 use Rattle.textures.specs.Count.{any, count, lowest, each}
-use Rattle.textures.specs.Group.{alike, isStatic, isFirst, numberedBy, earliestBy}
+use Rattle.textures.specs.Group.{alike, isStatic, isFirst, numberedBy}
+use Rattle.textures.specs.Private.{earliestBy}
 use Rattle.textures.specs.Name.{isAnimated, stemOf, same}
 use Rattle.textures.proofs.Tables.{true-false}
 use Rattle.textures.proofs.Marks.{any-below, any-at, any-same, and-left, and-right}

@@ -15,9 +15,9 @@ use Rattle.format.specs.Answer.{answer, refused, mapped}
 use Rattle.format.specs.Listed.{listed, into}
 use Rattle.format.specs.Step.{when}
 use Rattle.format.specs.declared.section.BspData.{BspData}
-use Rattle.textures.specs.Access.{isSound, earliestTextures, namesIn}
+use Rattle.textures.specs.Access.{isSound, namesIn}
 use Rattle.textures.specs.Count.{any, lowest, each}
-use Rattle.textures.specs.Group.{earliestBy}
+use Rattle.textures.specs.Private.{earliestBy, earliestTextures}
 use Rattle.textures.specs.Kind.{passing, starts, ends}
 use Rattle.textures.specs.Section.{namesOf}
 use Rattle.textures.specs.Table.{holds, seek, Filled, hits, earliestOf, isLike, knownOf, Known, KnownTo, Heads}

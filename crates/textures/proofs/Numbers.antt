@@ -9,7 +9,6 @@ use borrow.Author.Tests.{eq-eqb, ne-eqb, ltb-true, ltb-false, lt-ltb, le-ltb}
 use lib.Dec.{eqb, ltb}
 use lib.ListN.{getD}
 use Rattle.format.specs.Answer.{answer, refused}
-use Rattle.format.specs.Step.{when}
 use Rattle.textures.specs.Name.{isAnimated}
 use Rattle.textures.specs.Count.{any, count, lowest, nth}
 use Rattle.textures.specs.Group.{alike, isStatic, isFirst, numberedBy, staticBy}

@@ -19,8 +19,7 @@ use Rattle.records.specs.declared.number.OptionalOffset.{OptionalOffset}
 use Rattle.records.specs.declared.number.OptionalOffset.the-variants.{None, Some}
 use Rattle.records.specs.declared.texinfo.BspTexInfo.{BspTexInfo}
 use Rattle.textures.specs.Name.{nameAt, isPrimary, isAlternate}
-use Rattle.textures.specs.Count.{each}
-use Rattle.textures.specs.Group.{sequenced, numberedBy, earliestBy, staticBy, frameBy}
+use Rattle.textures.specs.Group.{sequenced, numberedBy, staticBy, frameBy}
 use Rattle.textures.specs.Section.{textureAt, texturesAt, namesOf}
 use Rattle.textures.specs.declared.answer.BspTexture.{BspTexture}
 use Rattle.textures.specs.declared.answer.TextureAnswer.{TextureAnswer}
@@ -57,10 +56,6 @@ frameTexture s m number group place =
 -- the number in the file of the static texture of a new number
 unfoldable pub staticTexture : List ℕ → BspData → ℕ → Answer ℕ
 staticTexture s m number = ofSound s m (staticBy (namesIn s m) (m .«texture_count») number)
-
--- for every texture, by its number in the file, the first one with its stem
-unfoldable pub earliestTextures : List ℕ → BspData → Answer (List ℕ)
-earliestTextures s m = ofSound s m (answer (each (earliestBy (namesIn s m) (m .«texture_count»)) (m .«texture_count»)))
 
 -- ---- texture infos
 

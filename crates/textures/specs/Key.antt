@@ -1,4 +1,4 @@
--- A name as the code holds it: its first byte, its frame, and the 14 bytes of its stem in two numbers.
+-- For private contracts alone: a name as the code holds it: its first byte, its frame, and the 14 bytes of its stem in two numbers.
 use Prim.Native.Nat.{ℕ, _+_, _*_}
 use mathlib.Core.List.{List}
 use Rattle.textures.specs.Name.{charAt}

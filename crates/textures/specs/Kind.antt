@@ -1,4 +1,4 @@
--- The kinds of textures that a search asks for, by names and by keys.
+-- For private contracts alone: the kinds of textures that a search asks for, by names and by keys.
 use Prim.Native.Nat.{ℕ, _+_, _*_}
 use mathlib.Core.Bool.{Bool, not, _&&_, _||_}
 use mathlib.Core.List.{List}

@@ -9,3 +9,4 @@ pub mod Table
 pub mod Sieve
 pub mod Frame
 pub mod Access
+pub mod Private

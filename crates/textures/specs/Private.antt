@@ -1,0 +1,18 @@
+-- Not for a reader of the public calls: what `earliest_textures` answers, from which `texture_numbers` works out the new numbers.
+use Prim.Native.Nat.{ℕ}
+use mathlib.Core.Bool.{cond}
+use mathlib.Core.List.{List}
+use Rattle.format.specs.Answer.{Answer, answer}
+use Rattle.format.specs.declared.section.BspData.{BspData}
+use Rattle.textures.specs.Access.{namesIn, ofSound}
+use Rattle.textures.specs.Count.{lowest, each}
+use Rattle.textures.specs.Group.{alike}
+use Rattle.textures.specs.Name.{isAnimated}
+
+-- the first texture with the stem of texture i; 2^32 - 1 for a static texture, which has none
+unfoldable pub earliestBy : (ℕ → List ℕ) → ℕ → ℕ → ℕ
+earliestBy name n i = cond (isAnimated (name i)) (lowest (alike isAnimated name i) n) 4294967295
+
+-- for every texture, by its number in the file, the first one with its stem
+unfoldable pub earliestTextures : List ℕ → BspData → Answer (List ℕ)
+earliestTextures s m = ofSound s m (answer (each (earliestBy (namesIn s m) (m .«texture_count»)) (m .«texture_count»)))
