@@ -23,11 +23,12 @@ use nodes::walking::look_in;
 use nodes::walking::point_of;
 use records::plane::PlaneAnswer;
 
-// What a line goes through: the tables, whether the file has all of their nodes and planes, and the root.
+// What a line goes through: the root, the tables, and whether the file has all of their nodes and planes. The root stands first: behind the
+// one byte of `whole` it would be copied by moves that wait for narrower ones.
 pub struct Ground {
+    pub root: usize,
     pub t: Tables,
     pub whole: bool,
-    pub root: usize,
 }
 
 // A node's words, and how far two points are from its plane, from any table, record by record.
