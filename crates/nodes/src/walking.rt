@@ -269,7 +269,7 @@ pub fn point_of(p: &[f32; 3]) -> Vector3
     }
 }
 
-// The same for a whole-line trace, which has readers of its own (docs/DECISIONS.md 64).
+// What `segment_in` says, for a whole-line trace, which has readers of its own (docs/DECISIONS.md 64, 102).
 fn ends_at(
     nodes: &[u8],
     planes: &[u8],
