@@ -235,13 +235,14 @@ fn find_first_of_few(s: &[u8], base: u32, upto: u32, k: u32) -> Firsts
     find_first(s, base, upto, k, &mut t[..], &mut sieve[..], &mut marks[..])
 }
 
-// `find_first` with a large table, of 16,384 nodes.
+// `find_first` with a large table, of 10,240 nodes: it may lie on the stack together with that of the test that the section reads, and both
+// stay below 1 MiB.
 fn find_first_of_many(s: &[u8], base: u32, upto: u32, k: u32) -> Firsts
     ensures { λ r. ⌜ Tab.Reached (Tab.isEarliest (passing (now (s .entry)) base Of.Animated) (starts (now (s .entry)) base) (ends (now (s .entry)) base)) k upto (r .at) (r .seen) ⌝ }
 {
-    let mut t: [u64; 65536] = [0; 65536];
+    let mut t: [u64; 40960] = [0; 40960];
     let mut sieve: [u8; 131072] = [0; 131072];
-    let mut marks: [u8; 16384] = [0; 16384];
+    let mut marks: [u8; 10240] = [0; 10240];
     find_first(s, base, upto, k, &mut t[..], &mut sieve[..], &mut marks[..])
 }
 
