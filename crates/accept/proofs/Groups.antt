@@ -1,7 +1,7 @@
 -- A row is whole exactly if the groups from its offset to the end of the data stand for all leaves; the notes of these groups. Assumes nothing.
 use Prim.Native.Nat.{ℕ, zero, suc, _+_, _-_, _*_, _/_, _%_, _<_, _≤_}
 use mathlib.Core.Path.{_≡_, refl, sym, ap, _∙_}
-use mathlib.Core.Bool.{Bool, true, false}
+use mathlib.Core.Bool.{Bool, true, false, cond}
 use mathlib.Core.List.{List, [], _∷_, _++_}
 use native.Mathlib.Decide.{ℕ-discrete}
 use native.Mathlib.Numerals.{add-one}
@@ -11,7 +11,6 @@ use lib.Dec.{ltb}
 use lib.ListN.{length, take, drop, getD, set, replicate, length-take, length-set, drop-of-length-le, List·getD-eq-default}
 use lib.Seq.{drop-cons, getD-set-same, getD-set-other}
 use Rattle.format.specs.Answer.{Answer, answer, refused}
-use Rattle.format.specs.Step.{when}
 use Rattle.format.specs.Section.{withinLimit}
 use Rattle.format.specs.declared.section.BspFileSection.{BspFileSection}
 use Rattle.format.specs.declared.section.BspFileSectionId.the-variants.{Visibility}
@@ -25,7 +24,7 @@ use Rattle.accept.specs.Fast.{groups, groupsBy, noteOf, withNote, NotedF
 abbrev Whole : Answer (List Bool) → Type 0
 Whole a = (l : List Bool) × (a ≡ answer l)
 
-whole-when : (b : Bool) (xs : List Bool) (a : Answer (List Bool)) → Whole a → Whole (when b (before xs a) (answer []))
+whole-when : (b : Bool) (xs : List Bool) (a : Answer (List Bool)) → Whole a → Whole (cond b (before xs a) (answer []))
 whole-when true xs a p = (xs ++ p .0, rw (p .1))
 whole-when false xs a p = ([], refl)
 
@@ -136,21 +135,21 @@ pub put : (v notes : List ℕ) (at n : ℕ) → length notes ≡ 32768 → at < 
 unfolding withNote
 put v notes at n l h e f k low in-v first = by (ℕ-discrete k at)
   where
-    here : k ≡ at → getD (when (ltb (at % 64) 2) (set notes (noteOf at) n) notes) (noteOf k) 0 ≡ groups (drop k v)
+    here : k ≡ at → getD (cond (ltb (at % 64) 2) (set notes (noteOf at) n) notes) (noteOf k) 0 ≡ groups (drop k v)
     here q =
         let t : at % 64 < 2 = omega arith in
         let i : noteOf at < length notes = omega arith in
         rw (q, lt-ltb (at % 64) 2 t, getD-set-same notes (noteOf at) n 0 i) e
 
-    later : (b : Bool) → (noteOf k ≡ noteOf at → ⊥) → getD notes (noteOf k) 0 ≡ groups (drop k v) → getD (when b (set notes (noteOf at) n) notes) (noteOf k) 0 ≡ groups (drop k v)
+    later : (b : Bool) → (noteOf k ≡ noteOf at → ⊥) → getD notes (noteOf k) 0 ≡ groups (drop k v) → getD (cond b (set notes (noteOf at) n) notes) (noteOf k) 0 ≡ groups (drop k v)
     later true d g = getD-set-other notes (noteOf at) (noteOf k) n 0 d ∙ g
     later false d g = g
 
-    by : Dec (k ≡ at) → getD (when (ltb (at % 64) 2) (set notes (noteOf at) n) notes) (noteOf k) 0 ≡ groups (drop k v)
+    by : Dec (k ≡ at) → getD (cond (ltb (at % 64) 2) (set notes (noteOf at) n) notes) (noteOf k) 0 ≡ groups (drop k v)
     by (yes q) = here q
     by (no d) = other (ltb (at % 64) 2) refl
       where
-        other : (b : Bool) → ltb (at % 64) 2 ≡ b → getD (when b (set notes (noteOf at) n) notes) (noteOf k) 0 ≡ groups (drop k v)
+        other : (b : Bool) → ltb (at % 64) 2 ≡ b → getD (cond b (set notes (noteOf at) n) notes) (noteOf k) 0 ≡ groups (drop k v)
         other true t = let u : at % 64 < 2 = ltb-true (at % 64) 2 t in later true (λ q. d (omega arith)) (f k (omega arith) in-v first)
         other false t = f k (omega arith) in-v first
 
@@ -166,7 +165,7 @@ as-long : (at n : ℕ) (notes : List ℕ) → length (withNote at n notes) ≡ l
 unfolding withNote
 as-long at n notes = by (ltb (at % 64) 2)
   where
-    by : (b : Bool) → length (when b (set notes (noteOf at) n) notes) ≡ length notes
+    by : (b : Bool) → length (cond b (set notes (noteOf at) n) notes) ≡ length notes
     by true = length-set notes (noteOf at) n
     by false = refl
 

@@ -1,14 +1,14 @@
 -- The row of a leaf: one law for each way through `check_row`. What a leaf's record is refused with is not 33. Assumes nothing.
 use Prim.Native.Nat.{ℕ, _+_, _*_, _<_}
 use mathlib.Core.Path.{_≡_, refl, sym, ap, _∙_}
-use mathlib.Core.Bool.{Bool, true, false}
+use mathlib.Core.Bool.{Bool, true, false, cond}
 use mathlib.Core.List.{List}
 use native.Mathlib.Omega.{arith}
 use lib.Dec.{eqb, leb}
 use lib.ListN.{length}
 use Rattle.format.specs.Answer.{Answer, answer, refused}
 use Rattle.format.specs.Step as Step
-use Rattle.format.specs.Step.{Step, when}
+use Rattle.format.specs.Step.{Step}
 use Rattle.format.specs.Section.{recordCount, withinLimit, elementSize, place}
 use Rattle.format.specs.declared.section.BspData.{BspData}
 use Rattle.format.specs.declared.section.BspFileSection.{BspFileSection}
@@ -38,7 +38,7 @@ other-place : (z : BspFileSection) (n i : ℕ) → Other (place Leaves z n i)
 unfolding place
 other-place z n i = by (leb (recordCount Leaves z) i) (withinLimit Leaves (recordCount Leaves z)) (leb (z .offset + i * elementSize Leaves + elementSize Leaves) n) (z .offset + i * elementSize Leaves)
   where
-    by : (a b c : Bool) (x : ℕ) → Other (when a (refused 20) (when b (when c (answer x) (refused 23)) (refused 23)))
+    by : (a b c : Bool) (x : ℕ) → Other (cond a (refused 20) (cond b (cond c (answer x) (refused 23)) (refused 23)))
     by true b c x = refl
     by false true true x = tt
     by false true false x = refl

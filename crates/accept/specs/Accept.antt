@@ -7,12 +7,12 @@
 -- A record is read by the accessors' definitions when a check needs it; what an index leads to is not read unless a later check needs it (of a plane, a
 -- texture info and a vertex only the number is looked at, and of the texture section nothing).
 use Prim.Native.Nat.{ℕ, zero, suc, _+_, _-_, max}
+use mathlib.Core.Bool.{cond}
 use mathlib.Core.List.{List, _++_}
 use lib.Dec.{ltb, eqb}
 use lib.ListN.{length, replicate, drop}
 use Rattle.format.specs.Answer.{Answer, answer, refused, mapped, thenAnswer}
 use Rattle.format.specs.Refusal.{numberOf}
-use Rattle.format.specs.Step.{when}
 use Rattle.format.specs.Section.{recordCount}
 use Rattle.format.specs.declared.section.BspData.{BspData}
 use Rattle.format.specs.declared.section.BspFileSectionId.the-variants.{Planes, Vertices, RenderNodes, TextureInfo, Faces, CollisionNodes, Leaves, FaceList, Edges, EdgeList, Models}
@@ -50,16 +50,16 @@ each one (suc n) i = also (one i) (each one n (i + 1))
 
 -- a reference into a table of n records
 unfoldable pub inside : ℕ → ℕ → Check
-inside i n = when (ltb i n) passes (refused 35)
+inside i n = cond (ltb i n) passes (refused 35)
 
 -- a range: start plus count at most the table's size
 unfoldable pub within : ℕ → ℕ → ℕ → Check
-within first count n = when (ltb n (first + count)) (refused 35) passes
+within first count n = cond (ltb n (first + count)) (refused 35) passes
 
 -- "a row that gets 33" is 35
 abbrev pub wholeRow : Answer (List ℕ) → Check
 wholeRow (answer leaves) = passes
-wholeRow (refused n) = when (eqb n 33) (refused 35) (refused n)
+wholeRow (refused n) = cond (eqb n 33) (refused 35) (refused n)
 
 module _ (s : List ℕ) (m : BspData) where
   -- "each edge with its two vertices": the vertices, the edge of a number, and entry i of the list of edges
@@ -153,7 +153,7 @@ judged a ms = record { answered = a; marks = ms }
 -- 22 first, with the marks untouched. Otherwise, refused or not, the first marks are zero afterwards, and later ones are kept.
 unfoldable pub accept : List ℕ → BspData → List ℕ → Judged
 accept s m ms =
-    when (ltb (length ms) (marksFor m))
+    cond (ltb (length ms) (marksFor m))
     (judged (refused 22) ms)
     (judged (acceptOf s m) (replicate (marksFor m) 0 ++ drop (marksFor m) ms))
 

@@ -2,10 +2,10 @@
 use Prim.Native.Nat.{ℕ, zero, suc, _+_, _*_, _/_, _%_, _<_, _≤_}
 use mathlib.Core.List.{List, [], _∷_}
 use mathlib.Core.Path.{_≡_}
+use mathlib.Core.Bool.{cond}
 use lib.Dec.{ltb}
 use lib.ListN.{length, getD, set, drop}
 use Rattle.format.specs.Answer.{answer}
-use Rattle.format.specs.Step.{when}
 use Rattle.format.specs.declared.section.BspData.{BspData}
 use Rattle.format.specs.declared.section.BspFileSection.{BspFileSection}
 use Rattle.vis.specs.Pvs.{visibilityOf}
@@ -39,7 +39,7 @@ abbrev pub noteOf : ℕ → ℕ
 noteOf at = at / 64 * 2 + at % 64
 
 unfoldable pub withNote : ℕ → ℕ → List ℕ → List ℕ
-withNote at n notes = when (ltb (at % 64) 2) (set notes (noteOf at) n) notes
+withNote at n notes = cond (ltb (at % 64) 2) (set notes (noteOf at) n) notes
 
 -- every note is there, from a position on or from the first on
 abbrev pub NotedFrom : ℕ → List ℕ → List ℕ → Type 0

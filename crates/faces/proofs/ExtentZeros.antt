@@ -3,14 +3,13 @@
 -- Assumes nothing.
 use Prim.Native.Nat.{ℕ, zero, suc, _+_}
 use mathlib.Core.Path.{_≡_, refl, ap}
-use mathlib.Core.Bool.{Bool, true, false}
+use mathlib.Core.Bool.{Bool, true, false, cond}
 use mathlib.Core.List.{List}
 use lib.Dec.{ltb}
 use lib.Ieee.{Float, binary32, add}
 use Rattle.float.specs.Whole.{minimum, maximum, times16}
 use Rattle.math.specs.Vector.{dot}
 use Rattle.math.specs.declared.Vector3.{Vector3}
-use Rattle.format.specs.Step.{when}
 use Rattle.format.specs.Answer.{Answer, answer, refused, thenAnswer}
 use Rattle.format.specs.Section.{recordCount}
 use Rattle.format.specs.declared.section.BspData.{BspData}
@@ -65,7 +64,7 @@ module _ (lesser greater : Float → Float → Float) where
 
   unfoldable pub spanOfBy : List ℕ → BspData → BspTexInfo → ℕ → ℕ → Answer Span
   spanOfBy s m info first count =
-      when (ltb (recordCount EdgeList (m .edgelist)) (first + count)) (refused 23)
+      cond (ltb (recordCount EdgeList (m .edgelist)) (first + count)) (refused 23)
       (spanOverBy s m info count first unbounded)
 
   unfoldable pub surfaceOfBy : List ℕ → BspData → BspFace → Answer Surface
@@ -108,7 +107,7 @@ module _ (lesser greater : Float → Float → Float)
   unfolding spanOfBy spanOf
   of-alike s m info first count = by (ltb (recordCount EdgeList (m .edgelist)) (first + count))
     where
-      by : (t : Bool) → AlikeAnswer (when t (refused 23) (spanOverBy lesser greater s m info count first unbounded)) (when t (refused 23) (spanOver s m info count first unbounded))
+      by : (t : Bool) → AlikeAnswer (cond t (refused 23) (spanOverBy lesser greater s m info count first unbounded)) (cond t (refused 23) (spanOver s m info count first unbounded))
       by true = refusals
       by false = over-alike s m info count first unbounded unbounded (alike-itself unbounded)
 

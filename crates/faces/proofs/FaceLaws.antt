@@ -3,11 +3,10 @@
 -- Assumes nothing.
 use Prim.Native.Nat.{ℕ, zero, suc, _+_, _≤_}
 use mathlib.Core.Path.{_≡_, refl}
-use mathlib.Core.Bool.{Bool, true, false}
+use mathlib.Core.Bool.{Bool, true, false, cond}
 use mathlib.Core.List.{List}
 use native.Mathlib.Omega.{arith}
 use lib.Dec.{ltb}
-use Rattle.format.specs.Step.{when}
 use Rattle.format.specs.Answer.{Answer, answer, refused, thenAnswer}
 use Rattle.format.specs.Field.{indexAt}
 use Rattle.format.specs.Section.{recordCount}
@@ -66,7 +65,7 @@ only-then : {A B : Type 0} (a : Answer A) (k : A → Answer B) → Only23 a → 
 only-then (answer v) k f h = h v
 only-then (refused n) k f h = λ j e. let z : _≡_ {A = ℕ} n j = cc in let w : n ≡ 23 = f n refl in omega (arith, z, w)
 
-only-when : {A : Type 0} (b : Bool) (a : Answer A) → Only23 a → Only23 (when b (refused 23) a)
+only-when : {A : Type 0} (b : Bool) (a : Answer A) → Only23 a → Only23 (cond b (refused 23) a)
 only-when true a h = only-refused
 only-when false a h = h
 

@@ -1,7 +1,7 @@
 -- The texture mins and extents of a face, in the order of the Rust's text after 'see Calc_SurfaceExtents'. Each operation on floats is
 -- rounded once. An index that leads to no record is 23; loading makes that 11, where the Rust panics.
 use Prim.Native.Nat.{ℕ, zero, suc, _+_}
-use mathlib.Core.Bool.{Bool}
+use mathlib.Core.Bool.{Bool, cond}
 use mathlib.Core.List.{List}
 use lib.Dec.{ltb}
 use lib.IntN.{ℤ}
@@ -9,7 +9,6 @@ use lib.Ieee.{Float, binary32, ofBits, add, sub, div, toSigned}
 use Rattle.float.specs.Whole.{minimum, maximum, floorOf, ceilOf, times16}
 use Rattle.math.specs.Vector.{dot}
 use Rattle.math.specs.declared.Vector3.{Vector3}
-use Rattle.format.specs.Step.{when}
 use Rattle.format.specs.Answer.{Answer, answer, refused, thenAnswer}
 use Rattle.format.specs.Refusal.{numberOf}
 use Rattle.format.specs.Section.{recordCount}
@@ -79,7 +78,7 @@ spanOver s m info (suc n) i w = thenAnswer (cornerOf s m i) (λ v. spanOver s m 
 -- the whole range is tested before its first entry
 unfoldable pub spanOf : List ℕ → BspData → BspTexInfo → ℕ → ℕ → Answer Span
 spanOf s m info first count =
-    when (ltb (recordCount EdgeList (m .edgelist)) (first + count)) (refused 23)
+    cond (ltb (recordCount EdgeList (m .edgelist)) (first + count)) (refused 23)
     (spanOver s m info count first unbounded)
 
 abbrev pub sixteen : Float

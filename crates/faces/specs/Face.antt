@@ -1,9 +1,10 @@
 -- Faces as the file has them. A face's plane number and its texture info's may equal their counts.
 use Prim.Native.Nat.{ℕ}
+use mathlib.Core.Bool.{cond}
 use mathlib.Core.List.{List}
 use lib.Dec.{eqb}
 use lib.IntN.{pos}
-use Rattle.format.specs.Step.{Step, ok, refused, andThen, when}
+use Rattle.format.specs.Step.{Step, ok, refused, andThen}
 use Rattle.format.specs.Answer as Answer
 use Rattle.format.specs.Answer.{Answer}
 use Rattle.format.specs.Refusal.{numberOf}
@@ -28,7 +29,7 @@ use Rattle.faces.specs.declared.face.FaceAnswer.the-variants as FaceA
 
 -- 0 or 1
 abbrev pub sideOf : ℕ → ℕ → Step BspFaceSide
-sideOf n p = when (eqb n 0) (ok Front p) (when (eqb n 1) (ok Back p) (refused 10))
+sideOf n p = cond (eqb n 0) (ok Front p) (cond (eqb n 1) (ok Back p) (refused 10))
 
 unfoldable pub sideAt : List ℕ → ℕ → Step BspFaceSide
 sideAt s at = andThen (index16At s at) (λ n p. sideOf n p)

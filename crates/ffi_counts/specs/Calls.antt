@@ -1,9 +1,9 @@
 -- What each call says, and what it leaves in the lent list.
 use Prim.Native.Nat.{ℕ}
+use mathlib.Core.Bool.{cond}
 use mathlib.Core.List.{List, [], _∷_}
 use lib.Dec.{eqb}
 use Rattle.format.specs.Answer.{Answer, answer, refused, mapped}
-use Rattle.format.specs.Step.{when}
 use Rattle.format.specs.Section.{sectionOf, recordCount}
 use Rattle.format.specs.declared.section.BspData.{BspData}
 use Rattle.format.specs.declared.section.BspFileSectionId.the-variants.{Entities, Planes, Textures, Vertices, Visibility, RenderNodes, TextureInfo, Faces, Lightmaps, CollisionNodes, Leaves, FaceList, Edges, EdgeList, Models}
@@ -15,21 +15,21 @@ use Rattle.ffi_counts.specs.declared.SectionNumbered.the-variants.{Secti
 -- the section of a number, in the order of the file's header
 unfoldable pub sectionNumbered : ℕ → SectionNumbered
 sectionNumbered n =
-    when (eqb n 0) (Section Entities)
-    (when (eqb n 1) (Section Planes)
-    (when (eqb n 2) (Section Textures)
-    (when (eqb n 3) (Section Vertices)
-    (when (eqb n 4) (Section Visibility)
-    (when (eqb n 5) (Section RenderNodes)
-    (when (eqb n 6) (Section TextureInfo)
-    (when (eqb n 7) (Section Faces)
-    (when (eqb n 8) (Section Lightmaps)
-    (when (eqb n 9) (Section CollisionNodes)
-    (when (eqb n 10) (Section Leaves)
-    (when (eqb n 11) (Section FaceList)
-    (when (eqb n 12) (Section Edges)
-    (when (eqb n 13) (Section EdgeList)
-    (when (eqb n 14) (Section Models)
+    cond (eqb n 0) (Section Entities)
+    (cond (eqb n 1) (Section Planes)
+    (cond (eqb n 2) (Section Textures)
+    (cond (eqb n 3) (Section Vertices)
+    (cond (eqb n 4) (Section Visibility)
+    (cond (eqb n 5) (Section RenderNodes)
+    (cond (eqb n 6) (Section TextureInfo)
+    (cond (eqb n 7) (Section Faces)
+    (cond (eqb n 8) (Section Lightmaps)
+    (cond (eqb n 9) (Section CollisionNodes)
+    (cond (eqb n 10) (Section Leaves)
+    (cond (eqb n 11) (Section FaceList)
+    (cond (eqb n 12) (Section Edges)
+    (cond (eqb n 13) (Section EdgeList)
+    (cond (eqb n 14) (Section Models)
     NoSection))))))))))))))
 
 -- how many records a section has, or 20 where there is none of the number

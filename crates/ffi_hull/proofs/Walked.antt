@@ -2,7 +2,7 @@
 -- not change the table. Assumes nothing.
 use Prim.Native.Nat.{ℕ}
 use mathlib.Core.Path.{_≡_, refl, sym, ap, _∙_}
-use mathlib.Core.Bool.{Bool, true, false}
+use mathlib.Core.Bool.{Bool, true, false, cond}
 use mathlib.Core.List.{List}
 use native.Mathlib.Omega.{arith}
 use borrow.Author.Tests.{lt-ltb, le-ltb, eqb-true, eqb-false}
@@ -10,7 +10,6 @@ use lib.Dec.{eqb, ltb}
 use lib.ListN.{getD}
 use Rattle.format.specs.Answer.{Answer, answer, refused, thenAnswer}
 use Rattle.format.specs.Refusal.{numberOf}
-use Rattle.format.specs.Step.{when}
 use Rattle.format.specs.declared.contents.BspLeafContents.{BspLeafContents}
 use Rattle.format.specs.declared.refusal.Refusal.{Refusal}
 use Rattle.format.specs.declared.section.BspData.{BspData}
@@ -51,8 +50,8 @@ module _ (s ws : List ℕ) where
 
 module _ {A : Type 0} (ws : List ℕ) (ask : BspCollisionHull → Answer A) (flat : (b : Bool) → ask (flatHull b ws) ≡ ask (hullIn (fileTable b) ws)) where
   by-tests : (n : ℕ) (a b : Bool) → eqb n 0 ≡ a → eqb n 1 ≡ b
-      → thenAnswer (when (ltb n 2) (answer (flatHull (eqb n 0) ws)) (when (eqb n 2) (answer (hullIn Box ws)) (refused 20))) ask
-      ≡ thenAnswer (when (eqb n 0) (answer (hullIn Render ws)) (when (eqb n 1) (answer (hullIn Clip ws)) (when (eqb n 2) (answer (hullIn Box ws)) (refused 20)))) ask
+      → thenAnswer (cond (ltb n 2) (answer (flatHull (eqb n 0) ws)) (cond (eqb n 2) (answer (hullIn Box ws)) (refused 20))) ask
+      ≡ thenAnswer (cond (eqb n 0) (answer (hullIn Render ws)) (cond (eqb n 1) (answer (hullIn Clip ws)) (cond (eqb n 2) (answer (hullIn Box ws)) (refused 20)))) ask
   by-tests n true b p q = let e = eqb-true n 0 p in rw (lt-ltb n 2 (omega arith), p) (flat true)
   by-tests n false true p q = let e = eqb-true n 1 q in rw (lt-ltb n 2 (omega arith), p, q) (flat false)
   by-tests n false false p q = let x = eqb-false n 0 p in let y = eqb-false n 1 q in rw (le-ltb n 2 (omega (arith, x, y)), p, q)

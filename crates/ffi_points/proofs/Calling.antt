@@ -2,14 +2,13 @@
 use Prim.Native.Nat.{ℕ, _*_, _/_, _%_, _<_, _≤_}
 use native.Mathlib.Omega.{arith}
 use native.Mathlib.Nat.{div-add-mod'}
-use mathlib.Core.Bool.{Bool, false}
+use mathlib.Core.Bool.{Bool, false, cond}
 use mathlib.Core.List.{List}
 use mathlib.Core.Path.{_≡_, refl, sym, _∙_, ap}
 use borrow.Author.Tests.{lt-ltb, le-ltb, eq-eqb, ne-eqb}
 use lib.Ieee.{Float}
 use lib.ListN.{length}
 use Rattle.format.specs.Answer.{Answer, thenAnswer}
-use Rattle.format.specs.Step.{when}
 use Rattle.words.specs.Words.{Left, left, enough, listedIn, mapOf}
 use Rattle.hull.specs.Hull.{hullTable}
 use Rattle.points.specs.Points.{pointsOf, notPoints, codesAndReads, filled}
@@ -42,7 +41,7 @@ module _ (s map hull : List ℕ) (cs : List Float) (list out : List ℕ) where
 
       opened : call ≡ rest
       unfolding bspContentsPoints
-      opened = ap (λ (b : Bool). when b (left 24 list out) rest) are-points
+      opened = ap (λ (b : Bool). cond b (left 24 list out) rest) are-points
 
       count : length (pointsOf cs) ≡ length cs / 3
       count = points-count cs (length cs / 3) (omega (arith, div-add-mod' (length cs) 3))

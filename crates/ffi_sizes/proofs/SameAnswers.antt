@@ -9,7 +9,6 @@ use borrow.Author.Tests.{le-ltb, eqb-false}
 use lib.Dec.{eqb, ltb}
 use lib.ListN.{length, getD}
 use Rattle.format.specs.Answer.{Answer, answer, refused, mapped, thenAnswer}
-use Rattle.format.specs.Step.{when}
 use Rattle.format.specs.declared.contents.BspLeafContents.{BspLeafContents}
 use Rattle.walk.specs.Table.{Table}
 use Rattle.walk.specs.Walk.{withVisits, pointWalk}
@@ -40,8 +39,8 @@ module _ {A : Type 0} (s m h k : List ℕ) (ask : Table End BspLeafContents → 
   of b = ask (hullTable s (mapOf m) b) (b .«node_id»)
 
   by-tests : (n : ℕ) (a b : Bool) → eqb n 0 ≡ a → eqb n 1 ≡ b → n < 2
-      → thenAnswer (when a (answer (hullIn Render h)) (when b (answer (hullIn Clip h)) (when (eqb n 2) (answer (hullIn Box h)) (refused 20)))) of
-      ≡ thenAnswer (when a (answer (hullIn Render k)) (when b (answer (hullIn Clip k)) (when (eqb n 2) (answer (hullIn Box k)) (refused 20)))) of
+      → thenAnswer (cond a (answer (hullIn Render h)) (cond b (answer (hullIn Clip h)) (cond (eqb n 2) (answer (hullIn Box h)) (refused 20)))) of
+      ≡ thenAnswer (cond a (answer (hullIn Render k)) (cond b (answer (hullIn Clip k)) (cond (eqb n 2) (answer (hullIn Box k)) (refused 20)))) of
   unfolding tableOf
   by-tests n true b p q l = ap (λ (r : ℕ). ask (tableOf s (mapOf m) Render (hullIn Render h .mins) (hullIn Render h .maxs)) r) root
   by-tests n false true p q l = ap (λ (r : ℕ). ask (tableOf s (mapOf m) Clip (hullIn Clip h .mins) (hullIn Clip h .maxs)) r) root

@@ -1,9 +1,9 @@
 -- What the tree check says, and what it leaves in the marks and in the lent list.
 use Prim.Native.Nat.{ℕ}
+use mathlib.Core.Bool.{cond}
 use mathlib.Core.List.{List}
 use lib.Dec.{eqb}
 use Rattle.format.specs.Answer.{mapped}
-use Rattle.format.specs.Step.{when}
 use Rattle.words.specs.Words.{given, Left, left, enough, beside, numberWords, mapLength, mapOf}
 use Rattle.walk.specs.TreeCheck.{Checked, treeCheck}
 use Rattle.nodes.specs.Tables.{nodesOf}
@@ -13,7 +13,7 @@ use Rattle.ffi_tree.specs.declared.TableNumbered.the-variants.{Table, No
 
 -- the node table of a number: 0 render nodes, 1 clip nodes, 2 a box
 unfoldable pub tableNumbered : ℕ → TableNumbered
-tableNumbered n = when (eqb n 0) (Table Render) (when (eqb n 1) (Table Clip) (when (eqb n 2) (Table Box) NoTable))
+tableNumbered n = cond (eqb n 0) (Table Render) (cond (eqb n 1) (Table Clip) (cond (eqb n 2) (Table Box) NoTable))
 
 -- the marks as the check leaves them, and the height in `out`
 abbrev pub checkedIn : Checked → List ℕ → Left

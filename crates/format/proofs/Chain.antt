@@ -3,7 +3,7 @@
 -- Assumes nothing.
 use Prim.Native.Nat.{ℕ}
 use mathlib.Core.Path.{_≡_, sym, ap, _∙_}
-use mathlib.Core.Bool.{Bool, true, false}
+use mathlib.Core.Bool.{Bool, true, false, cond}
 use borrow.Author.Tests.{lt-ltb, le-ltb, le-leb, lt-leb, eq-eqb, ne-eqb}
 use lib.IntN.{ℤ}
 use lib.Ieee.{Float}
@@ -11,7 +11,7 @@ use lib.Signed.{ltZ}
 use mir.Syntax.{Width}
 use mir.Val.{SFits, toZ, ofZ}
 use mir.Facts.{toZ-ofZ}
-use Rattle.format.specs.Step.{Step, ok, refused, andThen, when}
+use Rattle.format.specs.Step.{Step, ok, refused, andThen}
 use Rattle.format.specs.Field.{u8Step, u16Step, u32Step, i16Step, i32Step, f32Step, indexStep}
 use Rattle.format.specs.Refusal.{numberOf}
 use Rattle.format.specs.Code.{negatedContents}
@@ -43,10 +43,10 @@ pub lands : {A : Type 0} (v w : A) (p q : ℕ) → v ≡ w → p ≡ q → ok v 
 lands v w p q e h = rw (e, h)
 
 module _ {A : Type 0} (a b y : A) where
-  pub held : (t : Bool) → t ≡ true → y ≡ a → y ≡ when t a b
+  pub held : (t : Bool) → t ≡ true → y ≡ a → y ≡ cond t a b
   held t e q = rw e q
 
-  pub failed : (t : Bool) → t ≡ false → y ≡ b → y ≡ when t a b
+  pub failed : (t : Bool) → t ≡ false → y ≡ b → y ≡ cond t a b
   failed t e q = rw e q
 
 -- the flag of a call that tests

@@ -2,7 +2,7 @@
 -- Assumes nothing.
 use Prim.Native.Nat.{ℕ, _+_, _*_, _^_, _≤_, zero-le}
 use mathlib.Core.Path.{_≡_, refl}
-use mathlib.Core.Bool.{Bool, true, false}
+use mathlib.Core.Bool.{Bool, true, false, cond}
 use mathlib.Core.List.{List}
 use native.Mathlib.Nat.{add-zero}
 use native.Mathlib.Omega.{arith}
@@ -14,7 +14,7 @@ use lib.Ieee.{ofBits, binary32}
 use lib.ListN.{length, getD}
 use mir.Syntax.{Width, w16, w32}
 use mir.Val.{toZ, hbits}
-use Rattle.format.specs.Step.{Step, ok, andThen, when}
+use Rattle.format.specs.Step.{Step, ok, andThen}
 use Rattle.format.specs.Field.{u8At, u16At, u32At, i16At, i32At, f32At}
 use Rattle.format.specs.Section.{elementSize}
 use Rattle.format.specs.Layout as Layout
@@ -86,12 +86,12 @@ module _ (s : List ℕ) (at k : ℕ) (h : at + k ≤ length s) (o p : ℕ) (e : 
   f32-at g = rw (u32-at g)
 
 -- a test comes before what follows
-pub either : {A B : Type 0} (t : Bool) (x y : Step A) (k : A → ℕ → Step B) → andThen (when t x y) k ≡ when t (andThen x k) (andThen y k)
+pub either : {A B : Type 0} (t : Bool) (x y : Step A) (k : A → ℕ → Step B) → andThen (cond t x y) k ≡ cond t (andThen x k) (andThen y k)
 either true x y k = refl
 either false x y k = refl
 
 -- a test whose two sides are one
-pub both : {A : Type 0} (t : Bool) (x : A) → when t x x ≡ x
+pub both : {A : Type 0} (t : Bool) (x : A) → cond t x x ≡ x
 both true x = refl
 both false x = refl
 

@@ -3,12 +3,11 @@
 -- Assumes nothing.
 use Prim.Native.Nat.{ℕ, _+_, _*_, _≤_, _<_}
 use mathlib.Core.Path.{_≡_, refl, sym, ap, _∙_}
-use mathlib.Core.Bool.{Bool, true, false}
+use mathlib.Core.Bool.{Bool, true, false, cond}
 use native.Mathlib.Nat.{le-div-iff-mul-le}
 use native.Mathlib.Omega.{arith}
 use borrow.Author.Tests.{le-leb, lt-leb, leb-true, leb-false}
 use lib.Dec.{leb, lit<}
-use Rattle.format.specs.Step.{when}
 use Rattle.format.specs.Answer.{answer, refused}
 use Rattle.format.specs.Section.{elementSize, withinLimit, recordCount, place}
 use Rattle.format.specs.declared.section.BspFileSection.{BspFileSection}
@@ -75,7 +74,7 @@ unfolding place
 found id z n i p e = by (leb (recordCount id z) i) (withinLimit id (recordCount id z)) (leb (z .offset + i * elementSize id + elementSize id) n) refl refl refl e
   where
     by : (a b c : Bool) → leb (recordCount id z) i ≡ a → withinLimit id (recordCount id z) ≡ b → leb (z .offset + i * elementSize id + elementSize id) n ≡ c
-        → when a (refused 20) (when b (when c (answer (z .offset + i * elementSize id)) (refused 23)) (refused 23)) ≡ answer p → Found id z n i p
+        → cond a (refused 20) (cond b (cond c (answer (z .offset + i * elementSize id)) (refused 23)) (refused 23)) ≡ answer p → Found id z n i p
     by true b c g h k e = let q : _≡_ {A = ℕ} 0 1 = cc in absurd (omega arith)
     by false false c g h k e = let q : _≡_ {A = ℕ} 0 1 = cc in absurd (omega arith)
     by false true false g h k e = let q : _≡_ {A = ℕ} 0 1 = cc in absurd (omega arith)

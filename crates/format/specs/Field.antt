@@ -1,5 +1,6 @@
 -- Little-endian fields at a position: the value and the position after it, or 1 where the bytes end.
 use Prim.Native.Nat.{ℕ, _+_, _*_}
+use mathlib.Core.Bool.{cond}
 use mathlib.Core.List.{List}
 use lib.ListN.{length, getD}
 use lib.Dec.{leb}
@@ -8,7 +9,7 @@ use lib.Ieee.{Float, ofBits, binary32}
 use lib.Signed.{ltZ}
 use mir.Syntax.{w16, w32}
 use mir.Val.{toZ}
-use Rattle.format.specs.Step.{Step, ok, refused, andThen, when}
+use Rattle.format.specs.Step.{Step, ok, refused, andThen}
 use Rattle.format.specs.Refusal.{numberOf}
 use Rattle.format.specs.declared.field.ReadIndex.{ReadIndex}
 use Rattle.format.specs.declared.field.ReadIndex.the-variants as Idx
@@ -27,7 +28,7 @@ use Rattle.format.specs.declared.field.ReadI32.the-variants as I32
 
 -- a field of k bytes with the value v: read where the bytes are there
 abbrev pub field : {A : Type 0} → ℕ → List ℕ → ℕ → A → Step A
-field k s at v = when (leb (at + k) (length s)) (ok v (at + k)) (refused 1)
+field k s at v = cond (leb (at + k) (length s)) (ok v (at + k)) (refused 1)
 
 unfoldable pub u8At : List ℕ → ℕ → Step ℕ
 u8At s at = field 1 s at (getD s at 0)
@@ -50,7 +51,7 @@ f32At s at = andThen (u32At s at) (λ n p. ok (ofBits binary32 n) p)
 
 -- a number that is not negative, else the refusal n
 abbrev pub notNegative : ℕ → ℤ → ℕ → Step ℕ
-notNegative n x p = when (ltZ x (pos 0)) (refused n) (ok (natAbs x) p)
+notNegative n x p = cond (ltZ x (pos 0)) (refused n) (ok (natAbs x) p)
 
 -- an i32 that is not negative
 unfoldable pub indexAt : ℕ → List ℕ → ℕ → Step ℕ

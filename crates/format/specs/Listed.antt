@@ -1,10 +1,10 @@
 -- What a call that lists numbers answers, and what it leaves in a lent list: the leaves of `get_pvs`, the nodes that a walk or a trace enters.
 use Prim.Native.Nat.{ℕ}
+use mathlib.Core.Bool.{cond}
 use mathlib.Core.List.{List, _++_}
 use lib.Dec.{ltb}
 use lib.ListN.{length, drop}
 use Rattle.format.specs.Answer.{Answer, answer, refused}
-use Rattle.format.specs.Step.{when}
 
 -- how many entries were listed, and the lent list after the call
 pub record Listed : Type 0 where
@@ -18,4 +18,4 @@ listed a l = record { answered = a; list = l }
 abbrev pub into : Answer (List ℕ) → List ℕ → Listed
 into (refused n) lent = listed (refused n) lent
 into (answer entries) lent =
-    when (ltb (length lent) (length entries)) (listed (refused 22) lent) (listed (answer (length entries)) (entries ++ drop (length entries) lent))
+    cond (ltb (length lent) (length entries)) (listed (refused 22) lent) (listed (answer (length entries)) (entries ++ drop (length entries) lent))

@@ -1,8 +1,7 @@
 -- The fifteen sections: the sizes of their records, their limits, how many records they have, and where a record lies.
 use Prim.Native.Nat.{ℕ, _+_, _*_, _/_}
-use mathlib.Core.Bool.{Bool, true}
+use mathlib.Core.Bool.{Bool, true, cond}
 use lib.Dec.{leb}
-use Rattle.format.specs.Step.{when}
 use Rattle.format.specs.Answer.{Answer, answer, refused}
 use Rattle.format.specs.Refusal.{numberOf}
 use Rattle.format.specs.declared.section.BspFileSection.{BspFileSection}
@@ -75,9 +74,9 @@ recordCount id z = z .size / elementSize id
 -- all among the n.
 unfoldable pub place : BspFileSectionId → BspFileSection → ℕ → ℕ → Answer ℕ
 place id z n i =
-    when (leb (recordCount id z) i) (refused 20)
-    (when (withinLimit id (recordCount id z))
-    (when (leb (z .offset + i * elementSize id + elementSize id) n) (answer (z .offset + i * elementSize id)) (refused 23))
+    cond (leb (recordCount id z) i) (refused 20)
+    (cond (withinLimit id (recordCount id z))
+    (cond (leb (z .offset + i * elementSize id + elementSize id) n) (answer (z .offset + i * elementSize id)) (refused 23))
     (refused 23))
 
 -- what the answers of `place` stand for

@@ -2,12 +2,12 @@
 -- Assumes nothing.
 use Prim.Native.Nat.{ℕ, _<_}
 use mathlib.Core.Path.{_≡_, refl}
-use mathlib.Core.Bool.{Bool, true, false}
+use mathlib.Core.Bool.{Bool, true, false, cond}
 use native.Mathlib.Omega.{arith}
 use borrow.Author.Tests.{eqb-false, not-false}
 use lib.Dec.{eqb}
 use Rattle.format.specs.Section.{withinLimit, recordCount, sectionOf}
-use Rattle.format.specs.Step.{Step, ok, refused, when}
+use Rattle.format.specs.Step.{Step, ok, refused}
 use Rattle.format.specs.declared.section.BspData.{BspData}
 use Rattle.format.specs.declared.section.BspFileSectionId.{BspFileSectionId}
 use Rattle.format.specs.declared.section.BspFileSectionId.the-variants.{Planes, Vertices, Visibility, RenderNodes, CollisionNodes, Leaves, Edges, EdgeList, Models}
@@ -15,7 +15,7 @@ use Rattle.sections.specs.Table.{limits, limitsFromLeaves, exceeds}
 use Rattle.sections.proofs.Bounded.{not-ok}
 
 -- a test whose refusal did not come: it failed, and the rest passed
-pub left : (t : Bool) (n : ℕ) (x : Step (Unit {0})) (p : ℕ) → when t (refused n) x ≡ ok tt p → (t ≡ false) × (x ≡ ok tt p)
+pub left : (t : Bool) (n : ℕ) (x : Step (Unit {0})) (p : ℕ) → cond t (refused n) x ≡ ok tt p → (t ≡ false) × (x ≡ ok tt p)
 left true n x p e = not-ok e
 left false n x p e = (refl, e)
 

@@ -4,7 +4,7 @@
 -- Assumes nothing.
 use Prim.Native.Nat.{ℕ, zero, suc, _+_, _-_, _*_, _<_, _≤_, min}
 use mathlib.Core.Path.{_≡_, refl, sym, ap, _∙_, subst}
-use mathlib.Core.Bool.{Bool, true, false}
+use mathlib.Core.Bool.{Bool, true, false, cond}
 use mathlib.Core.List.{List}
 use native.Mathlib.Omega.{arith}
 use borrow.Author.Tests.{eqb-true, eqb-false, leb-true, lt-leb}
@@ -14,7 +14,7 @@ use Rattle.format.specs.Answer as Answer
 use Rattle.format.specs.Answer.{Answer, answer}
 use Rattle.format.specs.Field.{u16At}
 use Rattle.format.specs.Section.{elementSize, withinLimit, recordCount, sectionOf}
-use Rattle.format.specs.Step.{Step, ok, refused, when}
+use Rattle.format.specs.Step.{Step, ok, refused}
 use Rattle.format.specs.declared.section.BspData.{BspData}
 use Rattle.format.specs.declared.section.BspFileSection.{BspFileSection}
 use Rattle.format.specs.declared.section.BspFileSectionId.{BspFileSectionId}
@@ -82,7 +82,7 @@ was-texinfo : (n : ℕ) (s : List ℕ) (at : ℕ) (v : BspTexInfo) (p : ℕ) →
 unfolding textured
 was-texinfo n s at v p e = let a = first (texinfoAt n s at) _ v p e in by (a .0) (a .1 .0) (a .1 .1 .0) (eqb (a .0 .«tex_id») n) refl (a .1 .1 .1)
   where
-    by : (w : BspTexInfo) (q : ℕ) → texinfoAt n s at ≡ ok w q → (t : Bool) → eqb (w .«tex_id») n ≡ t → when t (refused 11) (ok w q) ≡ ok v p
+    by : (w : BspTexInfo) (q : ℕ) → texinfoAt n s at ≡ ok w q → (t : Bool) → eqb (w .«tex_id») n ≡ t → cond t (refused 11) (ok w q) ≡ ok v p
         → (texinfoAt n s at ≡ ok v p) × (eqb (v .«tex_id») n ≡ false)
     by w q g true h e = not-ok e
     by w q g false h e = (g ∙ e, let z : w ≡ v = cc in rw (sym z) h)
@@ -99,7 +99,7 @@ unfolding blob
 blob-lies s z e = by (eqb (z .offset + min (z .size) (length s - z .offset)) (z .offset + z .size)) refl (e .1)
   where
     by : (t : Bool) → eqb (z .offset + min (z .size) (length s - z .offset)) (z .offset + z .size) ≡ t
-        → when t (here (z .offset + min (z .size) (length s - z .offset))) (refused 7) ≡ here (e .0) → z .size ≤ length s - z .offset
+        → cond t (here (z .offset + min (z .size) (length s - z .offset))) (refused 7) ≡ here (e .0) → z .size ≤ length s - z .offset
     by true h g = omega (arith, eqb-true (z .offset + min (z .size) (length s - z .offset)) (z .offset + z .size) h)
     by false h g = not-ok g
 
@@ -111,7 +111,7 @@ as-long s z e =
     by (isUtf8 (textOf s (z .offset))) (eqb (z .offset + n) (z .offset + z .size)) refl (left (ltb 65536 n) 8 _ (e .0) (e .1) .1)
   where
     by : (t u : Bool) → eqb (z .offset + length (textOf s (z .offset))) (z .offset + z .size) ≡ u
-        → when t (when u (here (z .offset + length (textOf s (z .offset)))) (refused 7)) (refused 9) ≡ here (e .0)
+        → cond t (cond u (here (z .offset + length (textOf s (z .offset)))) (refused 7)) (refused 9) ≡ here (e .0)
         → length (textOf s (z .offset)) ≡ z .size
     by true true h g =
         let q = eqb-true (z .offset + length (textOf s (z .offset))) (z .offset + z .size) h in
@@ -145,7 +145,7 @@ unfolding extentsAt
 surfaced n k s m at u p e = let a = first (faceAt n k s at) _ u p e in by (a .0) (a .1 .0) (a .1 .1 .0) (surfaceOf s m (a .0)) refl (a .1 .1 .1)
   where
     by : (f : BspFace) (q : ℕ) → faceAt n k s at ≡ ok f q → (x : Answer Surface) → surfaceOf s m f ≡ x
-        → withAnswer x (λ x. when (isBad (x .special) (x .extents .s)) (refused 12) (when (isBad (x .special) (x .extents .t)) (refused 12) (here q))) ≡ here p
+        → withAnswer x (λ x. cond (isBad (x .special) (x .extents .s)) (refused 12) (cond (isBad (x .special) (x .extents .t)) (refused 12) (here q))) ≡ here p
         → (f : BspFace) × ((faceAt n k s at ≡ ok f p) × Surfaced s m f)
     by f q g (Answer.answer x) h e =
         let b = left (isBad (x .special) (x .extents .s)) 12 _ p e in
@@ -263,7 +263,7 @@ module _ (s : List ℕ) (m : BspData) (loads : loadOf s ≡ answer m) where
       whole = sym (long s at) ∙ as-long s (m .entities) (passed s m loads .text)
 
       by : (b : Bool) → leb (length s) at ≡ b
-          → when b (when (eqb (m .entities .size) 0) (part at 0) (Answer.refused 23)) (part at (textEnd s at - at)) ≡ part at (m .entities .size)
+          → cond b (cond (eqb (m .entities .size) 0) (part at 0) (Answer.refused 23)) (part at (textEnd s at - at)) ≡ part at (m .entities .size)
       by true q = let z : m .entities .size ≡ 0 = sym whole ∙ empty s at (leb-true (length s) at q) in rw z refl
       by false q = ap (part at) whole
 

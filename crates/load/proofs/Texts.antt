@@ -2,12 +2,11 @@
 -- Assumes nothing.
 use Prim.Native.Nat.{ℕ, zero, suc, _-_, _<_, _≤_, zero-le}
 use mathlib.Core.Path.{_≡_, refl}
-use mathlib.Core.Bool.{Bool, true, false}
+use mathlib.Core.Bool.{Bool, true, false, cond}
 use mathlib.Core.List.{List, [], _∷_}
 use native.Mathlib.Omega.{arith}
 use lib.Dec.{eqb}
 use lib.ListN.{length, take, drop, drop-of-length-le, length-take, length-drop}
-use Rattle.format.specs.Step.{when}
 use Rattle.models.specs.Text.{through, textEnd}
 use Rattle.load.specs.Entities.{textOf}
 
@@ -15,7 +14,7 @@ through-le : (xs : List ℕ) → through xs ≤ length xs
 through-le [] = zero-le
 through-le (b ∷ bs) = by (eqb b 0) (through-le bs)
   where
-    by : (t : Bool) → through bs ≤ length bs → when t 1 (suc (through bs)) ≤ suc (length bs)
+    by : (t : Bool) → through bs ≤ length bs → cond t 1 (suc (through bs)) ≤ suc (length bs)
     by true h = omega arith
     by false h = omega arith
 

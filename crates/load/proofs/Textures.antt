@@ -2,13 +2,13 @@
 -- Assumes nothing.
 use Prim.Native.Nat.{ℕ, _+_, _≤_}
 use mathlib.Core.Path.{_≡_, refl, sym, ap, _∙_, subst}
-use mathlib.Core.Bool.{Bool, true, false}
+use mathlib.Core.Bool.{Bool, true, false, cond}
 use mathlib.Core.List.{List}
 use native.Mathlib.Omega.{arith}
 use borrow.Author.Tests.{ltb-false, le-leb}
 use lib.Dec.{ltb}
 use Rattle.format.specs.Field.{f32At, indexAt}
-use Rattle.format.specs.Step.{Step, ok, refused, andThen, when}
+use Rattle.format.specs.Step.{Step, ok, refused, andThen}
 use Rattle.format.specs.declared.section.BspFileSection.{BspFileSection}
 use Rattle.records.specs.Number.{atMost, numberAt}
 use Rattle.records.specs.Texinfo.{flagAt, texinfoAt, texinfoEndAt}
@@ -35,7 +35,7 @@ at-most most s at n p e =
     let a = first (indexAt 10 s at) _ n p e in
     by (a .0) (a .1 .0) (ltb most (a .0)) refl (a .1 .1 .1)
   where
-    by : (k q : ℕ) (t : Bool) → ltb most k ≡ t → when t (refused 10) (ok k q) ≡ ok n p → n ≤ most
+    by : (k q : ℕ) (t : Bool) → ltb most k ≡ t → cond t (refused 10) (ok k q) ≡ ok n p → n ≤ most
     by k q true h e = not-ok e
     by k q false h e = omega (arith, same-value k q n p e, ltb-false most k h)
 

@@ -1,14 +1,14 @@
 -- The extents of the faces, face by face, the Rust's text after 'see Calc_SurfaceExtents': the texture info, the edges and the vertices
 -- of the face (11), and then its extents along s and t (12).
 use Prim.Native.Nat.{ℕ}
-use mathlib.Core.Bool.{Bool, not, _&&_}
+use mathlib.Core.Bool.{Bool, not, _&&_, cond}
 use mathlib.Core.List.{List}
 use lib.IntN.{ℤ, pos}
 use lib.Signed.{ltZ}
 use Rattle.format.specs.Answer as Answer
 use Rattle.format.specs.Answer.{Answer}
 use Rattle.format.specs.Section.{recordCount}
-use Rattle.format.specs.Step.{Step, ok, refused, andThen, when}
+use Rattle.format.specs.Step.{Step, ok, refused, andThen}
 use Rattle.format.specs.declared.section.BspData.{BspData}
 use Rattle.format.specs.declared.section.BspFileSectionId.the-variants.{Planes, TextureInfo, Faces}
 use Rattle.faces.specs.Face.{faceAt}
@@ -29,8 +29,8 @@ unfoldable pub extentsAt : ℕ → ℕ → BspData → List ℕ → ℕ → Step
 extentsAt planes infos m s at =
     andThen (faceAt planes infos s at) (λ face next.
     withAnswer (surfaceOf s m face) (λ x.
-    when (isBad (x .special) (x .extents .s)) (refused 12)
-    (when (isBad (x .special) (x .extents .t)) (refused 12)
+    cond (isBad (x .special) (x .extents .s)) (refused 12)
+    (cond (isBad (x .special) (x .extents .t)) (refused 12)
     (ok tt next))))
 
 unfoldable pub faceExtents : List ℕ → BspData → Step (Unit {0})

@@ -1,9 +1,9 @@
 -- The sections whose records are tested against the counts of other sections, and the leaves that render nodes name.
 use Prim.Native.Nat.{ℕ}
-use mathlib.Core.Bool.{Bool, false}
+use mathlib.Core.Bool.{Bool, false, cond}
 use mathlib.Core.List.{List}
 use lib.Dec.{eqb, leb}
-use Rattle.format.specs.Step.{Step, ok, refused, andThen, when}
+use Rattle.format.specs.Step.{Step, ok, refused, andThen}
 use Rattle.format.specs.Section.{recordCount}
 use Rattle.format.specs.declared.section.BspData.{BspData}
 use Rattle.format.specs.declared.section.BspFileSectionId.the-variants.{Planes, RenderNodes, TextureInfo, Faces, Leaves}
@@ -17,7 +17,7 @@ use Rattle.sections.specs.Row.{section, eachRecord}
 
 -- A texture info. Its texture number may equal the texture count, on which the Rust panics as it looks the number up (11).
 unfoldable pub textured : ℕ → List ℕ → ℕ → Step BspTexInfo
-textured textures s at = andThen (texinfoAt textures s at) (λ info next. when (eqb (info .«tex_id») textures) (refused 11) (ok info next))
+textured textures s at = andThen (texinfoAt textures s at) (λ info next. cond (eqb (info .«tex_id») textures) (refused 11) (ok info next))
 
 unfoldable pub texinfos : List ℕ → BspData → Step (Unit {0})
 texinfos s m = section (textured (m .«texture_count»)) TextureInfo s (m .texinfo)
@@ -34,8 +34,8 @@ outside leaves (Leaf l) = leb leaves l
 unfoldable pub referencesAt : ℕ → List ℕ → ℕ → Step (Unit {0})
 referencesAt leaves s at =
     andThen (renderNodeAt s at) (λ node next.
-    when (outside leaves (node .front)) (refused 11)
-    (when (outside leaves (node .back)) (refused 11)
+    cond (outside leaves (node .front)) (refused 11)
+    (cond (outside leaves (node .back)) (refused 11)
     (ok tt next)))
 
 unfoldable pub leafReferences : List ℕ → BspData → Step (Unit {0})

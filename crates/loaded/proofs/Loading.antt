@@ -2,7 +2,7 @@
 -- a file that loads. Assumes nothing.
 use Prim.Native.Nat.{ℕ, zero, suc, _+_, _≤_}
 use native.Mathlib.Omega.{arith}
-use mathlib.Core.Bool.{Bool, true, false}
+use mathlib.Core.Bool.{Bool, true, false, cond}
 use mathlib.Core.List.{List}
 use mathlib.Core.Path.{_≡_, refl}
 use lib.Dec.{ltb, leb, eqb}
@@ -12,7 +12,7 @@ use lib.Signed.{ltZ}
 use mir.Syntax.{w16, w32}
 use Rattle.format.specs.Answer as Ans
 use Rattle.format.specs.Answer.{Answer, answer}
-use Rattle.format.specs.Step.{Step, ok, refused, andThen, when}
+use Rattle.format.specs.Step.{Step, ok, refused, andThen}
 use Rattle.format.specs.Field.{u8At, u16At, u32At, i16At, i32At, f32At, indexAt}
 use Rattle.format.specs.Code.{negatedContents}
 use Rattle.format.specs.Section.{recordCount}
@@ -68,7 +68,7 @@ gives v p = record { number = λ n e. none v p n e }
 says : {A : Type 0} (k : ℕ) → OfLoading k → Known {A = A} (refused k)
 says {A} k h = record { number = λ n e. rw (same-number {A = A} k n e) at h }
 
-test : {A : Type 0} (b : Bool) (x y : Step A) → Known x → Known y → Known (when b x y)
+test : {A : Type 0} (b : Bool) (x y : Step A) → Known x → Known y → Known (cond b x y)
 test true x y p q = p
 test false x y p q = q
 
@@ -252,7 +252,7 @@ module _ (s : List ℕ) where
       then (threeSectionsAt _ _ _ s t) _ (three _ _ _ t) (λ d p. then (threeSectionsAt _ _ _ s p) _ (three _ _ _ p) (λ e u. gives _ _))))))
       (says 2 (omega arith, omega arith)))
 
-  six : {A : Type 0} (b : Bool) (y : Step A) → Known y → Known (when b (refused 6) y)
+  six : {A : Type 0} (b : Bool) (y : Step A) → Known y → Known (cond b (refused 6) y)
   six b y f = test b (refused 6) y (says 6 (omega arith, omega arith)) f
 
   within : (m : BspData) → Known (limits m)

@@ -2,7 +2,7 @@
 -- refused with 23 alone. Assumes nothing.
 use Prim.Native.Nat.{ℕ, zero, suc, _+_, _*_, _<_, _≤_}
 use native.Mathlib.Omega.{arith}
-use mathlib.Core.Bool.{Bool, true, false}
+use mathlib.Core.Bool.{Bool, true, false, cond}
 use mathlib.Core.List.{List, [], _∷_}
 use mathlib.Core.Logic.{inl, inr}
 use mathlib.Core.Path.{_≡_, refl}
@@ -12,7 +12,7 @@ use lib.ListN.{length}
 use Rattle.format.specs.Answer as Ans
 use Rattle.format.specs.Answer.{Answer, answer, mapped}
 use Rattle.format.specs.Step as Step
-use Rattle.format.specs.Step.{Step, when}
+use Rattle.format.specs.Step.{Step}
 use Rattle.format.specs.Section.{sectionOf, place, recordCount, withinLimit, elementSize}
 use Rattle.format.specs.declared.section.BspData.{BspData}
 use Rattle.format.specs.declared.section.BspFileSection.{BspFileSection}
@@ -50,7 +50,7 @@ module _ (P : ℕ → Type 0) where
   of-mapped g (Ans.refused n) f = refuses n (f n refl)
 
   module _ (p23 : P 23) where
-    of-tests : (a b c : Bool) (at : ℕ) → (a ≡ true → P 20) → RefusedOnly P (when a (Ans.refused 20) (when b (when c (answer at) (Ans.refused 23)) (Ans.refused 23)))
+    of-tests : (a b c : Bool) (at : ℕ) → (a ≡ true → P 20) → RefusedOnly P (cond a (Ans.refused 20) (cond b (cond c (answer at) (Ans.refused 23)) (Ans.refused 23)))
     of-tests true b c at h = refuses 20 (h refl)
     of-tests false true true at h = answers at
     of-tests false true false at h = refuses 23 p23

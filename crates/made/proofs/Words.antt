@@ -14,7 +14,6 @@ use mir.Val.{SFits, ofZ, toZ}
 use mir.ValLaws.{toZ-pos}
 use mir.Facts.{toZ-ofZ}
 use Rattle.written.specs.Bytes.{u16, u32, i16}
-use Rattle.format.specs.Step.{when}
 use Rattle.made.specs.Map.{distanceOf, Side, node, solid, empty, frontOf, backOf}
 use Rattle.made.specs.File.{zeros, mapOf, header, plane, renderChild, clipChild, renderNode, clipNode, leaf, leaves, model}
 use Rattle.made.specs.Writing.{wordsOf, sideWord}
@@ -44,14 +43,14 @@ module _ (s e : ℕ) (hs : s < 65536) (he : e < 65536) where
   pub front-small : (number : ℕ) → sideWord s e (frontOf number) < 65536
   front-small number = by (leb (2 ^ 31) number)
     where
-      by : (t : Bool) → sideWord s e (when t solid empty) < 65536
+      by : (t : Bool) → sideWord s e (cond t solid empty) < 65536
       by true = hs
       by false = he
 
   pub back-small : (n i : ℕ) → i < n → n ≤ 500 → sideWord s e (backOf n i) < 65536
   back-small n i h k = by (eqb (i + 1) n)
     where
-      by : (t : Bool) → sideWord s e (when t empty (node (i + 1))) < 65536
+      by : (t : Bool) → sideWord s e (cond t empty (node (i + 1))) < 65536
       by true = he
       by false = omega arith
 

@@ -1,12 +1,11 @@
 -- The file of a made-up map.
 use Prim.Native.Nat.{ℕ, _+_, _*_}
-use mathlib.Core.Bool.{Bool, _&&_}
+use mathlib.Core.Bool.{Bool, _&&_, cond}
 use mathlib.Core.List.{List, [], _∷_, _++_}
 use lib.Dec.{leb}
 use lib.IntN.{ℤ, pos, negsuc}
 use lib.ListN.{replicate}
 use Rattle.format.specs.Answer.{Answer, answer, refused}
-use Rattle.format.specs.Step.{when}
 use Rattle.format.specs.declared.section.BspFileSection.{BspFileSection}
 use Rattle.format.specs.declared.section.BspData.{BspData}
 use Rattle.written.specs.Bytes.{u32, i16, i32, f32, joined, row}
@@ -137,4 +136,4 @@ isNodeCount n = leb 1 n && leb n 500
 
 -- what a call says of a seed and a node count: the file, or 29
 unfoldable pub madeUp : ℕ → ℕ → Answer (List ℕ)
-madeUp seed n = when (isNodeCount n) (answer (fileOf seed n)) (refused 29)
+madeUp seed n = cond (isNodeCount n) (answer (fileOf seed n)) (refused 29)

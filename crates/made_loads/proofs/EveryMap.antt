@@ -2,7 +2,7 @@
 -- Assumes nothing.
 use Prim.Native.Nat.{ℕ, zero, suc, _+_, _^_, _<_, _≤_}
 use mathlib.Core.Path.{_≡_, refl, ap, _∙_}
-use mathlib.Core.Bool.{Bool, true, false}
+use mathlib.Core.Bool.{Bool, true, false, cond}
 use mathlib.Core.List.{List, [], _++_}
 use native.Mathlib.Omega.{arith}
 use lib.Dec.{eqb, leb, ltb}
@@ -11,7 +11,6 @@ use lib.Seq.{take-at}
 use Rattle.format.specs.Answer.{Answer, answer, refused, mapped}
 use Rattle.format.specs.Listed.{Listed, listed, into}
 use Rattle.format.specs.Section.{recordCount}
-use Rattle.format.specs.Step.{when}
 use Rattle.format.specs.declared.contents.BspLeafContents.the-variants.{Empty, Solid}
 use Rattle.format.specs.declared.section.BspFileSectionId.the-variants.{Faces, Leaves, FaceList, Models}
 use Rattle.models.specs.Model.{withRest}
@@ -43,19 +42,19 @@ childOf a e solid = end a
 childOf a e empty = end e
 
 abbrev frontEnd : End → End → ℕ → End
-frontEnd a e number = when (leb (2 ^ 31) number) a e
+frontEnd a e number = cond (leb (2 ^ 31) number) a e
 
 front-is : (a e : End) (number : ℕ) → childOf a e (frontOf number) ≡ end (frontEnd a e number)
 front-is a e number = by (leb (2 ^ 31) number)
   where
-    by : (t : Bool) → childOf a e (when t solid empty) ≡ end (when t a e)
+    by : (t : Bool) → childOf a e (cond t solid empty) ≡ end (cond t a e)
     by true = refl
     by false = refl
 
 back-is : (a e : End) (n i : ℕ) → childOf a e (backOf n i) ≡ behind e n i
 back-is a e n i = by (eqb (i + 1) n)
   where
-    by : (t : Bool) → childOf a e (when t empty (node (i + 1))) ≡ when t (end e) (Table.node (i + 1))
+    by : (t : Bool) → childOf a e (cond t empty (node (i + 1))) ≡ cond t (end e) (Table.node (i + 1))
     by true = refl
     by false = refl
 
@@ -76,7 +75,7 @@ module _ (N : Nodes End) (a e : End) (seed n : ℕ) (low : 1 ≤ n) (high : n �
   abbrev fronts : ℕ → End
   fronts i = frontEnd a e (numberOf seed i)
 
-  within : (t : Bool) → N .leafIn (when t a e) ≡ true
+  within : (t : Bool) → N .leafIn (cond t a e) ≡ true
   within true = ha
   within false = he
 
@@ -200,7 +199,7 @@ every-buffer seed n k lent left e = by (isNodeCount n) (ltb (length lent) (lengt
     not-refused j e = let z : _≡_ {A = ℕ} 0 1 = cc in absurd (omega arith)
 
     by : (t u : Bool) → isNodeCount n ≡ t → ltb (length lent) (length (fileOf seed n)) ≡ u
-        → listed (answer k) left ≡ into (when t (answer (fileOf seed n)) (refused 29)) lent → (take k left ≡ fileOf seed n) × Sound seed n
+        → listed (answer k) left ≡ into (cond t (answer (fileOf seed n)) (refused 29)) lent → (take k left ≡ fileOf seed n) × Sound seed n
     by false u h g e = not-refused 29 (ap (λ (l : Listed). l .answered) e)
     by true true h g e =
         let q : listed (answer k) left ≡ listed (refused 22) lent = e ∙ rw g refl in

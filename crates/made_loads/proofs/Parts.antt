@@ -2,11 +2,12 @@
 -- Assumes nothing.
 use Prim.Native.Nat.{ℕ, zero, suc, _+_, _*_, _≤_}
 use mathlib.Core.Path.{_≡_, refl, subst}
+use mathlib.Core.Bool.{cond}
 use mathlib.Core.List.{List, [], _∷_}
 use native.Mathlib.Omega.{arith}
 use lib.IntN.{pos, negsuc}
 use lib.ListN.{length}
-use Rattle.format.specs.Step.{ok, refused, when}
+use Rattle.format.specs.Step.{ok, refused}
 use Rattle.format.specs.declared.section.BspFileSectionId.the-variants.{Entities, Planes, Textures, Vertices, Visibility, RenderNodes, TextureInfo, Faces, Lightmaps, CollisionNodes, Leaves, FaceList, Edges, EdgeList, Models}
 use Rattle.sections.specs.Table.{tableEndAt, tableAt, isVersion, headerAt}
 use Rattle.written.specs.Bytes.{u32, row}
@@ -81,5 +82,5 @@ table n h =
 pub header-reads : (seed n : ℕ) → n ≤ 500 → headerAt (fileOf seed n) ≡ ok (mapOf n) 124
 unfolding headerAt header isVersion
 header-reads seed n h =
-    then (λ version s p. when (isVersion version) (tableAt s p) (refused 2)) (reads-i32 (pos 29) (record { sfits = omega arith })) (table n h)
+    then (λ version s p. cond (isVersion version) (tableAt s p) (refused 2)) (reads-i32 (pos 29) (record { sfits = omega arith })) (table n h)
     .reads (fileOf seed n) 0 (parts seed n .its-header)

@@ -2,7 +2,7 @@
 -- Assumes nothing.
 use Prim.Native.Nat.{ℕ, zero, suc, _+_, _^_, _<_, _≤_, zero-le}
 use mathlib.Core.Path.{_≡_, refl, ap}
-use mathlib.Core.Bool.{Bool, true, false}
+use mathlib.Core.Bool.{Bool, true, false, cond}
 use mathlib.Core.List.{List}
 use native.Mathlib.Nat.{add-zero}
 use native.Mathlib.Omega.{arith}
@@ -14,7 +14,7 @@ use lib.Ieee.Fits.{ofInt-fits}
 use lib.ListN.{length, getD}
 use mir.Syntax.{w32}
 use mir.Val.{SFits}
-use Rattle.format.specs.Step.{ok, when}
+use Rattle.format.specs.Step.{ok}
 use Rattle.format.specs.Field.{i16At, indexAt}
 use Rattle.format.specs.Code.{contentsOf, negatedContents}
 use Rattle.format.specs.declared.contents.BspLeafContents.{BspLeafContents}
@@ -51,7 +51,7 @@ reads-point = then _ zero-i16 (then _ zero-i16 (last _ zero-i16 (λ p. refl)))
 
 -- planes
 
-axis-of : (k : ℕ) (normal : Vector3) (d : Float) → k < 3 → filePlane (pos k) normal d ≡ when (eqb k 0) (axisX d) (when (eqb k 1) (axisY d) (axisZ d))
+axis-of : (k : ℕ) (normal : Vector3) (d : Float) → k < 3 → filePlane (pos k) normal d ≡ cond (eqb k 0) (axisX d) (cond (eqb k 1) (axisY d) (axisZ d))
 unfolding filePlane
 axis-of zero normal d h = refl
 axis-of (suc zero) normal d h = refl
@@ -88,14 +88,14 @@ reads-clip-child empty h = last _ (reads-i16 (negsuc 0) (record { sfits = omega 
 front-fits : (number : ℕ) → Fits16 (frontOf number)
 front-fits number = by (leb (2 ^ 31) number)
   where
-    by : (t : Bool) → Fits16 (when t solid empty)
+    by : (t : Bool) → Fits16 (cond t solid empty)
     by true = tt
     by false = tt
 
 back-fits : (n i : ℕ) → i < n → n ≤ 2 ^ 15 → Fits16 (backOf n i)
 back-fits n i h m = by (eqb (i + 1) n) refl
   where
-    by : (t : Bool) → eqb (i + 1) n ≡ t → Fits16 (when t empty (node (i + 1)))
+    by : (t : Bool) → eqb (i + 1) n ≡ t → Fits16 (cond t empty (node (i + 1)))
     by true e = tt
     by false e = let q = eqb-false (i + 1) n e in omega arith
 

@@ -3,12 +3,12 @@
 use Prim.Native.Nat.{ℕ, _+_, _*_, _<_, _≤_}
 use mathlib.Core.List.{List, _++_}
 use mathlib.Core.Path.{_≡_}
+use mathlib.Core.Bool.{cond}
 use lib.Dec.{ltb}
 use lib.ListN.{length, take, drop, replicate}
 use Rattle.format.specs.Answer.{answer, refused}
 use Rattle.format.specs.Listed.{listed, into}
 use Rattle.format.specs.Section.{recordCount}
-use Rattle.format.specs.Step.{when}
 use Rattle.format.specs.declared.contents.BspLeafContents.the-variants.{Empty, Solid}
 use Rattle.format.specs.declared.section.BspData.{BspData}
 use Rattle.format.specs.declared.section.BspFileSectionId.the-variants.{Planes, RenderNodes, CollisionNodes}
@@ -46,7 +46,7 @@ pub record TreeSaid (n : ℕ) (s : List ℕ) (m : BspData) (table : HullTable) :
 
 -- what acceptance says of it and leaves in the marks: with a mark for each node it passes, and these marks are zero
 abbrev pub accepted : ℕ → List ℕ → Judged
-accepted n marks = when (ltb (length marks) n) (judged (refused 22) marks) (judged passes (replicate n 0 ++ drop n marks))
+accepted n marks = cond (ltb (length marks) n) (judged (refused 22) marks) (judged passes (replicate n 0 ++ drop n marks))
 
 pub record Sound (seed n : ℕ) : Type 0 where
   pub size : length (fileOf seed n) ≡ 249 + n * 52

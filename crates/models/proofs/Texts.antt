@@ -1,9 +1,8 @@
 -- The steps of the loop over the entity text: the zero byte, any other, and the end; and where the text lies.
 -- Assumes nothing.
 use Prim.Native.Nat.{ℕ, suc, _+_, _-_, _<_, _≤_, zero-le}
-use mathlib.Core.Bool.{Bool, true, false}
+use mathlib.Core.Bool.{Bool, true, false, cond}
 use lib.Dec.{eqb, leb}
-use Rattle.format.specs.Step.{when}
 use mathlib.Core.Path.{_≡_, refl, sym}
 use mathlib.Core.List.{List, [], _∷_}
 use native.Mathlib.Nat.{add-zero, add-sub-cancel-left}
@@ -33,7 +32,7 @@ through-le : (xs : List ℕ) → through xs ≤ length xs
 through-le [] = zero-le
 through-le (b ∷ bs) = by (eqb b 0) (through-le bs)
   where
-    by : (t : Bool) → through bs ≤ length bs → when t 1 (suc (through bs)) ≤ suc (length bs)
+    by : (t : Bool) → through bs ≤ length bs → cond t 1 (suc (through bs)) ≤ suc (length bs)
     by true h = omega arith
     by false h = omega arith
 
@@ -68,7 +67,7 @@ unfolding entitiesOf
 within s m p e some = by (leb (length s) (m .entities .offset)) (eqb (m .entities .size) 0) refl e
   where
     by : (a b : Bool) → leb (length s) (m .entities .offset) ≡ a
-        → when a (when b (answer (record { offset = m .entities .offset; size = 0 })) (refused 23))
+        → cond a (cond b (answer (record { offset = m .entities .offset; size = 0 })) (refused 23))
         (answer (record { offset = m .entities .offset; size = textEnd s (m .entities .offset) - m .entities .offset })) ≡ answer p
         → p .offset + p .size ≤ length s
     by true true h e = let z : 0 ≡ p .size = cc in absurd (some (sym z))

@@ -1,9 +1,9 @@
 -- The entity text, as a part of the lent file.
 use Prim.Native.Nat.{ℕ, suc, _+_, _-_}
+use mathlib.Core.Bool.{cond}
 use mathlib.Core.List.{List, [], _∷_}
 use lib.Dec.{eqb, leb}
 use lib.ListN.{length, take, drop}
-use Rattle.format.specs.Step.{when}
 use Rattle.format.specs.Answer.{Answer, answer, refused}
 use Rattle.format.specs.Refusal.{numberOf}
 use Rattle.format.specs.declared.section.BspData.{BspData}
@@ -13,7 +13,7 @@ use Rattle.models.specs.declared.text.EntitiesAnswer.the-variants.{Value
 -- how many bytes there are through the first zero, or in all (`read_until`)
 abbrev pub through : List ℕ → ℕ
 through [] = 0
-through (b ∷ bs) = when (eqb b 0) 1 (suc (through bs))
+through (b ∷ bs) = cond (eqb b 0) 1 (suc (through bs))
 
 -- the position after the first zero byte from a position on, or the file's end
 unfoldable pub textEnd : List ℕ → ℕ → ℕ
@@ -30,8 +30,8 @@ pub record Part : Type 0 where
 unfoldable pub entitiesOf : List ℕ → BspData → Answer Part
 entitiesOf s m =
     let at = m .entities .offset in
-    when (leb (length s) at)
-    (when (eqb (m .entities .size) 0) (answer (record { offset = at; size = 0 })) (refused 23))
+    cond (leb (length s) at)
+    (cond (eqb (m .entities .size) 0) (answer (record { offset = at; size = 0 })) (refused 23))
     (answer (record { offset = at; size = textEnd s at - at }))
 
 -- the part of the file that was found, or nothing

@@ -39,7 +39,7 @@ module _ (id : BspFileSectionId) (z : BspFileSection) (limit n i : ℕ) (limited
   by-tests false false p q =
       rw (limited (z .size / elementSize id)) (simp (p, q, le-leb (z .size / elementSize id) limit (ltb-false limit (z .size / elementSize id) q)) (same (leb (z .offset + i * elementSize id + elementSize id) n)))
     where
-      same : (c : Bool) → Rattle.format.specs.Step.when c (answer (z .offset + i * elementSize id)) (refused 23) ≡ cond c (answer (z .offset + i * elementSize id)) (refused 23)
+      same : (c : Bool) → cond c (answer (z .offset + i * elementSize id)) (refused 23) ≡ cond c (answer (z .offset + i * elementSize id)) (refused 23)
       same true = refl
       same false = refl
 

@@ -9,7 +9,6 @@ use lib.ListN.{length, getD}
 use lib.Ieee.{Float, binary32, ofBits, nan}
 use Rattle.format.specs.Answer.{Answer, answer, refused, mapped}
 use Rattle.format.specs.Refusal.{numberOf}
-use Rattle.format.specs.Step.{when}
 use Rattle.format.specs.Code.{contentsOf}
 use Rattle.format.specs.declared.contents.BspLeafContents.{BspLeafContents}
 use Rattle.format.specs.declared.code.CodedContents.{CodedContents}
@@ -215,9 +214,9 @@ normal s at = Vec.vector (f32 s at) (f32 s (at + 4)) (f32 s (at + 8))
 -- a plane of type 0, 1 or 2 ignores its normal
 unfoldable pub planeWith : ℕ → Vector3 → Float → Hyperplane
 planeWith k n d =
-    when (eqb k 0) (Pl.axisX d)
-    (when (eqb k 1) (Pl.axisY d)
-    (when (eqb k 2) (Pl.axisZ d)
+    cond (eqb k 0) (Pl.axisX d)
+    (cond (eqb k 1) (Pl.axisY d)
+    (cond (eqb k 2) (Pl.axisZ d)
     (Pl.newPlane n d)))
 
 unfoldable pub planeHere : List ℕ → ℕ → Hyperplane

@@ -1,10 +1,10 @@
 -- The parts of loading that read records in a row: which reader, how many records, from which position on. The readers are those of
 -- loading (load/specs). A record whose fields are not tested is so many bytes (`plain`).
 use Prim.Native.Nat.{ℕ, _+_, _*_}
-use mathlib.Core.Bool.{Bool, false}
+use mathlib.Core.Bool.{Bool, false, cond}
 use mathlib.Core.List.{List}
 use lib.Dec.{eqb}
-use Rattle.format.specs.Step.{Step, ok, refused, andThen, when}
+use Rattle.format.specs.Step.{Step, ok, refused, andThen}
 use Rattle.format.specs.Section.{recordCount, sectionOf}
 use Rattle.format.specs.declared.section.BspData.{BspData}
 use Rattle.format.specs.declared.section.BspFileSectionId.{BspFileSectionId}
@@ -28,20 +28,20 @@ use Rattle.place.specs.declared.part.Stop.{Stop}
 -- the section of an entry of the directory, in the file's order
 unfoldable pub idOf : ℕ → BspFileSectionId
 idOf i =
-    when (eqb i 0) Id.Entities
-    (when (eqb i 1) Id.Planes
-    (when (eqb i 2) Id.Textures
-    (when (eqb i 3) Id.Vertices
-    (when (eqb i 4) Id.Visibility
-    (when (eqb i 5) Id.RenderNodes
-    (when (eqb i 6) Id.TextureInfo
-    (when (eqb i 7) Id.Faces
-    (when (eqb i 8) Id.Lightmaps
-    (when (eqb i 9) Id.CollisionNodes
-    (when (eqb i 10) Id.Leaves
-    (when (eqb i 11) Id.FaceList
-    (when (eqb i 12) Id.Edges
-    (when (eqb i 13) Id.EdgeList
+    cond (eqb i 0) Id.Entities
+    (cond (eqb i 1) Id.Planes
+    (cond (eqb i 2) Id.Textures
+    (cond (eqb i 3) Id.Vertices
+    (cond (eqb i 4) Id.Visibility
+    (cond (eqb i 5) Id.RenderNodes
+    (cond (eqb i 6) Id.TextureInfo
+    (cond (eqb i 7) Id.Faces
+    (cond (eqb i 8) Id.Lightmaps
+    (cond (eqb i 9) Id.CollisionNodes
+    (cond (eqb i 10) Id.Leaves
+    (cond (eqb i 11) Id.FaceList
+    (cond (eqb i 12) Id.Edges
+    (cond (eqb i 13) Id.EdgeList
     Id.Models)))))))))))))
 
 -- a record that was read, its value aside
@@ -51,13 +51,13 @@ done (refused n) = refused n
 
 -- an entry is the models', and they have none
 unfoldable pub lacksModels : BspData → ℕ → Bool
-lacksModels m i = when (eqb i 14) (eqb (recordCount Id.Models (m .models)) 0) false
+lacksModels m i = cond (eqb i 14) (eqb (recordCount Id.Models (m .models)) 0) false
 
 -- the limit of the section of an entry (6); there must be a model
 unfoldable pub limitAt : BspData → ℕ → Step (Unit {0})
 limitAt m i =
-    when (exceeds (idOf i) m) (refused 6)
-    (when (lacksModels m i) (refused 6)
+    cond (exceeds (idOf i) m) (refused 6)
+    (cond (lacksModels m i) (refused 6)
     (ok tt (8 * i + 12)))
 
 -- the texture of a number, whose offset stands at a position of the list of offsets; the next offset follows

@@ -3,13 +3,14 @@
 -- The byte is the first of the record whose reader refuses. A section of records that does not end where it should (7) stops after its last
 -- one; the entity text, visibility data and lightmaps are named by their start, and the textures, once all are read, by their section's end.
 use Prim.Native.Nat.{ℕ, _+_}
+use mathlib.Core.Bool.{cond}
 use mathlib.Core.List.{List}
 use lib.Dec.{ltb}
 use lib.IntN.{ℤ}
 use lib.ListN.{length}
 use Rattle.format.specs.Field.{u16At, i32At}
 use Rattle.format.specs.Refusal.{numberOf}
-use Rattle.format.specs.Step.{Step, ok, refused, when}
+use Rattle.format.specs.Step.{Step, ok, refused}
 use Rattle.format.specs.declared.section.BspData.{BspData}
 use Rattle.format.specs.declared.section.BspFileSection.{BspFileSection}
 use Rattle.format.specs.declared.section.BspFileSectionId.the-variants as Id
@@ -72,7 +73,7 @@ noMap = record {
 
 -- the header: the version, or the first entry of the directory that is refused
 abbrev pub versionStop : Step ℤ → Stop → Stop
-versionStop (ok version p) further = when (isVersion version) further (stop 0 0)
+versionStop (ok version p) further = cond (isVersion version) further (stop 0 0)
 versionStop (refused n) further = stop 0 0
 
 unfoldable pub headerStop : List ℕ → Stop
@@ -80,7 +81,7 @@ headerStop s = versionStop (i32At s 0) (stopIn Part.Directory s noMap)
 
 -- where the header of a texture starts whose offset stands at a position of the list; an offset that leads past the file stands there itself
 abbrev pub startOf : List ℕ → ℕ → ℕ → Step OptionalOffset → ℕ
-startOf s base at (ok (Some offset) p) = when (ltb (base + offset) (length s)) (base + offset) at
+startOf s base at (ok (Some offset) p) = cond (ltb (base + offset) (length s)) (base + offset) at
 startOf s base at (ok None p) = at
 startOf s base at (refused n) = at
 
@@ -93,8 +94,8 @@ headerStart s m here = stop (here .index) (startAt s (m .textures .offset) (here
 -- the textures: the first offset that is refused, else the first header, else the section's end (7, 14 and 15 are said there)
 unfoldable pub listStop : List ℕ → BspData → Stop
 listStop s m =
-    when (ltb (stopIn Part.Offsets s m .index) (m .«texture_count»)) (stopIn Part.Offsets s m)
-    (when (ltb (stopIn Part.Textures s m .index) (m .«texture_count»)) (headerStart s m (stopIn Part.Textures s m))
+    cond (ltb (stopIn Part.Offsets s m .index) (m .«texture_count»)) (stopIn Part.Offsets s m)
+    (cond (ltb (stopIn Part.Textures s m .index) (m .«texture_count»)) (headerStart s m (stopIn Part.Textures s m))
     (stop (m .«texture_count») (m .textures .offset + m .textures .size)))
 
 -- the texture section: its count, and then the textures

@@ -9,7 +9,6 @@ use Rattle.format.specs.Answer.{Answer, answer, refused, mapped}
 use Rattle.format.specs.Contents.{codeOf}
 use Rattle.format.specs.Listed.{Listed, listed}
 use Rattle.format.specs.Refusal.{numberOf}
-use Rattle.format.specs.Step.{when}
 use Rattle.format.specs.declared.contents.BspLeafContents.{BspLeafContents}
 use Rattle.math.specs.Vector.{vector}
 use Rattle.math.specs.declared.Vector3.{Vector3}
@@ -45,8 +44,8 @@ answered T root cs lent = filled (codesAndReads T root (pointsOf cs)) lent
 -- 24, then 22, then the first refused point's refusal; else a code for each point, and the reads
 unfoldable pub contentsOfPoints : {E : Type 0} → Table E BspLeafContents → ℕ → List Float → List ℕ → Listed
 contentsOfPoints T root cs lent =
-    when (notPoints cs) (listed (refused 24) lent)
-    (when (ltb (length lent) (length (pointsOf cs))) (listed (refused 22) lent)
+    cond (notPoints cs) (listed (refused 24) lent)
+    (cond (ltb (length lent) (length (pointsOf cs))) (listed (refused 22) lent)
     (answered T root cs lent))
 
 abbrev pub pointsAnswer : PointsAnswer → Answer ℕ

@@ -1,7 +1,7 @@
 -- Many points from a root that passed the tree check: demand 3 answers each of them, and the reads are the different nodes met
 -- (`reads-are-nodes` of ways/proofs/NodesMet.antt, over any table whose planes and leaves can be read). Assumes nothing.
 use Prim.Native.Nat.{ℕ, _≤_}
-use mathlib.Core.Bool.{Bool, false}
+use mathlib.Core.Bool.{Bool, false, cond}
 use mathlib.Core.List.{List, [], _∷_, _++_, map}
 use mathlib.Core.Path.{_≡_, refl, sym, _∙_, ap, subst}
 use borrow.Author.Tests.{le-ltb}
@@ -11,7 +11,6 @@ use lib.ListN.{length, drop}
 use Rattle.format.specs.Answer.{Answer, answer, refused, mapped}
 use Rattle.format.specs.Contents.{codeOf}
 use Rattle.format.specs.Listed.{Listed, listed}
-use Rattle.format.specs.Step.{when}
 use Rattle.format.specs.declared.contents.BspLeafContents.{BspLeafContents}
 use Rattle.format.specs.declared.section.BspData.{BspData}
 use Rattle.math.specs.declared.Vector3.{Vector3}
@@ -71,8 +70,8 @@ module _ (s : List ℕ) (m : BspData) (loads : loadOf s ≡ answer m) (hull : Bs
     opened : contentsOfPoints T root cs lent ≡ answered T root cs lent
     unfolding contentsOfPoints
     opened =
-        ap (λ (b : Bool). when b (listed (refused 24) lent) (when (ltb (length lent) (length (pointsOf cs))) (listed (refused 22) lent) (answered T root cs lent))) are
-        ∙ ap (λ (b : Bool). when b (listed (refused 22) lent) (answered T root cs lent)) (le-ltb (length lent) (length (pointsOf cs)) room)
+        ap (λ (b : Bool). cond b (listed (refused 24) lent) (cond (ltb (length lent) (length (pointsOf cs))) (listed (refused 22) lent) (answered T root cs lent))) are
+        ∙ ap (λ (b : Bool). cond b (listed (refused 22) lent) (answered T root cs lent)) (le-ltb (length lent) (length (pointsOf cs)) room)
 
     pub met : Met s m hull cs lent
     met =

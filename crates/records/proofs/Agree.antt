@@ -2,12 +2,12 @@
 -- Assumes nothing.
 use Prim.Native.Nat.{ℕ}
 use mathlib.Core.Path.{_≡_, refl}
-use mathlib.Core.Bool.{Bool, true, false}
+use mathlib.Core.Bool.{Bool, true, false, cond}
 use mathlib.Core.List.{List}
 use native.Mathlib.Omega.{arith}
 use lib.Dec.{ltb}
 use Rattle.format.specs.Answer.{answer}
-use Rattle.format.specs.Step.{Step, ok, refused, andThen, when}
+use Rattle.format.specs.Step.{Step, ok, refused, andThen}
 use Rattle.format.specs.Field.{f32At, indexAt}
 use Rattle.format.specs.declared.section.BspData.{BspData}
 use Rattle.format.specs.declared.section.BspFileSectionId.the-variants.{TextureInfo}
@@ -35,7 +35,7 @@ pub agree-self : {A : Type 0} (x : Step A) → Agree x x
 agree-self x = record { values = one-value x; places = one-place x }
 
 -- two tests, each of which may refuse
-pub agree-tests : {A : Type 0} (t u : Bool) (n : ℕ) {x y : Step A} → Agree x y → Agree (when t (refused n) x) (when u (refused n) y)
+pub agree-tests : {A : Type 0} (t u : Bool) (n : ℕ) {x y : Step A} → Agree x y → Agree (cond t (refused n) x) (cond u (refused n) y)
 agree-tests false false n h = h
 agree-tests true u n h = record { values = λ v w p q e f. absurd (never e); places = λ v w p q e f. absurd (never e) }
 agree-tests false true n h = record { values = λ v w p q e f. absurd (never f); places = λ v w p q e f. absurd (never f) }

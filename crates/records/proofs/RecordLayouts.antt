@@ -4,7 +4,7 @@
 -- Assumes nothing.
 use Prim.Native.Nat.{ℕ, zero, suc, _+_, _-_, _^_, _≤_, _<_, min, zero-le}
 use mathlib.Core.Path.{_≡_, refl, sym, ap, _∙_}
-use mathlib.Core.Bool.{Bool, true, false}
+use mathlib.Core.Bool.{Bool, true, false, cond}
 use mathlib.Core.List.{List}
 use native.Mathlib.Nat.{add-zero}
 use native.Mathlib.Omega.{arith}
@@ -15,7 +15,7 @@ use lib.ListN.{length}
 use mir.Syntax.{w16, w32}
 use mir.Val.{toZ}
 use Rattle.math.specs.Vector.{vector}
-use Rattle.format.specs.Step.{Step, ok, refused, andThen, when}
+use Rattle.format.specs.Step.{Step, ok, refused, andThen}
 use Rattle.format.specs.Field.{u16At, indexAt, notNegative}
 use Rattle.format.specs.Layout as Layout
 use Rattle.format.specs.Layout.{bits, int, float}
@@ -159,9 +159,9 @@ unfolding renderChild
 low-of n = simp (le-ltb n 0 zero-le)
 
 -- The children of a node, in the specifications' words: bit 15 clear, a node's index; set, the bitwise complement is a leaf's index.
-pub node-child-bits : (n : ℕ) → n < 2 ^ 16 → renderChild (toZ w16 n) ≡ when (ltb n 32768) (RenderChild.Node n) (RenderChild.Leaf (65535 - n))
+pub node-child-bits : (n : ℕ) → n < 2 ^ 16 → renderChild (toZ w16 n) ≡ cond (ltb n 32768) (RenderChild.Node n) (RenderChild.Leaf (65535 - n))
 node-child-bits n h = by (ltb n 32768) refl
   where
-    by : (b : Bool) → ltb n 32768 ≡ b → renderChild (toZ w16 n) ≡ when b (RenderChild.Node n) (RenderChild.Leaf (65535 - n))
+    by : (b : Bool) → ltb n 32768 ≡ b → renderChild (toZ w16 n) ≡ cond b (RenderChild.Node n) (RenderChild.Leaf (65535 - n))
     by true e = let z : toZ w16 n ≡ pos n = simp e in ap renderChild z ∙ low-of n
     by false e = let z : toZ w16 n ≡ negsuc (65535 - n) = simp e (ap negsuc (omega arith)) in ap renderChild z ∙ leaf-of (65535 - n)

@@ -1,11 +1,12 @@
 -- Edges, the list of edges and the list of faces.
 use Prim.Native.Nat.{ℕ}
+use mathlib.Core.Bool.{cond}
 use mathlib.Core.List.{List}
 use lib.IntN.{ℤ, pos, natAbs}
 use lib.Signed.{ltZ}
 use mir.Syntax.{w32, w64}
 use mir.Val.{ofZ}
-use Rattle.format.specs.Step.{Step, ok, refused, andThen, when}
+use Rattle.format.specs.Step.{Step, ok, refused, andThen}
 use Rattle.format.specs.Answer as Answer
 use Rattle.format.specs.Answer.{Answer}
 use Rattle.format.specs.Refusal.{numberOf}
@@ -37,7 +38,7 @@ edgeAt s at =
 -- an entry x of the list of edges: the edge x, or if x is negative the edge `-x as usize`, walked backward
 unfoldable pub edgeIndex : ℤ → BspEdgeIndex
 edgeIndex x =
-    when (ltZ x (pos 0))
+    cond (ltZ x (pos 0))
     (record { direction = Backward; index = ofZ w64 (negated w32 x) })
     (record { direction = Forward; index = natAbs x })
 

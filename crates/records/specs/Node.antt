@@ -1,10 +1,11 @@
 -- Render nodes (`load_render_node`) and collision nodes.
 use Prim.Native.Nat.{ℕ}
+use mathlib.Core.Bool.{cond}
 use mathlib.Core.List.{List}
 use lib.IntN.{ℤ, pos, negsuc, natAbs, _-ℤ_}
 use lib.Signed.{ltZ}
 use mir.Syntax.{w16}
-use Rattle.format.specs.Step.{Step, ok, refused, andThen, when}
+use Rattle.format.specs.Step.{Step, ok, refused, andThen}
 use Rattle.format.specs.Answer as Answer
 use Rattle.format.specs.Answer.{Answer}
 use Rattle.format.specs.Refusal.{numberOf}
@@ -39,7 +40,7 @@ use Rattle.records.specs.declared.node.CollisionNodeAnswer.the-variants 
 
 -- a child f: a node, or if it is negative the leaf -1 - f
 unfoldable pub renderChild : ℤ → BspRenderNodeChild
-renderChild f = when (ltZ f (pos 0)) (RenderChild.Leaf (natAbs (negsuc 0 -ℤ f))) (RenderChild.Node (natAbs f))
+renderChild f = cond (ltZ f (pos 0)) (RenderChild.Leaf (natAbs (negsuc 0 -ℤ f))) (RenderChild.Node (natAbs f))
 
 unfoldable pub renderChildAt : List ℕ → ℕ → Step BspRenderNodeChild
 renderChildAt s at = andThen (i16At s at) (λ f p. ok (renderChild f) p)
@@ -76,7 +77,7 @@ withContents Coded.Invalid k = refused 10
 -- a child x: a node, or if it is negative the contents of the code -x
 abbrev pub collisionChild : ℤ → ℕ → Step BspCollisionNodeChild
 collisionChild x p =
-    when (ltZ x (pos 0))
+    cond (ltZ x (pos 0))
     (withContents (negatedContents w16 x) (λ c. ok (CollisionChild.Contents c) p))
     (ok (CollisionChild.Node (natAbs x)) p)
 

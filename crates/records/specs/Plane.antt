@@ -1,5 +1,6 @@
 -- Planes (`read_hyperplane`) and vertices.
 use Prim.Native.Nat.{ℕ}
+use mathlib.Core.Bool.{cond}
 use mathlib.Core.List.{List}
 use lib.Dec.{eqb}
 use lib.IntN.{ℤ, pos, negsuc}
@@ -7,7 +8,7 @@ use lib.Ieee.{Float}
 use Rattle.math.specs.Plane.{axisX, axisY, axisZ, newPlane}
 use Rattle.math.specs.declared.Vector3.{Vector3}
 use Rattle.math.specs.declared.Hyperplane.{Hyperplane}
-use Rattle.format.specs.Step.{Step, ok, refused, andThen, when}
+use Rattle.format.specs.Step.{Step, ok, refused, andThen}
 use Rattle.format.specs.Answer as Answer
 use Rattle.format.specs.Answer.{Answer}
 use Rattle.format.specs.Refusal.{numberOf}
@@ -26,9 +27,9 @@ use Rattle.records.specs.declared.plane.VertexAnswer.the-variants as Ver
 -- a plane of type 0, 1 or 2 is an axis' and ignores its normal; any other goes through `Hyperplane::new`
 unfoldable pub filePlane : ℤ → Vector3 → Float → Hyperplane
 filePlane (pos kind) normal dist =
-    when (eqb kind 0) (axisX dist)
-    (when (eqb kind 1) (axisY dist)
-    (when (eqb kind 2) (axisZ dist)
+    cond (eqb kind 0) (axisX dist)
+    (cond (eqb kind 1) (axisY dist)
+    (cond (eqb kind 2) (axisZ dist)
     (newPlane normal dist)))
 filePlane (negsuc kind) normal dist = newPlane normal dist
 

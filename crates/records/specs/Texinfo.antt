@@ -1,11 +1,11 @@
 -- Texture infos (`load_texinfo`), with the file's texture number, which may equal the texture count.
 use Prim.Native.Nat.{ℕ}
 use mathlib.Core.List.{List}
-use mathlib.Core.Bool.{Bool, true, false}
+use mathlib.Core.Bool.{Bool, true, false, cond}
 use lib.Dec.{eqb}
 use lib.Ieee.{Float}
 use Rattle.math.specs.declared.Vector3.{Vector3}
-use Rattle.format.specs.Step.{Step, ok, refused, andThen, when}
+use Rattle.format.specs.Step.{Step, ok, refused, andThen}
 use Rattle.format.specs.Answer as Answer
 use Rattle.format.specs.Answer.{Answer}
 use Rattle.format.specs.Refusal.{numberOf}
@@ -25,7 +25,7 @@ use Rattle.records.specs.declared.texinfo.TexInfoAnswer.the-variants as 
 
 -- 0 or 1
 abbrev pub flag : ℕ → ℕ → Step Bool
-flag n p = when (eqb n 0) (ok false p) (when (eqb n 1) (ok true p) (refused 10))
+flag n p = cond (eqb n 0) (ok false p) (cond (eqb n 1) (ok true p) (refused 10))
 
 unfoldable pub flagAt : List ℕ → ℕ → Step Bool
 flagAt s at = andThen (indexAt 10 s at) (λ n p. flag n p)

@@ -1,11 +1,11 @@
 -- What the report program prints of what it reads. The texts and the seven lines are document 01's, under 'Report program'.
 use Prim.Native.Nat.{ℕ}
+use mathlib.Core.Bool.{cond}
 use mathlib.Core.List.{List, _++_}
 use lib.Dec.{ltb}
 use lib.ListN.{length}
 use Rattle.format.specs.Answer.{Answer, answer, refused}
 use Rattle.format.specs.Section.{recordCount, sectionOf}
-use Rattle.format.specs.Step.{when}
 use Rattle.format.specs.declared.section.BspData.{BspData}
 use Rattle.format.specs.declared.section.BspFileSectionId.{BspFileSectionId}
 use Rattle.format.specs.declared.section.BspFileSectionId.the-variants.{Entities, Planes, RenderNodes, Faces, CollisionNodes, Leaves, Models}
@@ -34,4 +34,4 @@ told (refused n) = line (ascii "refused ") n
 
 -- the whole text; what is longer than 65,536 bytes is not loaded
 unfoldable pub reportText : List ℕ → List ℕ
-reportText input = when (ltb 65536 (length input)) (ascii "too long\n") (told (loadOf input))
+reportText input = cond (ltb 65536 (length input)) (ascii "too long\n") (told (loadOf input))

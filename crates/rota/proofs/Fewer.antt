@@ -1,14 +1,13 @@
 -- A row that is whole for a number of leaves is whole for fewer. Assumes nothing.
 use Prim.Native.Nat.{ℕ, zero, suc, _+_, _*_, _<_, _≤_}
 use mathlib.Core.Path.{_≡_, refl, sym, ap, _∙_}
-use mathlib.Core.Bool.{Bool, true, false}
+use mathlib.Core.Bool.{Bool, true, false, cond}
 use mathlib.Core.List.{List, [], _∷_}
 use native.Mathlib.Omega.{arith}
 use borrow.Author.Tests.{lt-ltb, le-ltb, ltb-true, ltb-false}
 use lib.Dec.{ltb, eqb}
 use lib.ListN.{length, drop, replicate}
 use Rattle.format.specs.Answer.{Answer, answer, refused, mapped, thenAnswer}
-use Rattle.format.specs.Step.{when}
 use Rattle.format.specs.declared.section.BspData.{BspData}
 use Rattle.format.proofs.Answers.{mapped-answer}
 use Rattle.records.specs.Leaf.{leafOf}
@@ -33,18 +32,18 @@ whole-before xs x w = (_, ap (before xs) (w .1))
 
 module _ (c n : ℕ) (fewer : c ≤ n) where
   -- where no byte is left
-  at-end : (leaf : ℕ) → Whole {A = List Bool} (when (ltb leaf n) (refused 33) (answer [])) → Whole {A = List Bool} (when (ltb leaf c) (refused 33) (answer []))
+  at-end : (leaf : ℕ) → Whole {A = List Bool} (cond (ltb leaf n) (refused 33) (answer [])) → Whole {A = List Bool} (cond (ltb leaf c) (refused 33) (answer []))
   at-end leaf w = by (ltb leaf n) refl w
     where
-      by : (b : Bool) → ltb leaf n ≡ b → Whole {A = List Bool} (when b (refused 33) (answer [])) → Whole {A = List Bool} (when (ltb leaf c) (refused 33) (answer []))
+      by : (b : Bool) → ltb leaf n ≡ b → Whole {A = List Bool} (cond b (refused 33) (answer [])) → Whole {A = List Bool} (cond (ltb leaf c) (refused 33) (answer []))
       by true q w = none 33 (w .0) (w .1)
       by false q w = let l : n ≤ leaf = ltb-false leaf n q in rw (le-ltb leaf c (omega arith)) ([], refl)
 
   -- where the row goes on
-  on : (leaf : ℕ) (xs ys : List Bool) (x y : Answer (List Bool)) → (Whole x → Whole y) → Whole (when (ltb leaf n) (before xs x) (answer [])) → Whole (when (ltb leaf c) (before ys y) (answer []))
+  on : (leaf : ℕ) (xs ys : List Bool) (x y : Answer (List Bool)) → (Whole x → Whole y) → Whole (cond (ltb leaf n) (before xs x) (answer [])) → Whole (cond (ltb leaf c) (before ys y) (answer []))
   on leaf xs ys x y f w = by (ltb leaf c) refl
     where
-      by : (b : Bool) → ltb leaf c ≡ b → Whole (when b (before ys y) (answer []))
+      by : (b : Bool) → ltb leaf c ≡ b → Whole (cond b (before ys y) (answer []))
       by true q =
           let l : leaf < c = ltb-true leaf c q in
           let t : ltb leaf n ≡ true = lt-ltb leaf n (omega arith) in
@@ -63,7 +62,7 @@ module _ (c n : ℕ) (fewer : c ≤ n) where
   unfolding rowAt
   row-at-fewer visibility offset w = by (ltb (length visibility) offset) w
     where
-      by : (b : Bool) → Whole (when b (refused 33) (mapped (visible 1) (rowBits n 1 (drop offset visibility)))) → Whole (when b (refused 33) (mapped (visible 1) (rowBits c 1 (drop offset visibility))))
+      by : (b : Bool) → Whole (cond b (refused 33) (mapped (visible 1) (rowBits n 1 (drop offset visibility)))) → Whole (cond b (refused 33) (mapped (visible 1) (rowBits c 1 (drop offset visibility))))
       by true w = none 33 (w .0) (w .1)
       by false w =
           let a = mapped-answer (visible 1) (rowBits n 1 (drop offset visibility)) (w .0) (w .1) in
@@ -91,8 +90,8 @@ module _ (c n : ℕ) (fewer : c ≤ n) where
         leaf-by (answer l) w = offset-fewer (l .«vis_offset») w
         leaf-by (refused r) w = none r (w .0) (w .1)
 
-        by : (b : Bool) → Whole (when b (answer []) (thenAnswer (leafOf s m leaf) (λ l. rowOf s m n (l .«vis_offset»))))
-            → Whole (when b (answer []) (thenAnswer (leafOf s m leaf) (λ l. rowOf s m c (l .«vis_offset»))))
+        by : (b : Bool) → Whole (cond b (answer []) (thenAnswer (leafOf s m leaf) (λ l. rowOf s m n (l .«vis_offset»))))
+            → Whole (cond b (answer []) (thenAnswer (leafOf s m leaf) (λ l. rowOf s m c (l .«vis_offset»))))
         by true w = ([], refl)
         by false w = leaf-by (leafOf s m leaf) w
 

@@ -10,7 +10,7 @@ use lib.ListN.{length, replicate, length-replicate}
 use Rattle.format.specs.Answer as Ans
 use Rattle.format.specs.Answer.{Answer, answer, refused, mapped, thenAnswer}
 use Rattle.format.specs.Step as Step
-use Rattle.format.specs.Step.{Step, when}
+use Rattle.format.specs.Step.{Step}
 use Rattle.format.specs.Section.{sectionOf, recordCount, elementSize, withinLimit, place}
 use Rattle.format.specs.declared.contents.BspLeafContents.{BspLeafContents}
 use Rattle.format.specs.declared.contents.BspLeafContents.the-variants.{Empty}
@@ -80,7 +80,7 @@ served-read-at : {A : Type 0} (x : Answer ℕ) (one : ℕ → Step A) → Served
 served-read-at x one (answered p e) = subst (λ (y : Answer ℕ). Served (readAt y one)) (sym e) (served-reading (one p))
 served-read-at x one (unreadable e) = unreadable (ap (λ (y : Answer ℕ). readAt y one) e)
 
-served-when : {A : Type 0} (b : Bool) (x y : Answer A) → Served x → Served y → Served (when b x y)
+served-when : {A : Type 0} (b : Bool) (x y : Answer A) → Served x → Served y → Served (cond b x y)
 served-when true x y a b = a
 served-when false x y a b = b
 

@@ -4,7 +4,7 @@
 use Prim.Native.Nat.{ℕ, zero, suc, _+_, _*_, _-_, _<_, _≤_, min}
 use mathlib.Core.Path.{_≡_, refl, sym, ap, _∙_, subst}
 use mathlib.Core.List.{List}
-use mathlib.Core.Bool.{Bool, true, false}
+use mathlib.Core.Bool.{Bool, true, false, cond}
 use native.Mathlib.Nat.{zero-mul, suc-mul, add-zero}
 use native.Mathlib.Omega.{arith}
 use borrow.Author.Tests.{eqb-true, leb-true}
@@ -12,7 +12,7 @@ use lib.Dec.{leb, eqb}
 use lib.IntN.{pos, natAbs}
 use lib.ListN.{length}
 use lib.Signed.{ltZ}
-use Rattle.format.specs.Step.{Step, ok, refused, andThen, when}
+use Rattle.format.specs.Step.{Step, ok, refused, andThen}
 use Rattle.format.specs.Field.{field, u8At, u16At, u32At, i16At, i32At, f32At, indexAt}
 use Rattle.format.specs.Section.{elementSize, recordCount}
 use Rattle.format.specs.declared.section.BspFileSection.{BspFileSection}
@@ -66,18 +66,18 @@ of-field {A} k v = record {
   inside = λ s at w p e. by s at w p (leb (at + k) (length s)) refl e .1;
 }
   where
-    by : (s : List ℕ) (at : ℕ) (w : A) (p : ℕ) (b : Bool) → leb (at + k) (length s) ≡ b → when b (ok (v s at) (at + k)) (refused 1) ≡ ok w p
+    by : (s : List ℕ) (at : ℕ) (w : A) (p : ℕ) (b : Bool) → leb (at + k) (length s) ≡ b → cond b (ok (v s at) (at + k)) (refused 1) ≡ ok w p
         → (p ≤ at + k) × (p ≤ at + (length s - at))
     by s at w p true h e = let l = leb-true (at + k) (length s) h in (omega (arith, at-position e), omega (arith, at-position e))
     by s at w p false h e = not-ok e
 
-pub of-when : {A : Type 0} {f g : List ℕ → ℕ → Step A} (t : List ℕ → ℕ → Bool) (k : ℕ) → Bounded f k → Bounded g k → Bounded (λ s at. when (t s at) (f s at) (g s at)) k
+pub of-when : {A : Type 0} {f g : List ℕ → ℕ → Step A} (t : List ℕ → ℕ → Bool) (k : ℕ) → Bounded f k → Bounded g k → Bounded (λ s at. cond (t s at) (f s at) (g s at)) k
 of-when {A} {f} {g} t k sf sg = record {
   size = λ s at v p e. by s at v p (t s at) e .0;
   inside = λ s at v p e. by s at v p (t s at) e .1;
 }
   where
-    by : (s : List ℕ) (at : ℕ) (v : A) (p : ℕ) (b : Bool) → when b (f s at) (g s at) ≡ ok v p → (p ≤ at + k) × (p ≤ at + (length s - at))
+    by : (s : List ℕ) (at : ℕ) (v : A) (p : ℕ) (b : Bool) → cond b (f s at) (g s at) ≡ ok v p → (p ≤ at + k) × (p ≤ at + (length s - at))
     by s at v p true e = (sf .size s at v p e, sf .inside s at v p e)
     by s at v p false e = (sg .size s at v p e, sg .inside s at v p e)
 
@@ -148,7 +148,7 @@ pub at-end : {A : Type 0} (one : List ℕ → ℕ → Step A) (id : BspFileSecti
 unfolding section
 at-end one id s z q e = by (eachRecord one id s z) e
   where
-    end : (p : ℕ) (t : Bool) → eqb p (z .offset + z .size) ≡ t → when t (here p) (refused 7) ≡ here q → here p ≡ here (z .offset + z .size)
+    end : (p : ℕ) (t : Bool) → eqb p (z .offset + z .size) ≡ t → cond t (here p) (refused 7) ≡ here q → here p ≡ here (z .offset + z .size)
     end p true h e = ap here (eqb-true p (z .offset + z .size) h)
     end p false h e = not-ok e
 

@@ -4,7 +4,7 @@
 use Prim.Native.Nat.{ℕ, _+_, _*_}
 use mathlib.Core.Path.{_≡_, refl, sym, ap, _∙_, subst}
 use mathlib.Core.List.{List}
-use mathlib.Core.Bool.{Bool, true, false}
+use mathlib.Core.Bool.{Bool, true, false, cond}
 use native.Mathlib.Omega.{arith}
 use borrow.Author.Tests.{leb-true}
 use lib.Dec.{leb, ltb}
@@ -12,7 +12,7 @@ use lib.IntN.{ℤ, pos, negsuc}
 use lib.ListN.{length}
 use mir.Syntax.{w32}
 use mir.Val.{toZ}
-use Rattle.format.specs.Step.{Step, ok, refused, andThen, when}
+use Rattle.format.specs.Step.{Step, ok, refused, andThen}
 use Rattle.format.specs.Field.{u32At, i32At, indexAt, notNegative}
 use Rattle.format.specs.Layout as Layout
 use Rattle.format.specs.Layout.{int, littleEndian}
@@ -37,7 +37,7 @@ at-value {v = v} e = ap (valueOr v) e
 absolute : (n : ℕ) (z : ℤ) (q v p : ℕ) → notNegative n z q ≡ ok v p → (pos v ≡ z) × (p ≡ q)
 absolute n (pos k) q v p e = by (ltb k 0) e
   where
-    by : (b : Bool) → when b (refused n) (ok k q) ≡ ok v p → (pos v ≡ pos k) × (p ≡ q)
+    by : (b : Bool) → cond b (refused n) (ok k q) ≡ ok v p → (pos v ≡ pos k) × (p ≡ q)
     by true e = not-ok e
     by false e = (ap pos (sym (at-value e)), sym (at-position e))
 absolute n (negsuc k) q v p e = not-ok e
@@ -72,14 +72,14 @@ parted (refused n) k v p e = not-ok e
 section-entry : (id : BspFileSectionId) (s : List ℕ) (at : ℕ) (z : BspFileSection) (p : ℕ) → sectionAt id s at ≡ ok z p → Entry s at z × (p ≡ at + 8)
 unfolding sectionAt
 section-entry id s at z p e =
-    let a = parted (indexAt 3 s at) (λ offset p. andThen (indexAt 4 s p) (λ size next. when (isMultiple id size) (ok (record { offset = offset; size = size }) next) (refused 5))) z p e in
-    let b = parted (indexAt 4 s (a .at)) (λ size next. when (isMultiple id size) (ok (record { offset = a .value; size = size }) next) (refused 5)) z p (a .then) in
+    let a = parted (indexAt 3 s at) (λ offset p. andThen (indexAt 4 s p) (λ size next. cond (isMultiple id size) (ok (record { offset = offset; size = size }) next) (refused 5))) z p e in
+    let b = parted (indexAt 4 s (a .at)) (λ size next. cond (isMultiple id size) (ok (record { offset = a .value; size = size }) next) (refused 5)) z p (a .then) in
     let i = index 3 s at 0 at (a .value) (a .at) (omega arith) (a .first) in
     let j = index 4 s at 4 (a .at) (b .value) (b .at) (i .1) (b .first) in
     by (isMultiple id (b .value)) (a .value) (b .value) (b .at) (i .0) (j .0) (j .1) (b .then)
   where
     by : (t : Bool) (o n q : ℕ) → pos o ≡ int Layout.entry 0 s at → pos n ≡ int Layout.entry 1 s at → q ≡ at + 8
-        → when t (ok (record { offset = o; size = n }) q) (refused 5) ≡ ok z p
+        → cond t (ok (record { offset = o; size = n }) q) (refused 5) ≡ ok z p
         → Entry s at z × (p ≡ at + 8)
     by false o n q c d r e = not-ok e
     by true o n q c d r e = (subst (Entry s at) (at-value e) (c, d), sym (at-position e) ∙ r)
@@ -156,7 +156,7 @@ version-end : (s : List ℕ) (z : ℤ) (q : ℕ) → i32At s 0 ≡ ok z q → q 
 unfolding i32At u32At
 version-end s z q h = by (leb 4 (length s)) _ h
   where
-    by : (b : Bool) (n : ℕ) → andThen (when b (ok n 4) (refused 1)) (λ n p. ok (toZ w32 n) p) ≡ ok z q → q ≡ 4
+    by : (b : Bool) (n : ℕ) → andThen (cond b (ok n 4) (refused 1)) (λ n p. ok (toZ w32 n) p) ≡ ok z q → q ≡ 4
     by true n e = sym (at-position e)
     by false n e = not-ok e
 
@@ -165,10 +165,10 @@ pub directory : (s : List ℕ) (m : BspData) (p : ℕ) → headerAt s ≡ ok m p
     → ((id : BspFileSectionId) → Entry s (4 + 8 * Layout.entryNumber id) (sectionOf id m)) × (p ≡ 124)
 unfolding headerAt
 directory s m p e =
-    let a = parted (i32At s 0) (λ version p. when (isVersion version) (tableAt s p) (refused 2)) m p e in
+    let a = parted (i32At s 0) (λ version p. cond (isVersion version) (tableAt s p) (refused 2)) m p e in
     by (a .at) (isVersion (a .value)) (a .then) (version-end s (a .value) (a .at) (a .first))
   where
-    by : (q : ℕ) (b : Bool) → when b (tableAt s q) (refused 2) ≡ ok m p → q ≡ 4
+    by : (q : ℕ) (b : Bool) → cond b (tableAt s q) (refused 2) ≡ ok m p → q ≡ 4
         → ((id : BspFileSectionId) → Entry s (4 + 8 * Layout.entryNumber id) (sectionOf id m)) × (p ≡ 124)
     by q true e l = table-entries s 4 m p (subst (λ q. tableAt s q ≡ ok m p) l e)
     by q false e l = not-ok e

@@ -1,10 +1,10 @@
 -- Sections: records in a row, rows of records that are not tested, and bytes.
 use Prim.Native.Nat.{ℕ, zero, suc, _+_, _*_, _-_, min}
-use mathlib.Core.Bool.{_||_}
+use mathlib.Core.Bool.{_||_, cond}
 use mathlib.Core.List.{List}
 use lib.Dec.{eqb, leb}
 use lib.ListN.{length}
-use Rattle.format.specs.Step.{Step, ok, refused, andThen, when}
+use Rattle.format.specs.Step.{Step, ok, refused, andThen}
 use Rattle.format.specs.Section.{elementSize, recordCount}
 use Rattle.format.specs.declared.section.BspFileSection.{BspFileSection}
 use Rattle.format.specs.declared.section.BspFileSectionId.{BspFileSectionId}
@@ -25,7 +25,7 @@ section one id s z = andThen (eachRecord one id s z) (λ u p. checkEndPosition z
 
 -- so many bytes that are not tested; none are there everywhere
 abbrev pub plain : List ℕ → ℕ → ℕ → Step (Unit {0})
-plain s at n = when (eqb n 0 || leb (at + n) (length s)) (ok tt (at + n)) (refused 1)
+plain s at n = cond (eqb n 0 || leb (at + n) (length s)) (ok tt (at + n)) (refused 1)
 
 -- a section of records whose fields are not tested; what it is to `section` is the law `plain-section` of proofs/Plain.antt
 unfoldable pub plainSection : BspFileSectionId → List ℕ → BspFileSection → Step (Unit {0})

@@ -2,10 +2,10 @@
 -- limits (6), in document 01's order.
 use Prim.Native.Nat.{ℕ, _%_}
 use mathlib.Core.List.{List}
-use mathlib.Core.Bool.{Bool, false, not}
+use mathlib.Core.Bool.{Bool, false, not, cond}
 use lib.Dec.{eqb}
 use lib.IntN.{ℤ, pos, negsuc}
-use Rattle.format.specs.Step.{Step, ok, refused, andThen, when}
+use Rattle.format.specs.Step.{Step, ok, refused, andThen}
 use Rattle.format.specs.Field.{i32At, indexAt}
 use Rattle.format.specs.Refusal.{numberOf}
 use Rattle.format.specs.Section.{elementSize, withinLimit, recordCount, sectionOf}
@@ -30,7 +30,7 @@ unfoldable pub sectionAt : BspFileSectionId → List ℕ → ℕ → Step BspFil
 sectionAt id s at =
     andThen (indexAt 3 s at) (λ offset p.
     andThen (indexAt 4 s p) (λ size next.
-    when (isMultiple id size) (ok (record { offset = offset; size = size }) next) (refused 5)))
+    cond (isMultiple id size) (ok (record { offset = offset; size = size }) next) (refused 5)))
 
 -- three sections of the table
 unfoldable pub threeSectionsAt : BspFileSectionId → BspFileSectionId → BspFileSectionId → List ℕ → ℕ → Step Three
@@ -83,7 +83,7 @@ isVersion (negsuc n) = false
 unfoldable pub headerAt : List ℕ → Step BspData
 headerAt s =
     andThen (i32At s 0) (λ version p.
-    when (isVersion version) (tableAt s p) (refused 2))
+    cond (isVersion version) (tableAt s p) (refused 2))
 
 -- a section has more elements than its limit
 unfoldable pub exceeds : BspFileSectionId → BspData → Bool
@@ -92,20 +92,20 @@ exceeds id m = not (withinLimit id (recordCount id (sectionOf id m)))
 -- the limits, from the leaves on
 unfoldable pub limitsFromLeaves : BspData → Step (Unit {0})
 limitsFromLeaves m =
-    when (exceeds Leaves m) (refused 6)
-    (when (exceeds Edges m) (refused 6)
-    (when (exceeds EdgeList m) (refused 6)
-    (when (eqb (recordCount Models (m .models)) 0) (refused 6)
-    (when (exceeds Models m) (refused 6)
+    cond (exceeds Leaves m) (refused 6)
+    (cond (exceeds Edges m) (refused 6)
+    (cond (exceeds EdgeList m) (refused 6)
+    (cond (eqb (recordCount Models (m .models)) 0) (refused 6)
+    (cond (exceeds Models m) (refused 6)
     (ok tt 0)))))
 
 unfoldable pub limits : BspData → Step (Unit {0})
 limits m =
-    when (exceeds Planes m) (refused 6)
-    (when (exceeds Vertices m) (refused 6)
-    (when (exceeds Visibility m) (refused 6)
-    (when (exceeds RenderNodes m) (refused 6)
-    (when (exceeds CollisionNodes m) (refused 6)
+    cond (exceeds Planes m) (refused 6)
+    (cond (exceeds Vertices m) (refused 6)
+    (cond (exceeds Visibility m) (refused 6)
+    (cond (exceeds RenderNodes m) (refused 6)
+    (cond (exceeds CollisionNodes m) (refused 6)
     (limitsFromLeaves m)))))
 
 -- what the answers of the readers stand for

@@ -11,7 +11,6 @@ use lib.Ieee.{Float}
 use lib.ListN.{length, take, drop, getD}
 use Rattle.format.specs.Answer.{Answer, answer, refused, mapped, thenAnswer}
 use Rattle.format.specs.Listed.{into}
-use Rattle.format.specs.Step.{when}
 use Rattle.format.specs.declared.contents.BspLeafContents.{BspLeafContents}
 use Rattle.format.specs.declared.section.BspData.{BspData}
 use Rattle.phys.specs.declared.Trace.{Trace}
@@ -73,7 +72,7 @@ is-word : (n : ℕ) (t : HullTable) → tableNumbered n ≡ Table t → n ≡ ta
 unfolding tableNumbered
 is-word n t e = by (eqb n 0) (eqb n 1) (eqb n 2) refl refl refl t e
   where
-    by : (a b c : Bool) → eqb n 0 ≡ a → eqb n 1 ≡ b → eqb n 2 ≡ c → (t : HullTable) → when a (Table Render) (when b (Table Clip) (when c (Table Box) NoTable)) ≡ Table t → n ≡ tableWord t
+    by : (a b c : Bool) → eqb n 0 ≡ a → eqb n 1 ≡ b → eqb n 2 ≡ c → (t : HullTable) → cond a (Table Render) (cond b (Table Clip) (cond c (Table Box) NoTable)) ≡ Table t → n ≡ tableWord t
     by true b c p q r t e = let z : t ≡ Render = cc in rw z (eqb-true n 0 p)
     by false true c p q r t e = let z : t ≡ Clip = cc in rw z (eqb-true n 1 q)
     by false false true p q r t e = let z : t ≡ Box = cc in rw z (eqb-true n 2 r)

@@ -11,7 +11,6 @@ use lib.Ieee.Bits.{ofBits-fits}
 use lib.ListN.{length, getD, drop}
 use Rattle.format.specs.Answer.{Answer, answer, refused, mapped}
 use Rattle.format.specs.Listed.{listed, into}
-use Rattle.format.specs.Step.{when}
 use Rattle.nodes.specs.declared.table.HullTable.{HullTable}
 use Rattle.nodes.specs.declared.table.HullTable.the-variants.{Render, Clip, Box}
 use Rattle.tree.specs.Readable.{Floats}
@@ -78,7 +77,7 @@ module _ (P : ℕ → Type 0) (p0 : P 0) where
     of-listed (refused n) list out f = f n refl
     of-listed (answer ns) list out f = by (ltb (length list) (length ns))
       where
-        by : (b : Bool) → P (listedIn (when b (listed (refused 22) list) (listed (answer (length ns)) (ns ++ drop (length ns) list))) out .status)
+        by : (b : Bool) → P (listedIn (cond b (listed (refused 22) list) (listed (answer (length ns)) (ns ++ drop (length ns) list))) out .status)
         by true = p22
         by false = p0
 
@@ -102,7 +101,7 @@ pub of-words : (ws : List ℕ) → OfWords ws
 unfolding hullFrom
 of-words ws = by (eqb (getD ws 0 0) 0) (eqb (getD ws 0 0) 1) (eqb (getD ws 0 0) 2) refl
   where
-    by : (a b c : Bool) → hullFrom ws ≡ when a (answer (hullIn Render ws)) (when b (answer (hullIn Clip ws)) (when c (answer (hullIn Box ws)) (refused 20))) → OfWords ws
+    by : (a b c : Bool) → hullFrom ws ≡ cond a (answer (hullIn Render ws)) (cond b (answer (hullIn Clip ws)) (cond c (answer (hullIn Box ws)) (refused 20))) → OfWords ws
     by true b c e = of-table Render e
     by false true c e = of-table Clip e
     by false false true e = of-table Box e

@@ -1,6 +1,6 @@
 -- Whether the players' lists are answered: what a list that finds no room tells, and the players one after another. Assumes nothing.
 use mathlib.Core.Path.{_≡_, refl, sym, ap, _∙_}
-use mathlib.Core.Bool.{Bool, true, false}
+use mathlib.Core.Bool.{Bool, true, false, cond}
 use mathlib.Core.List.{List, [], _∷_, _++_}
 use Prim.Native.Nat.{ℕ, suc, _+_, _*_, _<_, _≤_}
 use native.Mathlib.Numerals.{add-one}
@@ -12,7 +12,7 @@ use Rattle.format.specs.Answer.{Answer, answer, refused, mapped, thenAnswer}
 use Rattle.format.specs.Listed.{Listed, listed, into}
 use Rattle.format.specs.Section.{place, sectionOf, recordCount, withinLimit, elementSize}
 use Rattle.format.specs.Step as Step
-use Rattle.format.specs.Step.{Step, when}
+use Rattle.format.specs.Step.{Step}
 use Rattle.format.specs.declared.section.BspData.{BspData}
 use Rattle.format.specs.declared.section.BspFileSection.{BspFileSection}
 use Rattle.format.specs.declared.section.BspFileSectionId.the-variants.{Leaves, Visibility}
@@ -40,7 +40,7 @@ data-not22 : (file : List ℕ) (z : BspFileSection) → not22 (visibilityOf file
 unfolding visibilityOf
 data-not22 file z = go (eqb (z .size) 0) (withinLimit Visibility (z .size)) (leb (z .offset + z .size) (length file)) (take (z .size) (drop (z .offset) file))
   where
-    go : (a b c : Bool) (l : List ℕ) → not22 (when a (answer []) (when b (when c (answer l) (refused 23)) (refused 23)))
+    go : (a b c : Bool) (l : List ℕ) → not22 (cond a (answer []) (cond b (cond c (answer l) (refused 23)) (refused 23)))
     go true b c l = tt
     go false true true l = tt
     go false true false l = λ e. omega arith
@@ -56,7 +56,7 @@ leaf-not22 file map leaf =
     read (Step.ok v p) = tt
     read (Step.refused n) = λ e. omega arith
 
-    go : (a b c : Bool) (p : ℕ) → not22 (readAt (when a (refused 20) (when b (when c (answer p) (refused 23)) (refused 23))) (λ q. leafAt file q))
+    go : (a b c : Bool) (p : ℕ) → not22 (readAt (cond a (refused 20) (cond b (cond c (answer p) (refused 23)) (refused 23))) (λ q. leafAt file q))
     go true b c p = λ e. omega arith
     go false true true p = read (leafAt file p)
     go false true false p = λ e. omega arith
@@ -67,7 +67,7 @@ pub pvs-not22 : (file : List ℕ) (map : BspData) (leaf count : ℕ) → not22 (
 unfolding pvsOf sectionRow rowAt
 pvs-not22 file map leaf count = go (eqb leaf 0) (leafOf file map leaf) (leaf-not22 file map leaf)
   where
-    at-offset : (t : Bool) (bytes : List ℕ) → not22 (when t (refused 33) (rowFrom count 1 bytes))
+    at-offset : (t : Bool) (bytes : List ℕ) → not22 (cond t (refused 33) (rowFrom count 1 bytes))
     at-offset true bytes = λ e. omega arith
     at-offset false bytes = of-33 (rowFrom count 1 bytes) (row-only count 1 bytes)
 
@@ -79,7 +79,7 @@ pvs-not22 file map leaf count = go (eqb leaf 0) (leafOf file map leaf) (leaf-not
     row None = tt
     row (Some o) = in-section (visibilityOf file (map .visibility)) o (data-not22 file (map .visibility))
 
-    go : (t : Bool) (l : Answer BspLeaf) → not22 l → not22 (when t (answer []) (thenAnswer l (λ l. rowOf file map count (l .«vis_offset»))))
+    go : (t : Bool) (l : Answer BspLeaf) → not22 l → not22 (cond t (answer []) (thenAnswer l (λ l. rowOf file map count (l .«vis_offset»))))
     go true l h = tt
     go false (answer l) h = row (l .«vis_offset»)
     go false (refused n) h = h
@@ -102,7 +102,7 @@ told-short (refused j) lent l k s h e =
 pub told-refused : (a : Answer (List ℕ)) (lent l : List ℕ) (k : ℕ) → (k ≡ 22 → ⊥) → listed (refused k) l ≡ into a lent → refused k ≡ whether a
 told-refused (answer xs) lent l k h e = go (ltb (length lent) (length xs)) (xs ++ drop (length xs) lent) e
   where
-    go : (t : Bool) (m : List ℕ) → listed (refused k) l ≡ when t (listed (refused 22) lent) (listed (answer (length xs)) m) → _≡_ {A = Answer ℕ} (refused k) (answer 0)
+    go : (t : Bool) (m : List ℕ) → listed (refused k) l ≡ cond t (listed (refused 22) lent) (listed (answer (length xs)) m) → _≡_ {A = Answer ℕ} (refused k) (answer 0)
     go true m q =
         let r : _≡_ {A = Answer ℕ} (refused k) (refused 22) = ap (λ (x : Listed). x .answered) q in
         let z : k ≡ 22 = cc in

@@ -1,7 +1,7 @@
 -- Where the players' rows start: the starts one after another, and the players' lists as the rows at them. Assumes nothing.
 use borrow.Author.Tests.{eq-eqb, ne-eqb, lt-ltb, le-ltb, ltb-false, leb-true}
 use mathlib.Core.Path.{_≡_, refl, sym, ap, _∙_}
-use mathlib.Core.Bool.{Bool, true, false}
+use mathlib.Core.Bool.{Bool, true, false, cond}
 use mathlib.Core.List.{List, [], _∷_, _++_, append-assoc, append-nil}
 use Prim.Native.Nat.{ℕ, zero, suc, _+_, _-_, _<_, _≤_}
 use native.Mathlib.Nat.{add-zero, min-le-left}
@@ -14,7 +14,6 @@ use Rattle.format.proofs.Listing.{into-short, into-list}
 use Rattle.format.specs.Answer.{Answer, answer, refused, mapped, thenAnswer}
 use Rattle.format.specs.Listed.{listed, into}
 use Rattle.format.specs.Section.{withinLimit}
-use Rattle.format.specs.Step.{when}
 use Rattle.format.specs.declared.section.BspData.{BspData}
 use Rattle.format.specs.declared.section.BspFileSection.{BspFileSection}
 use Rattle.format.specs.declared.section.BspFileSectionId.the-variants.{Visibility}
@@ -118,7 +117,7 @@ module _ (file : List ℕ) (map : BspData) (count : ℕ) where
   player-row leaf l = go (eqb leaf 0) (leafOf file map leaf)
     where
       at-offset : (o : ℕ) (v : List ℕ) → visibilityOf file (map .visibility) ≡ answer v → (t : Bool) → ltb (length v) o ≡ t
-          → answer l ≡ when t (refused 33) (rowFrom count 1 (drop o v)) → RowAt (o ∷ []) l
+          → answer l ≡ cond t (refused 33) (rowFrom count 1 (drop o v)) → RowAt (o ∷ []) l
       at-offset o v q true h e = let z : _≡_ {A = ℕ} 0 1 = cc in absurd (omega arith)
       at-offset o v q false h e =
           let d : bytes ≡ v = ap orNone q in
@@ -133,7 +132,7 @@ module _ (file : List ℕ) (map : BspData) (count : ℕ) where
       row None e = let z : l ≡ [] = cc in none refl z
       row (Some o) e = in-section o (visibilityOf file (map .visibility)) refl e
 
-      go : (t : Bool) (a : Answer BspLeaf) → answer l ≡ when t (answer []) (thenAnswer a (λ r. rowOf file map count (r .«vis_offset»))) → RowAt (when t [] (offsetOfLeaf a)) l
+      go : (t : Bool) (a : Answer BspLeaf) → answer l ≡ cond t (answer []) (thenAnswer a (λ r. rowOf file map count (r .«vis_offset»))) → RowAt (cond t [] (offsetOfLeaf a)) l
       go true a e = let z : l ≡ [] = cc in none refl z
       go false (answer r) e = row (r .«vis_offset») e
       go false (refused n) e = let z : _≡_ {A = ℕ} 0 1 = cc in absurd (omega arith)
@@ -157,7 +156,7 @@ module _ (file : List ℕ) (map : BspData) (count : ℕ) where
   more-rows starts one l lists (some o q v h e) r =
       let x : restOf bytes count o 0 ≡ l = ap orNone (sym e) in
       rw q (record {
-        same = λ k. rw x (ap (λ (t : Bool). when (holds k l) true t) (r .same k));
+        same = λ k. rw x (ap (λ (t : Bool). cond (holds k l) true t) (r .same k));
         whole = first;
         lies = λ p. v;
       })
@@ -235,8 +234,8 @@ module _ (file : List ℕ) (z : BspFileSection) where
   section-data n = rw (ne-eqb (z .size) 0 n) (go (withinLimit Visibility (z .size)) refl (leb (z .offset + z .size) (length file)) refl)
     where
       go : (b : Bool) → withinLimit Visibility (z .size) ≡ b → (c : Bool) → leb (z .offset + z .size) (length file) ≡ c
-          → when b (when c (answer (take (z .size) (drop (z .offset) file))) (refused 23)) (refused 23) ≡ answer (orNone (when b (when c (answer (take (z .size) (drop (z .offset) file))) (refused 23)) (refused 23)))
-          → (z .offset + z .size ≤ length file) × (b ≡ true) × (take (z .size) (drop (z .offset) file) ≡ orNone (when b (when c (answer (take (z .size) (drop (z .offset) file))) (refused 23)) (refused 23)))
+          → cond b (cond c (answer (take (z .size) (drop (z .offset) file))) (refused 23)) (refused 23) ≡ answer (orNone (cond b (cond c (answer (take (z .size) (drop (z .offset) file))) (refused 23)) (refused 23)))
+          → (z .offset + z .size ≤ length file) × (b ≡ true) × (take (z .size) (drop (z .offset) file) ≡ orNone (cond b (cond c (answer (take (z .size) (drop (z .offset) file))) (refused 23)) (refused 23)))
       go true p true q e = (leb-true _ _ q, refl, refl)
       go true p false q e = let w : _≡_ {A = ℕ} 0 1 = cc in absurd (omega arith)
       go false p c q e = let w : _≡_ {A = ℕ} 0 1 = cc in absurd (omega arith)

@@ -2,14 +2,13 @@
 -- list only. Assumes nothing.
 use borrow.Author.Tests.{eqb-true, eqb-false, eq-eqb, ne-eqb, ltb-true, ltb-false}
 use mathlib.Core.Path.{_≡_, refl, sym, ap, _∙_, subst}
-use mathlib.Core.Bool.{Bool, true, false}
+use mathlib.Core.Bool.{Bool, true, false, cond}
 use mathlib.Core.List.{List, [], _∷_}
 use Prim.Native.Nat.{ℕ, zero, suc, _+_, _-_, _<_, _≤_}
 use native.Mathlib.Omega.{arith}
 use lib.Dec.{eqb, ltb}
 use lib.ListN.{length, getD}
 use Rattle.format.specs.Answer.{Answer, answer, refused, mapped, thenAnswer}
-use Rattle.format.specs.Step.{when}
 use Rattle.format.specs.declared.section.BspData.{BspData}
 use Rattle.vis.specs.Pvs.{pvsOf}
 use Rattle.team.specs.Team.{holds, seen, pooled, listsOf, teamOf}
@@ -31,7 +30,7 @@ unfolding pooled rising
 pooled-rising lists leaf zero = tt
 pooled-rising lists leaf (suc n) = go (seen leaf lists) (pooled-rising lists (leaf + 1) n)
   where
-    go : (t : Bool) → rising (leaf + 1) (pooled lists (leaf + 1) n) → rising leaf (when t (leaf ∷ pooled lists (leaf + 1) n) (pooled lists (leaf + 1) n))
+    go : (t : Bool) → rising (leaf + 1) (pooled lists (leaf + 1) n) → rising leaf (cond t (leaf ∷ pooled lists (leaf + 1) n) (pooled lists (leaf + 1) n))
     go true r = (omega arith, r)
     go false r = rising-less leaf (leaf + 1) (pooled lists (leaf + 1) n) (omega arith) r
 
@@ -56,7 +55,7 @@ pooled-holds lists k leaf zero h l = absurd (omega arith)
 pooled-holds lists k leaf (suc n) h l = go (eqb leaf k) refl (seen leaf lists) refl (λ m. pooled-holds lists k (leaf + 1) n m (omega arith))
   where
     go : (t : Bool) → eqb leaf k ≡ t → (s : Bool) → seen leaf lists ≡ s → (leaf + 1 ≤ k → holds k (pooled lists (leaf + 1) n) ≡ seen k lists)
-        → holds k (when s (leaf ∷ pooled lists (leaf + 1) n) (pooled lists (leaf + 1) n)) ≡ seen k lists
+        → holds k (cond s (leaf ∷ pooled lists (leaf + 1) n) (pooled lists (leaf + 1) n)) ≡ seen k lists
     go true e true f r = let q : leaf ≡ k = eqb-true leaf k e in rw e (sym f ∙ ap (λ (x : ℕ). seen x lists) q)
     go true e false f r =
         let q : leaf ≡ k = eqb-true leaf k e in
@@ -72,7 +71,7 @@ unfolding pooled holds
 pooled-above lists k leaf zero h = refl
 pooled-above lists k leaf (suc n) h = go (seen leaf lists) (pooled-above lists k (leaf + 1) n (omega arith))
   where
-    go : (s : Bool) → holds k (pooled lists (leaf + 1) n) ≡ false → holds k (when s (leaf ∷ pooled lists (leaf + 1) n) (pooled lists (leaf + 1) n)) ≡ false
+    go : (s : Bool) → holds k (pooled lists (leaf + 1) n) ≡ false → holds k (cond s (leaf ∷ pooled lists (leaf + 1) n) (pooled lists (leaf + 1) n)) ≡ false
     go true r = let q : leaf ≡ k → ⊥ = λ e. omega arith in rw (ne-eqb leaf k q) r
     go false r = r
 
@@ -96,7 +95,7 @@ module _ (file : List ℕ) (map : BspData) (count : ℕ) where
     where
       go : (l : List ℕ) (ls : List (List ℕ)) → answer l ≡ pvsOf file map leaf count → (t : Bool) → holds k l ≡ t
           → (seen k ls ≡ true → SeenBy file map leaves count k)
-          → when (holds k l) true (seen k ls) ≡ true → SeenBy file map (leaf ∷ leaves) count k
+          → cond (holds k l) true (seen k ls) ≡ true → SeenBy file map (leaf ∷ leaves) count k
       go l ls a true q r s = record { player = 0; list = l; among = omega arith; sees = a; held = q }
       go l ls a false q r s =
           let m = r (one-of _ _ s q) in
@@ -116,7 +115,7 @@ module _ (file : List ℕ) (map : BspData) (count : ℕ) where
       let f = first-list file map count leaf leaves (pvsOf file map leaf count) (listsOf file map count leaves) lists e in
       rw (f .4) (go (holds k (f .0)) (seen-by-any leaves (f .1) k (f .3) i l (omega arith) a s))
     where
-      go : {t : Bool} (s : Bool) → t ≡ true → when s true t ≡ true
+      go : {t : Bool} (s : Bool) → t ≡ true → cond s true t ≡ true
       go true e = refl
       go false e = e
 
@@ -126,7 +125,7 @@ module _ (file : List ℕ) (map : BspData) (count : ℕ) where
     pool = go (ltb 16 (length leaves)) (listsOf file map count leaves) refl e
       where
         go : (t : Bool) (a : Answer (List (List ℕ))) → a ≡ listsOf file map count leaves
-            → answer xs ≡ when t (refused 25) (mapped (λ (ls : List (List ℕ)). pooled ls 1 (count - 1)) a)
+            → answer xs ≡ cond t (refused 25) (mapped (λ (ls : List (List ℕ)). pooled ls 1 (count - 1)) a)
             → (lists : List (List ℕ)) × (answer lists ≡ listsOf file map count leaves) × (xs ≡ pooled lists 1 (count - 1))
         go true a q e = let z : _≡_ {A = ℕ} 0 1 = cc in absurd (omega arith)
         go false (answer lists) q e = let w : xs ≡ pooled lists 1 (count - 1) = cc in (lists, q, w)

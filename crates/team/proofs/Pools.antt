@@ -2,7 +2,7 @@
 -- that a row has a byte for. Assumes nothing.
 use borrow.Author.Tests.{leb-true, leb-false, eq-eqb, ne-eqb}
 use mathlib.Core.Path.{_≡_, refl, sym, ap, _∙_}
-use mathlib.Core.Bool.{Bool, true, false}
+use mathlib.Core.Bool.{Bool, true, false, cond}
 use mathlib.Core.List.{List, [], _∷_, _++_, append-nil, append-assoc}
 use Prim.Native.Nat.{ℕ, zero, suc, _+_, _-_, _*_, _<_, _≤_}
 use native.Mathlib.Nat.{add-zero, min-eq-left, min-eq-right}
@@ -12,7 +12,6 @@ use lib.Dec.{leb}
 use lib.ListN.{length, take, drop, length-append}
 use lib.Seq.{length-take-le, take-all}
 use Rattle.format.specs.Answer.{Answer, answer, refused}
-use Rattle.format.specs.Step.{when}
 use Rattle.vis.specs.Row.{bits, visible, byteLeaves, inByte, rowFrom}
 use Rattle.vis.proofs.SetBits.{length-bits, length-visible, ones-in}
 use Rattle.vis.proofs.Rows.{kept-leaves}
@@ -31,7 +30,7 @@ pooled-split lists leaf (suc m) n =
     rw (z, ← y) (go (seen leaf lists) (pooled-split lists (leaf + 1) m n))
   where
     go : (t : Bool) → pooled lists (leaf + 1) (m + n) ≡ pooled lists (leaf + 1) m ++ pooled lists (leaf + 1 + m) n
-        → when t (leaf ∷ pooled lists (leaf + 1) (m + n)) (pooled lists (leaf + 1) (m + n)) ≡ when t (leaf ∷ pooled lists (leaf + 1) m) (pooled lists (leaf + 1) m) ++ pooled lists (leaf + 1 + m) n
+        → cond t (leaf ∷ pooled lists (leaf + 1) (m + n)) (pooled lists (leaf + 1) (m + n)) ≡ cond t (leaf ∷ pooled lists (leaf + 1) m) (pooled lists (leaf + 1) m) ++ pooled lists (leaf + 1 + m) n
     go true e = ap (λ (l : List ℕ). leaf ∷ l) e
     go false e = e
 
@@ -40,7 +39,7 @@ pub pooled-same : (xs ys : List (List ℕ)) (leaf n : ℕ) → ((k : ℕ) → le
 unfolding pooled
 pooled-same xs ys leaf zero e = refl
 pooled-same xs ys leaf (suc n) e =
-    rw (e leaf (omega arith)) (ap (λ (l : List ℕ). when (seen leaf ys) (leaf ∷ l) l) (pooled-same xs ys (leaf + 1) n (λ k h. e k (omega arith))))
+    rw (e leaf (omega arith)) (ap (λ (l : List ℕ). cond (seen leaf ys) (leaf ∷ l) l) (pooled-same xs ys (leaf + 1) n (λ k h. e k (omega arith))))
 
 -- leaves that none of the lists holds are not in it
 pub pooled-none : (ys : List (List ℕ)) (leaf n : ℕ) → ((k : ℕ) → k < leaf + n → seen k ys ≡ false) → pooled ys leaf n ≡ []
@@ -92,7 +91,7 @@ pooled-bits lists leaf (t ∷ xs) e =
     (go t (pooled-bits lists (leaf + 1) xs (λ k a b. e k (omega arith) (omega arith) ∙ more-held k leaf t xs (omega arith))))
   where
     go : (t : Bool) → pooled lists (leaf + 1) (length xs) ≡ visible (leaf + 1) xs
-        → when t (leaf ∷ pooled lists (leaf + 1) (length xs)) (pooled lists (leaf + 1) (length xs)) ≡ visible leaf (t ∷ xs)
+        → cond t (leaf ∷ pooled lists (leaf + 1) (length xs)) (pooled lists (leaf + 1) (length xs)) ≡ visible leaf (t ∷ xs)
     go true q = ap (λ (l : List ℕ). leaf ∷ l) q
     go false q = q
 
@@ -113,7 +112,7 @@ rests-ahead s count least k (at ∷ ats) (group ∷ groups) c h =
     rw (rest-ahead k (1 + 8 * group) count (rowFrom count (1 + 8 * group) (drop at s)) (holds k (restOf s count at group)) (row-range count (1 + 8 * group) (drop at s)) l refl)
     (rests-ahead s count least k ats groups (λ i q. c (suc i) (omega arith)) h)
 
-any-false : (a : Bool) → when a true false ≡ a
+any-false : (a : Bool) → cond a true false ≡ a
 any-false true = refl
 any-false false = refl
 
@@ -122,7 +121,7 @@ module _ (count leaf byte : ℕ) (xs ys : List (List ℕ)) where
   abbrev these : List ℕ
   these = byteLeaves leaf (keptBits count leaf byte)
 
-  module _ (h : leaf < count) (together : (k : ℕ) → seen k xs ≡ when (holds k these) true (seen k ys)) (ahead : (k : ℕ) → k < leaf + 8 → seen k ys ≡ false) where
+  module _ (h : leaf < count) (together : (k : ℕ) → seen k xs ≡ cond (holds k these) true (seen k ys)) (ahead : (k : ℕ) → k < leaf + 8 → seen k ys ≡ false) where
     front : (m : ℕ) → m ≡ inByte count leaf → m ≤ 8 → pooled xs leaf m ≡ these
     front m e l =
         let n : length (bits (inByte count leaf) byte) ≡ m = length-bits (inByte count leaf) byte ∙ sym e in
@@ -160,7 +159,7 @@ module _ (count leaf byte : ℕ) (xs ys : List (List ℕ)) where
             last l leaf = sym (append-nil l)
 
   -- and then from the next leaf on that may be seen
-  pub pool-leap : leaf < count → ((k : ℕ) → seen k xs ≡ when (holds k these) true (seen k ys)) → (next : ℕ) → leaf + 8 ≤ next → ((k : ℕ) → k < next → seen k ys ≡ false)
+  pub pool-leap : leaf < count → ((k : ℕ) → seen k xs ≡ cond (holds k these) true (seen k ys)) → (next : ℕ) → leaf + 8 ≤ next → ((k : ℕ) → k < next → seen k ys ≡ false)
       → pooled xs leaf (count - leaf) ≡ these ++ pooled ys next (count - next)
   pool-leap h together next n ahead =
       pool-step h together (λ k q. ahead k (omega arith))

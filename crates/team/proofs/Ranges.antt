@@ -1,7 +1,7 @@
 -- In which range the leaves of a row lie: from its first leaf on, below the count. Assumes nothing.
 use borrow.Author.Tests.{eqb-true, ltb-true, ltb-false}
 use mathlib.Core.Path.{_≡_, refl, sym, _∙_}
-use mathlib.Core.Bool.{Bool, true, false}
+use mathlib.Core.Bool.{Bool, true, false, cond}
 use mathlib.Core.List.{List, [], _∷_, _++_}
 use Prim.Native.Nat.{ℕ, zero, suc, _+_, _-_, _*_, _<_, _≤_}
 use native.Mathlib.Nat.{min-le-right}
@@ -9,7 +9,6 @@ use native.Mathlib.Omega.{arith}
 use lib.Dec.{eqb, ltb}
 use lib.ListN.{length, drop}
 use Rattle.format.specs.Answer.{Answer, answer, refused, thenAnswer}
-use Rattle.format.specs.Step.{when}
 use Rattle.format.specs.declared.section.BspData.{BspData}
 use Rattle.records.specs.Leaf.{leafOf}
 use Rattle.records.specs.declared.leaf.BspLeaf.{BspLeaf}
@@ -26,12 +25,12 @@ pub no : {A : Type 0} → false ≡ true → A
 no e = let z : _≡_ {A = ℕ} 0 1 = cc in absurd (omega arith)
 
 -- a list holds what one of its two parts holds
-pub holds-append : (k : ℕ) (xs ys : List ℕ) → holds k (xs ++ ys) ≡ when (holds k xs) true (holds k ys)
+pub holds-append : (k : ℕ) (xs ys : List ℕ) → holds k (xs ++ ys) ≡ cond (holds k xs) true (holds k ys)
 unfolding holds
 holds-append k [] ys = refl
 holds-append k (x ∷ xs) ys = go (eqb x k) (holds-append k xs ys)
   where
-    go : (t : Bool) → holds k (xs ++ ys) ≡ when (holds k xs) true (holds k ys) → when t true (holds k (xs ++ ys)) ≡ when (when t true (holds k xs)) true (holds k ys)
+    go : (t : Bool) → holds k (xs ++ ys) ≡ cond (holds k xs) true (holds k ys) → cond t true (holds k (xs ++ ys)) ≡ cond (cond t true (holds k xs)) true (holds k ys)
     go true e = refl
     go false e = e
 
@@ -42,7 +41,7 @@ visible-range k leaf [] e = no e
 visible-range k leaf (true ∷ xs) e = go (eqb leaf k) refl (λ m. visible-range k (leaf + 1) xs m) e
   where
     go : (t : Bool) → eqb leaf k ≡ t → (holds k (visible (leaf + 1) xs) ≡ true → (leaf + 1 ≤ k) × (k < leaf + 1 + length xs))
-        → when t true (holds k (visible (leaf + 1) xs)) ≡ true → (leaf ≤ k) × (k < leaf + suc (length xs))
+        → cond t true (holds k (visible (leaf + 1) xs)) ≡ true → (leaf ≤ k) × (k < leaf + suc (length xs))
     go true q r f = let z : leaf ≡ k = eqb-true leaf k q in (omega arith, omega arith)
     go false q r f = let m = r f in (omega (arith, m .0), omega (arith, m .1))
 visible-range k leaf (false ∷ xs) e = let m = visible-range k (leaf + 1) xs e in (omega (arith, m .0), omega (arith, m .1))
@@ -56,7 +55,7 @@ none-held : (k : ℕ) → holds k [] ≡ true → ⊥
 unfolding holds
 none-held k e = no e
 
-pub one-of : (s t : Bool) → when s true t ≡ true → (s ≡ false → t ≡ true)
+pub one-of : (s t : Bool) → cond s true t ≡ true → (s ≡ false → t ≡ true)
 one-of true t e f = no (sym f)
 one-of false t e f = e
 
@@ -66,7 +65,7 @@ byte-range : (count leaf b : ℕ) (rest : Answer (List ℕ)) → leaf < count �
 byte-range count leaf b (refused n) h r = tt
 byte-range count leaf b (answer l) h r = λ k e. go k (holds k (byteLeaves leaf (keptBits count leaf b))) refl (sym (holds-append k (byteLeaves leaf (keptBits count leaf b)) l) ∙ e)
   where
-    go : (k : ℕ) (t : Bool) → holds k (byteLeaves leaf (keptBits count leaf b)) ≡ t → when (holds k (byteLeaves leaf (keptBits count leaf b))) true (holds k l) ≡ true
+    go : (k : ℕ) (t : Bool) → holds k (byteLeaves leaf (keptBits count leaf b)) ≡ t → cond (holds k (byteLeaves leaf (keptBits count leaf b))) true (holds k l) ≡ true
         → (leaf ≤ k) × (k < count)
     go k true q e =
         let m = visible-range k leaf (bits (inByte count leaf) b) (rw (kept-leaves count leaf b) at q) in
@@ -111,7 +110,7 @@ pub pvs-range : (file : List ℕ) (map : BspData) (leaf count : ℕ) → inRange
 unfolding pvsOf sectionRow rowAt
 pvs-range file map leaf count = go (eqb leaf 0) (leafOf file map leaf)
   where
-    at-offset : (t : Bool) (bytes : List ℕ) → inRange 1 count (when t (refused 33) (rowFrom count 1 bytes))
+    at-offset : (t : Bool) (bytes : List ℕ) → inRange 1 count (cond t (refused 33) (rowFrom count 1 bytes))
     at-offset true bytes = tt
     at-offset false bytes = row-range count 1 bytes
 
@@ -123,7 +122,7 @@ pvs-range file map leaf count = go (eqb leaf 0) (leafOf file map leaf)
     row None = nothing 1 count
     row (Some o) = in-section (visibilityOf file (map .visibility)) o
 
-    go : (t : Bool) (l : Answer BspLeaf) → inRange 1 count (when t (answer []) (thenAnswer l (λ l. rowOf file map count (l .«vis_offset»))))
+    go : (t : Bool) (l : Answer BspLeaf) → inRange 1 count (cond t (answer []) (thenAnswer l (λ l. rowOf file map count (l .«vis_offset»))))
     go true l = nothing 1 count
     go false (answer l) = row (l .«vis_offset»)
     go false (refused n) = tt

@@ -1,7 +1,7 @@
 -- The union of the bytes of several rows, and the rows from their cursors on. Assumes nothing.
 use borrow.Author.Tests.{ltb-true, ltb-false, leb-true, leb-false, eqb-true, eqb-false}
 use mathlib.Core.Path.{_≡_, refl, sym, ap, _∙_}
-use mathlib.Core.Bool.{Bool, true, false}
+use mathlib.Core.Bool.{Bool, true, false, cond}
 use mathlib.Core.List.{List, [], _∷_}
 use Prim.Native.Nat.{ℕ, zero, suc, _+_, _-_, _*_, _/_, _%_, _^_, _<_, _≤_, max, min}
 use native.Mathlib.Nat.{min-le-left, min-le-right, min-eq-left, min-eq-right}
@@ -11,7 +11,6 @@ use lib.Dec.{eqb, ltb, leb}
 use lib.ListN.{length, drop, getD, set, length-set}
 use lib.Seq.{getD-set-same, getD-set-other}
 use Rattle.format.specs.Answer.{Answer, answer, refused}
-use Rattle.format.specs.Step.{when}
 use Rattle.vis.specs.Row.{bits, before, visible, byteLeaves, inByte, rowFrom}
 use Rattle.team.specs.Team.{holds, seen}
 use Rattle.team.specs.Starts.{orNone}
@@ -22,7 +21,7 @@ use Rattle.team.proofs.Ranges.{holds-append}
 
 -- one or the other
 abbrev pub any : Bool → Bool → Bool
-any a b = when a true b
+any a b = cond a true b
 
 pub any-assoc : (a b c : Bool) → any a (any b c) ≡ any (any a b) c
 any-assoc true b c = refl

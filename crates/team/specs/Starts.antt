@@ -1,9 +1,9 @@
 -- Where the players' rows start, and whether all their lists are answered.
 use Prim.Native.Nat.{ℕ}
+use mathlib.Core.Bool.{cond}
 use mathlib.Core.List.{List, [], _∷_, _++_}
 use lib.Dec.{eqb}
 use Rattle.format.specs.Answer.{Answer, answer, refused}
-use Rattle.format.specs.Step.{when}
 use Rattle.format.specs.declared.section.BspData.{BspData}
 use Rattle.format.specs.declared.section.BspFileSection.{BspFileSection}
 use Rattle.records.specs.Leaf.{leafOf}
@@ -37,7 +37,7 @@ offsetOfLeaf (refused n) = []
 
 -- the same by the leaf's number: leaf 0 has no row
 unfoldable pub startOf : List ℕ → BspData → ℕ → List ℕ
-startOf file map leaf = when (eqb leaf 0) [] (offsetOfLeaf (leafOf file map leaf))
+startOf file map leaf = cond (eqb leaf 0) [] (offsetOfLeaf (leafOf file map leaf))
 
 -- the offsets of the players' rows, in their order
 unfoldable pub startsOf : List ℕ → BspData → List ℕ → List ℕ

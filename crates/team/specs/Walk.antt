@@ -1,11 +1,10 @@
 -- The rows of a team side by side: what is left of each from its cursor on, eight leaves at a time.
 use mathlib.Core.Path.{_≡_}
 use Prim.Native.Nat.{ℕ, _+_, _*_, _%_, _^_, _<_, _≤_}
-use mathlib.Core.Bool.{true}
+use mathlib.Core.Bool.{true, cond}
 use mathlib.Core.List.{List, [], _∷_}
 use lib.ListN.{length, drop, getD}
 use Rattle.format.specs.Answer.{refused}
-use Rattle.format.specs.Step.{when}
 use Rattle.vis.specs.Row.{inByte, byteLeaves, rowFrom}
 use Rattle.team.specs.Team.{holds, seen}
 use Rattle.team.specs.Starts.{orNone}
@@ -45,4 +44,4 @@ Starts visibility count ats = (i : ℕ) → i < length ats → Whole visibility 
 abbrev pub Together : List ℕ → ℕ → ℕ → List ℕ → List ℕ → ℕ → List ℕ → List ℕ → Type 0
 Together visibility count this ats groups byte ats′ groups′ =
     (k : ℕ) → seen k (restsOf visibility count ats groups)
-    ≡ when (holds k (byteLeaves (1 + 8 * this) (keptBits count (1 + 8 * this) byte))) true (seen k (restsOf visibility count ats′ groups′))
+    ≡ cond (holds k (byteLeaves (1 + 8 * this) (keptBits count (1 + 8 * this) byte))) true (seen k (restsOf visibility count ats′ groups′))

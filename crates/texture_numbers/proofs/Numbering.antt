@@ -2,35 +2,34 @@
 -- Assumes nothing.
 use Prim.Native.Nat.{ℕ, _+_, _<_, _≤_}
 use mathlib.Core.Path.{_≡_, refl, sym, ap, _∙_}
-use mathlib.Core.Bool.{Bool, true, false}
+use mathlib.Core.Bool.{Bool, true, false, cond}
 use mathlib.Core.List.{List}
 use native.Mathlib.Omega.{arith}
 use borrow.Author.Tests.{eqb-true, eqb-false, eq-eqb, ne-eqb, ltb-true, ltb-false, lt-ltb, le-ltb}
 use lib.Dec.{eqb, ltb}
 use lib.ListN.{length, getD, set}
 use lib.Seq.{getD-set-same, getD-set-other}
-use Rattle.format.specs.Step.{when}
 use Rattle.textures.specs.Count.{count, each}
 use Rattle.textures.proofs.Firsts.{counts-next}
 use Rattle.textures.proofs.Leads.{each-is}
 use Rattle.texture_numbers.specs.Renumber.{hasNone, leads, numberIn, Led, Partly}
 
 -- the ways through `same`
-pub same-one : (a b : ℕ) → a ≡ b → _≡_ {A = ℕ} 1 (when (eqb a b) 1 0)
+pub same-one : (a b : ℕ) → a ≡ b → _≡_ {A = ℕ} 1 (cond (eqb a b) 1 0)
 same-one a b e = rw (eq-eqb a b e) refl
 
-pub same-zero : (a b : ℕ) → (a ≡ b → ⊥) → _≡_ {A = ℕ} 0 (when (eqb a b) 1 0)
+pub same-zero : (a b : ℕ) → (a ≡ b → ⊥) → _≡_ {A = ℕ} 0 (cond (eqb a b) 1 0)
 same-zero a b e = rw (ne-eqb a b e) refl
 
 -- the ways through `number_of`
 module _ (list : List ℕ) (first index before statics firsts : ℕ) where
-  pub of-static : first ≡ 4294967295 → before ≡ when (eqb first 4294967295) before (when (eqb first index) (statics + firsts) (getD list first 0))
+  pub of-static : first ≡ 4294967295 → before ≡ cond (eqb first 4294967295) before (cond (eqb first index) (statics + firsts) (getD list first 0))
   of-static e = rw (eq-eqb first 4294967295 e) refl
 
-  pub of-first : (first ≡ 4294967295 → ⊥) → first ≡ index → statics + firsts ≡ when (eqb first 4294967295) before (when (eqb first index) (statics + firsts) (getD list first 0))
+  pub of-first : (first ≡ 4294967295 → ⊥) → first ≡ index → statics + firsts ≡ cond (eqb first 4294967295) before (cond (eqb first index) (statics + firsts) (getD list first 0))
   of-first z e = rw (ne-eqb first 4294967295 z, eq-eqb first index e) refl
 
-  pub of-later : (first ≡ 4294967295 → ⊥) → (first ≡ index → ⊥) → getD list first 0 ≡ when (eqb first 4294967295) before (when (eqb first index) (statics + firsts) (getD list first 0))
+  pub of-later : (first ≡ 4294967295 → ⊥) → (first ≡ index → ⊥) → getD list first 0 ≡ cond (eqb first 4294967295) before (cond (eqb first index) (statics + firsts) (getD list first 0))
   of-later z e = rw (ne-eqb first 4294967295 z, ne-eqb first index e) refl
 
 module _ (l : List ℕ) where
@@ -54,12 +53,12 @@ module _ (l : List ℕ) where
         ∙ rw (lt-ltb (getD l j 0) j h, ne-eqb (getD l (getD l j 0) 0) 4294967295 a, ne-eqb (getD l j 0) 4294967295 z, q) refl
 
     pub number-is : (before statics firsts : ℕ) → before ≡ count (hasNone l) j → statics ≡ count (hasNone l) (length l) → firsts ≡ count (leads l) j
-        → when (eqb (getD list j 0) 4294967295) before (when (eqb (getD list j 0) j) (statics + firsts) (getD list (getD list j 0) 0)) ≡ numberIn l j
+        → cond (eqb (getD list j 0) 4294967295) before (cond (eqb (getD list j 0) j) (statics + firsts) (getD list (getD list j 0) 0)) ≡ numberIn l j
     unfolding numberIn
     number-is before statics firsts eb es ef = rw first-is (by (eqb (getD l j 0) 4294967295) (eqb (getD l j 0) j) refl refl)
       where
         by : (x y : Bool) → eqb (getD l j 0) 4294967295 ≡ x → eqb (getD l j 0) j ≡ y
-            → when (eqb (getD l j 0) 4294967295) before (when (eqb (getD l j 0) j) (statics + firsts) (getD list (getD l j 0) 0)) ≡ numberIn l j
+            → cond (eqb (getD l j 0) 4294967295) before (cond (eqb (getD l j 0) j) (statics + firsts) (getD list (getD l j 0) 0)) ≡ numberIn l j
         by true y e f = rw (e, eb) refl
         by false true e f = rw (e, f, es, ef, eqb-true (getD l j 0) j f) refl
         by false false e f =
@@ -67,20 +66,20 @@ module _ (l : List ℕ) where
             let n = eqb-false (getD l j 0) j f in
             rw (e, f) (later-is z (omega (arith, n, led j inside z .0)) ∙ rw e refl)
 
-    pub counts-none : (before one : ℕ) → before ≡ count (hasNone l) j → one ≡ when (eqb (getD list j 0) 4294967295) 1 0 → before + one ≡ count (hasNone l) (j + 1)
-    counts-none before one eb e = counts-next (hasNone l) j before eb one (e ∙ ap (λ (x : ℕ). when (eqb x 4294967295) 1 0) first-is)
+    pub counts-none : (before one : ℕ) → before ≡ count (hasNone l) j → one ≡ cond (eqb (getD list j 0) 4294967295) 1 0 → before + one ≡ count (hasNone l) (j + 1)
+    counts-none before one eb e = counts-next (hasNone l) j before eb one (e ∙ ap (λ (x : ℕ). cond (eqb x 4294967295) 1 0) first-is)
 
-    pub counts-first : (firsts one : ℕ) → firsts ≡ count (leads l) j → one ≡ when (eqb (getD list j 0) j) 1 0 → firsts + one ≡ count (leads l) (j + 1)
-    counts-first firsts one ef e = counts-next (leads l) j firsts ef one (e ∙ ap (λ (x : ℕ). when (eqb x j) 1 0) first-is)
+    pub counts-first : (firsts one : ℕ) → firsts ≡ count (leads l) j → one ≡ cond (eqb (getD list j 0) j) 1 0 → firsts + one ≡ count (leads l) (j + 1)
+    counts-first firsts one ef e = counts-next (leads l) j firsts ef one (e ∙ ap (λ (x : ℕ). cond (eqb x j) 1 0) first-is)
 
     pub next : (x : ℕ) → length list ≡ length l → x ≡ numberIn l j → Partly l (j + 1) (set list j x)
     next x k e i h = by (eqb i j) refl
       where
-        by : (y : Bool) → eqb i j ≡ y → getD (set list j x) i 0 ≡ when (ltb i (j + 1)) (numberIn l i) (getD l i 0)
+        by : (y : Bool) → eqb i j ≡ y → getD (set list j x) i 0 ≡ cond (ltb i (j + 1)) (numberIn l i) (getD l i 0)
         by true g =
             let q : i ≡ j = eqb-true i j g in
             rw (q, lt-ltb j (j + 1) (omega arith)) (getD-set-same list j x 0 (omega (arith, k, inside)) ∙ e)
-        by false g = getD-set-other list j i x 0 (eqb-false i j g) ∙ (partly i h ∙ ap (λ (b : Bool). when b (numberIn l i) (getD l i 0)) (sym (same-side (eqb-false i j g))))
+        by false g = getD-set-other list j i x 0 (eqb-false i j g) ∙ (partly i h ∙ ap (λ (b : Bool). cond b (numberIn l i) (getD l i 0)) (sym (same-side (eqb-false i j g))))
           where
             same-side : (i ≡ j → ⊥) → ltb i (j + 1) ≡ ltb i j
             same-side z = side (ltb i j) refl

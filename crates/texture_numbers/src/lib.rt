@@ -1,10 +1,10 @@
 // The new numbers of all textures of a map, in one call.
 ghost use mathlib.Core.Path.{_≡_};
 ghost use Prim.Native.Nat.{_≤_, _<_, _+_};
+ghost use mathlib.Core.Bool.{cond};
 ghost use lib.Dec.{eqb};
 ghost use lib.ListN.{length, getD};
 ghost use Rattle.format.specs.Listed.{listed, into};
-ghost use Rattle.format.specs.Step.{when};
 ghost use Rattle.textures.specs.Count.{count, each};
 ghost use Rattle.textures.specs.Frame.{listLength};
 ghost use Rattle.texture_numbers.specs.Numbers.{textureNumbers};
@@ -18,7 +18,7 @@ const NONE: u32 = 4294967295;
 
 // 1 where two numbers are the same.
 fn same(a: u32, b: u32) -> u32
-    ensures { λ r. ⌜ r ≡ when (eqb a b) 1 0 ⌝ }
+    ensures { λ r. ⌜ r ≡ cond (eqb a b) 1 0 ⌝ }
 {
     if a == b {
         return 1;
@@ -44,7 +44,7 @@ fn count_static(list: &[u32]) -> u32
 // before it have their numbers.
 fn number_of(list: &[u32], first: u32, index: u32, before: u32, statics: u32, firsts: u32) -> u32
     requires { ⌜ (statics + firsts < 4294967296) × ((first ≡ 4294967295 → ⊥) → first < length (now list)) ⌝ }
-    ensures { λ r. ⌜ r ≡ when (eqb first 4294967295) before (when (eqb first index) (statics + firsts) (getD (now (list .entry)) first 0)) ⌝ }
+    ensures { λ r. ⌜ r ≡ cond (eqb first 4294967295) before (cond (eqb first index) (statics + firsts) (getD (now (list .entry)) first 0)) ⌝ }
 {
     if first == NONE {
         return before;

@@ -2,7 +2,7 @@
 -- Assumes nothing.
 use Prim.Native.Nat.{ℕ, zero, suc, _+_, _*_, _-_, _%_, _<_, _≤_}
 use mathlib.Core.Path.{_≡_, refl, sym, ap, _∙_, subst}
-use mathlib.Core.Bool.{Bool, true, false, not, _&&_, _||_}
+use mathlib.Core.Bool.{Bool, true, false, not, _&&_, _||_, cond}
 use mathlib.Core.List.{List, [], _∷_}
 use native.Mathlib.Nat.{add-assoc}
 use native.Mathlib.Omega.{arith}
@@ -13,7 +13,7 @@ use Rattle.format.specs.Answer as Answer
 use Rattle.format.specs.Answer.{Answer, answer, refused, thenAnswer}
 use Rattle.format.specs.Field.{u32At, u32Step}
 use Rattle.format.specs.Refusal.{numberOf}
-use Rattle.format.specs.Step.{Step, ok, andThen, when}
+use Rattle.format.specs.Step.{Step, ok, andThen}
 use Rattle.format.specs.declared.field.ReadU32.{ReadU32}
 use Rattle.format.specs.declared.field.ReadU32.the-variants as U32
 use Rattle.format.specs.declared.refusal.Refusal.{Refusal}
@@ -112,7 +112,7 @@ module _ (kind : List ℕ → Bool) (name : ℕ → List ℕ) (n : ℕ) (few : n
       i : ℕ
       i = nth (isFirst name) (number - count (isStatic name) n) n
 
-      by : (x y : Bool) → refused 20 ≡ when x (refused 20) (thenAnswer (when y (answer i) (refused 20)) (λ i. within n (lowest (λ j. alike kind name i j && eqb (placeOf kind name n j) place) n)))
+      by : (x y : Bool) → refused 20 ≡ cond x (refused 20) (thenAnswer (cond y (answer i) (refused 20)) (λ i. within n (lowest (λ j. alike kind name i j && eqb (placeOf kind name n j) place) n)))
       by true y = refl
       by false false = refl
       by false true = rw (no-such-place place i h) (sym (within-past n n (omega arith)))

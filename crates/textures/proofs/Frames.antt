@@ -2,19 +2,18 @@
 -- Assumes nothing.
 use Prim.Native.Nat.{ℕ, zero, suc, _+_, _*_, _<_, _≤_}
 use mathlib.Core.Path.{_≡_, refl, sym, ap, _∙_, subst}
-use mathlib.Core.Bool.{Bool, true, false, not, _&&_, _||_}
+use mathlib.Core.Bool.{Bool, true, false, not, _&&_, _||_, cond}
 use native.Mathlib.Nat.{not-suc-le-zero}
 use native.Mathlib.Omega.{arith}
 use borrow.Author.Tests.{eqb-true, eqb-false, eq-eqb, ne-eqb, ltb-true, ltb-false, lt-ltb, le-ltb}
 use lib.Dec.{eqb, ltb}
-use Rattle.format.specs.Step.{when}
 use Rattle.textures.specs.Count.{any, count, lowest}
 use Rattle.textures.specs.Table.{ranked}
 use Rattle.textures.proofs.Tables.{true-false}
 use Rattle.textures.proofs.Marks.{any-none, and-left, and-right}
 use Rattle.textures.proofs.Firsts.{count-next, count-grows, lowest-at, lowest-none}
 
-one-below : (x y : Bool) → (x ≡ true → y ≡ true) → when x 1 0 ≤ when y 1 0
+one-below : (x y : Bool) → (x ≡ true → y ≡ true) → cond x 1 0 ≤ cond y 1 0
 one-below true y h = rw (h refl) (omega arith)
 one-below false true h = omega arith
 one-below false false h = omega arith
@@ -26,7 +25,7 @@ count-narrower p q zero h = omega arith
 count-narrower p q (suc n) h = omega (arith, count-narrower p q n h, one-below (p n) (q n) (h n))
 
 -- those that pass one of two tests that exclude each other
-pub count-either : (p q r : ℕ → Bool) (n : ℕ) → ((i : ℕ) → _≡_ {A = ℕ} (when (r i) 1 0) (when (p i) 1 0 + when (q i) 1 0)) → count r n ≡ count p n + count q n
+pub count-either : (p q r : ℕ → Bool) (n : ℕ) → ((i : ℕ) → _≡_ {A = ℕ} (cond (r i) 1 0) (cond (p i) 1 0 + cond (q i) 1 0)) → count r n ≡ count p n + count q n
 unfolding count
 count-either p q r zero h = refl
 count-either p q r (suc n) h = omega (arith, count-either p q r n h, h n)
@@ -53,7 +52,7 @@ count-cut x j (suc n) h = by (ltb n j) refl (count-cut x j n)
     and-false true = refl
     and-false false = refl
 
-    by : (t : Bool) → ltb n j ≡ t → (j ≤ n → count (λ l. x l && ltb l j) n ≡ count x j) → count (λ l. x l && ltb l j) n + when (x n && ltb n j) 1 0 ≡ count x j
+    by : (t : Bool) → ltb n j ≡ t → (j ≤ n → count (λ l. x l && ltb l j) n ≡ count x j) → count (λ l. x l && ltb l j) n + cond (x n && ltb n j) 1 0 ≡ count x j
     by true e deeper =
         let q : j ≡ suc n = omega (arith, ltb-true n j e, h) in
         let a : count (λ l. x l && ltb l j) (suc n) ≡ count x (suc n) = count-alike (λ l. x l && ltb l j) x (suc n) (λ l k. inside l (omega (arith, k, q))) in
@@ -63,23 +62,23 @@ count-cut x j (suc n) h = by (ltb n j) refl (count-cut x j n)
         rw (e, and-false (x n)) (omega (arith, z))
 
 counted-in : (q : ℕ → Bool) (j n : ℕ) → j < n → q j ≡ true → count q j < count q n
-counted-in q j n h e = omega (arith, count-grows q (j + 1) n (omega (arith, h)), count-next q j ∙ ap (λ (b : Bool). count q j + when b 1 0) e)
+counted-in q j n h e = omega (arith, count-grows q (j + 1) n (omega (arith, h)), count-next q j ∙ ap (λ (b : Bool). count q j + cond b 1 0) e)
 
-one-split : (x : Bool) (v c : ℕ) → _≡_ {A = ℕ} (when (x && ltb v (c + 1)) 1 0) (when (x && ltb v c) 1 0 + when (x && eqb v c) 1 0)
+one-split : (x : Bool) (v c : ℕ) → _≡_ {A = ℕ} (cond (x && ltb v (c + 1)) 1 0) (cond (x && ltb v c) 1 0 + cond (x && eqb v c) 1 0)
 one-split false v c = refl
 one-split true v c = by (ltb v c) (eqb v c) refl refl
   where
-    by : (t u : Bool) → ltb v c ≡ t → eqb v c ≡ u → _≡_ {A = ℕ} (when (ltb v (c + 1)) 1 0) (when t 1 0 + when u 1 0)
+    by : (t u : Bool) → ltb v c ≡ t → eqb v c ≡ u → _≡_ {A = ℕ} (cond (ltb v (c + 1)) 1 0) (cond t 1 0 + cond u 1 0)
     by true true e g = absurd (omega (arith, ltb-true v c e, eqb-true v c g))
     by true false e g = rw (lt-ltb v (c + 1) (omega (arith, ltb-true v c e))) refl
     by false true e g = rw (lt-ltb v (c + 1) (omega (arith, eqb-true v c g))) refl
     by false false e g = let z = eqb-false v c g in rw (le-ltb v (c + 1) (omega (arith, ltb-false v c e, z))) refl
 
-one-before : (x : Bool) (v c : ℕ) (y : Bool) → _≡_ {A = ℕ} (when (x && (ltb v c || (eqb v c && y))) 1 0) (when (x && ltb v c) 1 0 + when ((x && eqb v c) && y) 1 0)
+one-before : (x : Bool) (v c : ℕ) (y : Bool) → _≡_ {A = ℕ} (cond (x && (ltb v c || (eqb v c && y))) 1 0) (cond (x && ltb v c) 1 0 + cond ((x && eqb v c) && y) 1 0)
 one-before false v c y = refl
 one-before true v c y = by (ltb v c) (eqb v c) y refl refl
   where
-    by : (t u y : Bool) → ltb v c ≡ t → eqb v c ≡ u → _≡_ {A = ℕ} (when (t || (u && y)) 1 0) (when t 1 0 + when (u && y) 1 0)
+    by : (t u y : Bool) → ltb v c ≡ t → eqb v c ≡ u → _≡_ {A = ℕ} (cond (t || (u && y)) 1 0) (cond t 1 0 + cond (u && y) 1 0)
     by true true y e g = absurd (omega (arith, ltb-true v c e, eqb-true v c g))
     by true false y e g = refl
     by false true true e g = refl

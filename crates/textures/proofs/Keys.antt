@@ -2,14 +2,14 @@
 -- Assumes nothing.
 use Prim.Native.Nat.{ℕ, zero, suc, _+_, _*_, _-_, _<_, _≤_}
 use mathlib.Core.Path.{_≡_, refl, sym, ap, _∙_}
-use mathlib.Core.Bool.{Bool, true, false, _&&_}
+use mathlib.Core.Bool.{Bool, true, false, _&&_, cond}
 use mathlib.Core.List.{List, [], _∷_, _++_}
 use native.Mathlib.Nat.{add-assoc}
 use native.Mathlib.Omega.{arith}
 use borrow.Author.Tests.{ltb-true, ltb-false, eq-eqb, ne-eqb, le-leb, lt-leb}
 use lib.Dec.{eqb, ltb, leb}
 use lib.ListN.{length, getD, drop, replicate}
-use Rattle.format.specs.Step.{Step, ok, refused, when}
+use Rattle.format.specs.Step.{Step, ok, refused}
 use Rattle.format.specs.declared.refusal.Refusal.{Refusal}
 use Rattle.records.specs.Number.{offsetAt, offsetStep}
 use Rattle.records.specs.declared.number.ReadOffset.{ReadOffset}
@@ -47,7 +47,7 @@ module _ (s : List ℕ) (bytes : (i : ℕ) → getD s i 0 < 256) where
   unfolding lowered
   lowered-small b h = by (ltb b 65) (ltb 90 b) refl
     where
-      by : (t u : Bool) → ltb 90 b ≡ u → when t b (when u b (b + 32)) < 256
+      by : (t u : Bool) → ltb 90 b ≡ u → cond t b (cond u b (b + 32)) < 256
       by true u e = h
       by false true e = h
       by false false e = omega (arith, ltb-false 90 b e)
@@ -56,7 +56,7 @@ module _ (s : List ℕ) (bytes : (i : ℕ) → getD s i 0 < 256) where
   unfolding charAt
   char-small p l = by (eqb l 0)
     where
-      by : (t : Bool) → when t 0 (lowered (getD s p 0)) < 256
+      by : (t : Bool) → cond t 0 (lowered (getD s p 0)) < 256
       by true = omega arith
       by false = lowered-small (getD s p 0) (bytes p)
 

@@ -2,7 +2,7 @@
 -- Assumes nothing.
 use Prim.Native.Nat.{ℕ, zero, suc, _+_, _*_, _<_, _≤_}
 use mathlib.Core.Path.{_≡_, refl, sym, ap, _∙_, subst}
-use mathlib.Core.Bool.{Bool, true, false, _||_}
+use mathlib.Core.Bool.{Bool, true, false, _||_, cond}
 use mathlib.Core.List.{List, [], _∷_, _++_}
 use native.Mathlib.Nat.{not-suc-le-zero}
 use native.Mathlib.Omega.{arith}
@@ -13,7 +13,6 @@ use lib.Seq.{getD-set-same, getD-set-other}
 use Rattle.format.proofs.Listing.{into-short, into-list}
 use Rattle.format.specs.Answer.{answer, refused, mapped}
 use Rattle.format.specs.Listed.{listed, into}
-use Rattle.format.specs.Step.{when}
 use Rattle.format.specs.declared.section.BspData.{BspData}
 use Rattle.textures.specs.Access.{isSound, namesIn}
 use Rattle.textures.specs.Count.{any, lowest, each}
@@ -277,7 +276,7 @@ module _ (p : ℕ → Bool) (ka kb : ℕ → ℕ) where
     pub known-start : (list : List ℕ) → Known p ka kb n from list → KnownTo p ka kb n from to from list
     known-start list known i h = known i h ∙ by (ltb i from) refl
       where
-        by : (x : Bool) → ltb i from ≡ x → knownOf p ka kb from i ≡ knownOf p ka kb (when (ltb i from) to from) i
+        by : (x : Bool) → ltb i from ≡ x → knownOf p ka kb from i ≡ knownOf p ka kb (cond (ltb i from) to from) i
         by true e = rw e (known-before from to i order (ltb-true i from e))
         by false e = rw e refl
 
@@ -287,11 +286,11 @@ module _ (p : ℕ → Bool) (ka kb : ℕ → ℕ) where
     pub known-next : (list : List ℕ) (j x : ℕ) → j < length list → x ≡ knownOf p ka kb to j → KnownTo p ka kb n from to j list → KnownTo p ka kb n from to (j + 1) (set list j x)
     known-next list j x room e known i h = by (eqb i j) refl
       where
-        by : (y : Bool) → eqb i j ≡ y → getD (set list j x) i 0 ≡ knownOf p ka kb (when (ltb i (j + 1)) to from) i
+        by : (y : Bool) → eqb i j ≡ y → getD (set list j x) i 0 ≡ knownOf p ka kb (cond (ltb i (j + 1)) to from) i
         by true g =
             let q : i ≡ j = eqb-true i j g in
             rw (q, lt-ltb j (j + 1) (omega arith)) (getD-set-same list j x 0 room ∙ e)
-        by false g = getD-set-other list j i x 0 (eqb-false i j g) ∙ (known i h ∙ ap (λ (b : Bool). knownOf p ka kb (when b to from) i) (sym (same-side (eqb-false i j g))))
+        by false g = getD-set-other list j i x 0 (eqb-false i j g) ∙ (known i h ∙ ap (λ (b : Bool). knownOf p ka kb (cond b to from) i) (sym (same-side (eqb-false i j g))))
           where
             same-side : (i ≡ j → ⊥) → ltb i (j + 1) ≡ ltb i j
             same-side z = side (ltb i j) refl
@@ -342,7 +341,7 @@ module _ (s : List ℕ) (bytes : (i : ℕ) → getD s i 0 < 256) (base n : ℕ) 
   earliest-is i h = by (passing s base Animated i) refl
     where
       by : (x : Bool) → passing s base Animated i ≡ x
-          → when (passing s base Animated i) (when (any (isLike (passing s base Animated) (starts s base) (ends s base) i) n) (lowest (isLike (passing s base Animated) (starts s base) (ends s base) i) n) 4294967295) 4294967295
+          → cond (passing s base Animated i) (cond (any (isLike (passing s base Animated) (starts s base) (ends s base) i) n) (lowest (isLike (passing s base Animated) (starts s base) (ends s base) i) n) 4294967295) 4294967295
           ≡ earliestBy (namesOf s base) n i
       by true e =
           rw (animated-is s base i, e, any-at (isLike (passing s base Animated) (starts s base) (ends s base) i) n i h (like-self (passing s base Animated) (starts s base) (ends s base) i e))

@@ -2,7 +2,7 @@
 -- Assumes nothing.
 use Prim.Native.Nat.{ℕ, zero, suc, _+_, _*_, _-_, _<_, _≤_}
 use mathlib.Core.Path.{_≡_, refl, sym, ap, _∙_, subst}
-use mathlib.Core.Bool.{Bool, true, false, not, _&&_, _||_}
+use mathlib.Core.Bool.{Bool, true, false, not, _&&_, _||_, cond}
 use mathlib.Core.List.{List, [], _∷_}
 use native.Mathlib.Omega.{arith}
 use borrow.Author.Tests.{eqb-true, eqb-false, eq-eqb, ne-eqb, ltb-true, ltb-false, lt-ltb, le-ltb, leb-true, le-leb}
@@ -10,7 +10,7 @@ use lib.Dec.{eqb, ltb, leb}
 use lib.ListN.{getD}
 use Rattle.format.specs.Answer as Answer
 use Rattle.format.specs.Answer.{Answer, answer, refused, thenAnswer}
-use Rattle.format.specs.Step.{Step, ok, when}
+use Rattle.format.specs.Step.{Step, ok}
 use Rattle.records.specs.Number.{offsetAt}
 use Rattle.records.specs.declared.number.OptionalOffset.{OptionalOffset}
 use Rattle.records.specs.declared.number.OptionalOffset.the-variants.{None, Some}
@@ -104,10 +104,10 @@ module _ (k : Key) (a b c : ℕ) where
       end-decides y h g = rw (eq-eqb (k .first) 43 e, eq-eqb (k .frame) c f, eq-eqb a (k .«stem_start») h) (sym g)
 
 module _ (key of : Key) (is : key ≡ of) (a b c : ℕ) (x : Bool) (asked : x ≡ isFrame key a b c) where
-  pub one-frame : x ≡ true → _≡_ {A = ℕ} 1 (when (isFrame of a b c) 1 0)
+  pub one-frame : x ≡ true → _≡_ {A = ℕ} 1 (cond (isFrame of a b c) 1 0)
   one-frame e = rw (← is, ← asked, e) refl
 
-  pub no-frame : x ≡ false → _≡_ {A = ℕ} 0 (when (isFrame of a b c) 1 0)
+  pub no-frame : x ≡ false → _≡_ {A = ℕ} 0 (cond (isFrame of a b c) 1 0)
   no-frame e = rw (← is, ← asked, e) refl
 
 -- ---- names and keys

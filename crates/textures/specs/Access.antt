@@ -1,14 +1,14 @@
 -- The accessors of textures on a map record, loaded or made by hand (Note 2). The section's offset and the number of textures are the record's; the
 -- count in the file and the section's size are not looked at.
 use Prim.Native.Nat.{ℕ, _+_, _*_}
-use mathlib.Core.Bool.{Bool, true, false, _&&_}
+use mathlib.Core.Bool.{Bool, true, false, _&&_, cond}
 use mathlib.Core.List.{List, [], _∷_}
 use lib.Dec.{eqb, leb, ltb}
 use lib.ListN.{take, drop}
 use Rattle.format.specs.Answer as Answer
 use Rattle.format.specs.Answer.{Answer, answer, refused, thenAnswer}
 use Rattle.format.specs.Step as Step
-use Rattle.format.specs.Step.{Step, ok, andThen, when}
+use Rattle.format.specs.Step.{Step, ok, andThen}
 use Rattle.format.specs.Field.{u32At}
 use Rattle.format.specs.Refusal.{numberOf}
 use Rattle.format.specs.declared.section.BspData.{BspData}
@@ -43,14 +43,14 @@ isSound s m = soundAt s (m .textures .offset) (m .«texture_count»)
 
 -- what is asked of a section that reads, else 23
 abbrev pub ofSound : {A : Type 0} → List ℕ → BspData → Answer A → Answer A
-ofSound s m a = when (isSound s m) a (refused 23)
+ofSound s m a = cond (isSound s m) a (refused 23)
 
 -- the number in the file of the frame at a place of a group of the texture of a new number: group 0 is the primary one, 1 the alternate one
 unfoldable pub frameTexture : List ℕ → BspData → ℕ → ℕ → ℕ → Answer ℕ
 frameTexture s m number group place =
     ofSound s m
-    (when (eqb group 0) (frameBy isPrimary (namesIn s m) (m .«texture_count») number place)
-    (when (eqb group 1) (frameBy isAlternate (namesIn s m) (m .«texture_count») number place)
+    (cond (eqb group 0) (frameBy isPrimary (namesIn s m) (m .«texture_count») number place)
+    (cond (eqb group 1) (frameBy isAlternate (namesIn s m) (m .«texture_count») number place)
     (refused 20)))
 
 -- the number in the file of the static texture of a new number
@@ -72,8 +72,8 @@ renumbered info n = record {
 -- a texture info with its texture's new number; 23 where its texture is none of the section's n
 unfoldable pub infoAt : List ℕ → ℕ → ℕ → BspTexInfo → Answer BspTexInfo
 infoAt s base n info =
-    when (leb n (info .«tex_id»)) (refused 23)
-    (when (soundAt s base n) (answer (renumbered info (numberedBy (namesOf s base) n (info .«tex_id»))))
+    cond (leb n (info .«tex_id»)) (refused 23)
+    (cond (soundAt s base n) (answer (renumbered info (numberedBy (namesOf s base) n (info .«tex_id»))))
     (refused 23))
 
 -- by index
@@ -114,8 +114,8 @@ textureBy s base (Some offset) p = headerAt s (base + offset)
 -- texture i of a section of n textures
 unfoldable pub listedTexture : List ℕ → ℕ → ℕ → ℕ → Answer BspTexture
 listedTexture s base n i =
-    when (leb n i) (refused 20)
-    (when (ltb 2097152 n) (refused 23)
+    cond (leb n i) (refused 20)
+    (cond (ltb 2097152 n) (refused 23)
     (reading (andThen (offsetAt s (base + 4 + 4 * i)) (λ offset p. textureBy s base offset p))))
 
 abbrev pub textureOf : List ℕ → BspData → ℕ → Answer BspTexture

@@ -3,11 +3,10 @@
 -- tree hangs at the first branch of node 0. No answer depends on how the tree is shaped: laws in proofs/Tables.antt.
 use Prim.Native.Nat.{ℕ, zero, suc, _+_, _*_, _-_, _/_, _%_, _^_, _<_, _≤_}
 use mathlib.Core.Path.{_≡_}
-use mathlib.Core.Bool.{Bool, true, false, not, _&&_}
+use mathlib.Core.Bool.{Bool, true, false, not, _&&_, cond}
 use mathlib.Core.List.{List}
 use lib.Dec.{eqb, leb, ltb}
 use lib.ListN.{length, getD, set}
-use Rattle.format.specs.Step.{when}
 use Rattle.textures.specs.Count.{any, count, lowest}
 use Rattle.textures.specs.declared.table.Located.{Located}
 use Rattle.textures.specs.declared.table.Located.the-variants.{At, Free, Deep}
@@ -19,7 +18,7 @@ mix a b = (a % 4294967291 + b % 4294967279) % 4294967296 * 2654435769 % 42949672
 -- The branch to take with n levels left: the bits of `mix`, which spread usual stems, and then each bit of a stem's two numbers, so that
 -- no two stems take the same turns at all levels.
 unfoldable pub turn : ℕ → ℕ → ℕ → ℕ
-turn a b n = when (ltb n 56) (b / 2 ^ n % 2) (when (ltb n 113) (a / 2 ^ (n - 56) % 2) (mix a b / 2 ^ (n - 113) % 2))
+turn a b n = cond (ltb n 56) (b / 2 ^ n % 2) (cond (ltb n 113) (a / 2 ^ (n - 56) % 2) (mix a b / 2 ^ (n - 113) % 2))
 
 abbrev pub branch : ℕ → ℕ → ℕ
 branch v d = 4 * v + 2 + d
@@ -31,9 +30,9 @@ holds t v a b = eqb (getD t (4 * v) 0) a && eqb (getD t (4 * v + 1) 0) b
 -- at node v, which hangs at a branch
 abbrev pub atNode : List ℕ → ℕ → ℕ → ℕ → ℕ → (ℕ → Located) → Located
 atNode t a b slot v deeper =
-    when (eqb v 0) (Free slot)
-    (when (leb (length t / 4) v) Deep
-    (when (holds t v a b) (At v)
+    cond (eqb v 0) (Free slot)
+    (cond (leb (length t / 4) v) Deep
+    (cond (holds t v a b) (At v)
     (deeper v)))
 
 -- the node with a stem below branch d of node u, or the branch where it belongs; n levels at most
@@ -89,7 +88,7 @@ hits p ka kb t v j = p j && holds t v (ka j) (kb j)
 
 -- a node is marked exactly if one of the first n textures that pass a test has its stem
 abbrev pub Marked : (ℕ → Bool) → (ℕ → ℕ) → (ℕ → ℕ) → List ℕ → ℕ → List ℕ → ℕ → Type 0
-Marked p ka kb t w marks n = (v : ℕ) → 0 < v → v < w → getD marks v 0 ≡ when (any (hits p ka kb t v) n) 1 0
+Marked p ka kb t w marks n = (v : ℕ) → 0 < v → v < w → getD marks v 0 ≡ cond (any (hits p ka kb t v) n) 1 0
 
 -- a node that is not marked
 abbrev pub isUnmarked : List ℕ → ℕ → Bool
@@ -107,7 +106,7 @@ isEarliest p ka kb i = isLone p p ka kb i i
 
 -- the lowest number below m that passes a test; 2^32 - 1 where there is none
 unfoldable pub earliestOf : (ℕ → Bool) → ℕ → ℕ
-earliestOf q m = when (any q m) (lowest q m) 4294967295
+earliestOf q m = cond (any q m) (lowest q m) 4294967295
 
 -- texture j passes a test and has the stem of texture i
 abbrev pub isLike : (ℕ → Bool) → (ℕ → ℕ) → (ℕ → ℕ) → ℕ → ℕ → Bool
@@ -115,7 +114,7 @@ isLike p ka kb i j = p j && (eqb (ka i) (ka j) && eqb (kb i) (kb j))
 
 -- what is known of texture i when the stems of the first m textures have been gone through: the first texture with its stem, if it is one of them
 unfoldable pub knownOf : (ℕ → Bool) → (ℕ → ℕ) → (ℕ → ℕ) → ℕ → ℕ → ℕ
-knownOf p ka kb m i = when (p i) (earliestOf (isLike p ka kb i) m) 4294967295
+knownOf p ka kb m i = cond (p i) (earliestOf (isLike p ka kb i) m) 4294967295
 
 -- a list of this for n textures
 abbrev pub Known : (ℕ → Bool) → (ℕ → ℕ) → (ℕ → ℕ) → ℕ → ℕ → List ℕ → Type 0
@@ -123,7 +122,7 @@ Known p ka kb n m list = (i : ℕ) → i < n → getD list i 0 ≡ knownOf p ka 
 
 -- the same where a part of the textures, from `from` to `to`, has been gone through for the first j textures
 abbrev pub KnownTo : (ℕ → Bool) → (ℕ → ℕ) → (ℕ → ℕ) → ℕ → ℕ → ℕ → ℕ → List ℕ → Type 0
-KnownTo p ka kb n from to j list = (i : ℕ) → i < n → getD list i 0 ≡ knownOf p ka kb (when (ltb i j) to from) i
+KnownTo p ka kb n from to j list = (i : ℕ) → i < n → getD list i 0 ≡ knownOf p ka kb (cond (ltb i j) to from) i
 
 -- Of each node of the table of a part that starts at `from`: the first texture with its stem, of the first j. Nothing is said of a stem that a
 -- texture before the part has.

@@ -1,9 +1,8 @@
 // Textures of the file by their new numbers: static ones, and the frames of a group.
 ghost use mathlib.Core.Path.{_≡_};
-ghost use mathlib.Core.Bool.{_&&_};
+ghost use mathlib.Core.Bool.{_&&_, cond};
 ghost use Prim.Native.Nat.{_≤_};
 ghost use lib.Dec.{eqb};
-ghost use Rattle.format.specs.Step.{when};
 ghost use Rattle.textures.specs.Count.{lowest};
 ghost use Rattle.textures.specs.Frame.{fileNumber};
 ghost use Rattle.textures.specs.Group.{staticBy, frameBy};
@@ -50,7 +49,7 @@ fn is_frame(key: Key, a: u64, b: u64, letter: u8) -> bool
 
 // 1 for a texture with a frame and a stem.
 fn frame_one(s: &[u8], base: u32, index: u32, a: u64, b: u64, letter: u8) -> u32
-    ensures { λ r. ⌜ r ≡ when (framed (now (s .entry)) base a b letter index) 1 0 ⌝ }
+    ensures { λ r. ⌜ r ≡ cond (framed (now (s .entry)) base a b letter index) 1 0 ⌝ }
 {
     if is_frame(key_of(s, base, index), a, b, letter) {
         return 1;

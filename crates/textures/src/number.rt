@@ -1,10 +1,9 @@
 // The numbers that textures get: static textures first, and then a number for each stem, by its earliest texture.
 ghost use mathlib.Core.Path.{_≡_};
-ghost use mathlib.Core.Bool.{true, not, _&&_};
+ghost use mathlib.Core.Bool.{true, not, _&&_, cond};
 ghost use Prim.Native.Nat.{_≤_, _<_, _+_, _*_};
 ghost use lib.Dec.{eqb};
 ghost use lib.ListN.{length, replicate};
-ghost use Rattle.format.specs.Step.{when};
 ghost use Rattle.textures.specs.Count.{count, lowest};
 ghost use Rattle.textures.specs.Group.{numberedBy};
 ghost use Rattle.textures.specs.Section.{namesOf};
@@ -25,7 +24,7 @@ use crate::table::seek;
 
 // 1 for a static texture.
 fn static_one(s: &[u8], base: u32, index: u32) -> u32
-    ensures { λ r. ⌜ r ≡ when (not (passing (now (s .entry)) base Of.Animated index)) 1 0 ⌝ }
+    ensures { λ r. ⌜ r ≡ cond (not (passing (now (s .entry)) base Of.Animated index)) 1 0 ⌝ }
 {
     let key = key_of(s, base, index);
     if is_kind(Kind::Animated, key) {
@@ -96,7 +95,7 @@ fn mark_stems(
 // 1 for the earliest texture with its stem. The table has the stem, and marks the stems of the textures before this one; this one's is marked too.
 fn first_one(s: &[u8], base: u32, index: u32, t: &[u64], nodes: usize, marks: &mut [u8]) -> u32
     requires { ⌜ Tab.Table (now t) nodes × ((nodes ≤ length (now marks)) × (Tab.Marked (passing (now s) base Of.Animated) (starts (now s) base) (ends (now s) base) (now t) nodes (now marks) index × (passing (now s) base Of.Animated index ≡ true → Tab.Node (now t) nodes (starts (now s) base index) (ends (now s) base index)))) ⌝ }
-    ensures { λ r. ⌜ (r ≡ when (Tab.isEarliest (passing (now (s .entry)) base Of.Animated) (starts (now (s .entry)) base) (ends (now (s .entry)) base) index) 1 0) × Tab.Marked (passing (now (s .entry)) base Of.Animated) (starts (now (s .entry)) base) (ends (now (s .entry)) base) (now (t .entry)) nodes (now (marks .exit)) (index + 1) ⌝ }
+    ensures { λ r. ⌜ (r ≡ cond (Tab.isEarliest (passing (now (s .entry)) base Of.Animated) (starts (now (s .entry)) base) (ends (now (s .entry)) base) index) 1 0) × Tab.Marked (passing (now (s .entry)) base Of.Animated) (starts (now (s .entry)) base) (ends (now (s .entry)) base) (now (t .entry)) nodes (now (marks .exit)) (index + 1) ⌝ }
 {
     let key = key_of(s, base, index);
     if is_kind(Kind::Animated, key) {

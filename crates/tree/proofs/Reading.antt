@@ -2,7 +2,7 @@
 -- limit. Assumes nothing.
 use Prim.Native.Nat.{ℕ, zero, suc, _≤_}
 use mathlib.Core.Path.{_≡_, ap, subst}
-use mathlib.Core.Bool.{Bool, true, false}
+use mathlib.Core.Bool.{Bool, true, false, cond}
 use mathlib.Core.List.{List}
 use native.Mathlib.Omega.{arith}
 use borrow.Author.Tests.{leb-true}
@@ -13,7 +13,7 @@ use lib.IntN.{ℤ, pos, negsuc}
 use Rattle.format.proofs.Answers.{mapped-answer}
 use Rattle.format.specs.Answer as Ans
 use Rattle.format.specs.Answer.{answer, mapped}
-use Rattle.format.specs.Step.{Step, ok, refused, andThen, when}
+use Rattle.format.specs.Step.{Step, ok, refused, andThen}
 use Rattle.format.specs.Field.{u32At, i32At, f32At}
 use Rattle.format.specs.Section.{sectionOf, recordCount, withinLimit}
 use Rattle.format.specs.declared.section.BspData.{BspData}
@@ -44,7 +44,7 @@ none n a e = let z : _≡_ {A = ℕ} 0 1 = cc in absurd (omega arith)
 abbrev Dist : Hyperplane → Type 0
 Dist h = T (fits binary32 (h .dist))
 
-either : (t : Bool) {g h : Hyperplane} → FitsPlane g → FitsPlane h → FitsPlane (when t g h)
+either : (t : Bool) {g h : Hyperplane} → FitsPlane g → FitsPlane h → FitsPlane (cond t g h)
 either true G H = G
 either false G H = H
 

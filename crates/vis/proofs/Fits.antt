@@ -1,5 +1,5 @@
 -- A visibility list has fewer entries than the leaf count, unless both are none. Assumes nothing.
-use mathlib.Core.Bool.{Bool, true, false}
+use mathlib.Core.Bool.{Bool, true, false, cond}
 use mathlib.Core.List.{List, [], _∷_}
 use Prim.Native.Nat.{ℕ, zero, suc, _+_, _-_, _*_, _/_, _≤_}
 use native.Mathlib.Nat.{min-le-left, min-le-right}
@@ -8,7 +8,6 @@ use lib.Count.{onesIn}
 use lib.Dec.{eqb, ltb}
 use lib.ListN.{length, drop, length-append}
 use Rattle.format.specs.Answer.{Answer, answer, refused, mapped, thenAnswer}
-use Rattle.format.specs.Step.{when}
 use Rattle.format.specs.declared.section.BspData.{BspData}
 use Rattle.records.specs.Leaf.{leafOf}
 use Rattle.records.specs.declared.leaf.BspLeaf.{BspLeaf}
@@ -43,7 +42,7 @@ after-eight count leaf xs (answer ys) h k =
     omega (arith, length-append xs ys, min-le-left 8 (count - leaf), min-le-right 8 (count - leaf))
 after-eight count leaf xs (refused n) h k = omega arith
 
-tested : (t : Bool) (n leaf : ℕ) (y : Answer (List Bool)) → atMost n (mapped (visible leaf) y) → atMost n (mapped (visible leaf) (when t y (answer [])))
+tested : (t : Bool) (n leaf : ℕ) (y : Answer (List Bool)) → atMost n (mapped (visible leaf) y) → atMost n (mapped (visible leaf) (cond t y (answer [])))
 unfolding visible
 tested true n leaf y h = h
 tested false n leaf y h = omega arith
@@ -66,7 +65,7 @@ pub pvs-fits : (file : List ℕ) (map : BspData) (leaf count : ℕ) → atMost (
 unfolding pvsOf sectionRow rowAt
 pvs-fits file map leaf count = go (eqb leaf 0) (leafOf file map leaf)
   where
-    at : (t : Bool) (bytes : List ℕ) → atMost (count - 1) (when t (refused 33) (rowFrom count 1 bytes))
+    at : (t : Bool) (bytes : List ℕ) → atMost (count - 1) (cond t (refused 33) (rowFrom count 1 bytes))
     at true bytes = omega arith
     at false bytes = row-fits count 1 bytes
 
@@ -78,7 +77,7 @@ pvs-fits file map leaf count = go (eqb leaf 0) (leafOf file map leaf)
     row None = omega arith
     row (Some offset) = within offset (visibilityOf file (map .visibility))
 
-    go : (t : Bool) (a : Answer BspLeaf) → atMost (count - 1) (when t (answer []) (thenAnswer a (λ l. rowOf file map count (l .«vis_offset»))))
+    go : (t : Bool) (a : Answer BspLeaf) → atMost (count - 1) (cond t (answer []) (thenAnswer a (λ l. rowOf file map count (l .«vis_offset»))))
     go true a = omega arith
     go false (answer l) = row (l .«vis_offset»)
     go false (refused n) = omega arith

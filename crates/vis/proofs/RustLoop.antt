@@ -2,7 +2,7 @@
 -- visibility data, every leaf and every count. Assumes nothing.
 use borrow.Author.Tests.{ne-eqb, ltb-true, ltb-false, lt-ltb, le-ltb}
 use mathlib.Core.Path.{_≡_, refl, sym, ap, _∙_}
-use mathlib.Core.Bool.{Bool, true, false}
+use mathlib.Core.Bool.{Bool, true, false, cond}
 use mathlib.Core.List.{List, [], _∷_, _++_, append-assoc, append-nil}
 use Prim.Native.Nat.{ℕ, zero, suc, _+_, _-_, _*_, _/_, _%_, _^_, _<_, _≤_, min}
 use native.Mathlib.Nat.{zero-mul, pow-suc, div-one, zero-min, min-zero, suc-min-suc}
@@ -12,7 +12,6 @@ use lib.Dec.{eqb, ltb}
 use lib.ListN.{length, drop}
 use lib.Pow.{pow-pos, shr-shr}
 use Rattle.format.specs.Answer.{Answer, answer, refused, mapped, thenAnswer}
-use Rattle.format.specs.Step.{when}
 use Rattle.format.specs.declared.section.BspData.{BspData}
 use Rattle.records.specs.Leaf.{leafOf}
 use Rattle.records.specs.declared.leaf.BspLeaf.{BspLeaf}
@@ -33,7 +32,7 @@ masked b k =
 
 -- one turn of `for shift in 0..8`
 turn : (m k leaf : ℕ) (list : List ℕ) (more : List Bool) → m < 2
-    → when (eqb (m * 2 ^ k) 0) list (list ++ (leaf ∷ [])) ++ visible (leaf + 1) more ≡ list ++ visible leaf (eqb m 1 ∷ more)
+    → cond (eqb (m * 2 ^ k) 0) list (list ++ (leaf ∷ [])) ++ visible (leaf + 1) more ≡ list ++ visible leaf (eqb m 1 ∷ more)
 unfolding visible
 turn zero k leaf list more h = rw zero-mul
 turn (suc zero) k leaf list more h =
@@ -45,7 +44,7 @@ pub for-shift : (turns shift b leaf : ℕ) (list : List ℕ) → forShift turns 
 unfolding forShift bits visible
 for-shift zero shift b leaf list = sym (append-nil list)
 for-shift (suc turns) shift b leaf list =
-    for-shift turns (shift + 1) b (leaf + 1) (when (eqb (bitAnd b (1 * 2 ^ shift)) 0) list (list ++ (leaf ∷ [])))
+    for-shift turns (shift + 1) b (leaf + 1) (cond (eqb (bitAnd b (1 * 2 ^ shift)) 0) list (list ++ (leaf ∷ [])))
     ∙ rw (masked b shift, ← shr-shr b shift 1) (turn (b / 2 ^ shift % 2) shift leaf list (bits turns (b / 2 ^ shift / 2)) (omega arith))
 
 below-append : (count : ℕ) (xs ys : List ℕ) → below count (xs ++ ys) ≡ below count xs ++ below count ys
@@ -53,7 +52,7 @@ unfolding below
 below-append count [] ys = refl
 below-append count (x ∷ xs) ys = go (ltb x count) (below-append count xs ys)
   where
-    go : (t : Bool) → below count (xs ++ ys) ≡ below count xs ++ below count ys → when t (x ∷ below count (xs ++ ys)) (below count (xs ++ ys)) ≡ when t (x ∷ below count xs) (below count xs) ++ below count ys
+    go : (t : Bool) → below count (xs ++ ys) ≡ below count xs ++ below count ys → cond t (x ∷ below count (xs ++ ys)) (below count (xs ++ ys)) ≡ cond t (x ∷ below count xs) (below count xs) ++ below count ys
     go true e = ap (λ (l : List ℕ). x ∷ l) e
     go false e = e
 
@@ -102,7 +101,7 @@ kept-below (suc n) count leaf b = go (ltb leaf count) refl (kept-below n count (
 -- the test of `while` and of the row
 tested : (t : Bool) (count leaf : ℕ) (list : List ℕ) (x : Answer (List ℕ)) (y : Answer (List Bool))
     → mapped (below count) x ≡ before (below count list) (mapped (visible leaf) y)
-    → mapped (below count) (when t x (answer list)) ≡ before (below count list) (mapped (visible leaf) (when t y (answer [])))
+    → mapped (below count) (cond t x (answer list)) ≡ before (below count list) (mapped (visible leaf) (cond t y (answer [])))
 unfolding visible
 tested true count leaf list x y e = e
 tested false count leaf list x y e = ap answer (sym (append-nil (below count list)))
@@ -125,7 +124,7 @@ pub rust-row : (visibility : List ℕ) (offset count : ℕ) → mapped (below co
 unfolding rowAt below
 rust-row visibility offset count = go (ltb (length visibility) offset)
   where
-    go : (t : Bool) → mapped (below count) (when t (refused 33) (whileBelow count 1 [] (drop offset visibility))) ≡ when t (refused 33) (rowFrom count 1 (drop offset visibility))
+    go : (t : Bool) → mapped (below count) (cond t (refused 33) (whileBelow count 1 [] (drop offset visibility))) ≡ cond t (refused 33) (rowFrom count 1 (drop offset visibility))
     go true = refl
     go false = while-below count 1 [] (drop offset visibility) ∙ before-none (rowFrom count 1 (drop offset visibility))
 
@@ -141,7 +140,7 @@ module _ (file : List ℕ) (map : BspData) (leaf count : ℕ) (l : BspLeaf) (vis
       row None = refl
       row (Some offset) = rw (← v) (rust-row visibility offset count)
 
-      go : (t : Bool) (o : OptionalOffset) → mapped (below count) (when t (answer []) (matchOffset visibility count o)) ≡ when t (answer []) (rowOf file map count o)
+      go : (t : Bool) (o : OptionalOffset) → mapped (below count) (cond t (answer []) (matchOffset visibility count o)) ≡ cond t (answer []) (rowOf file map count o)
       go true o = refl
       go false o = row o
 
@@ -152,7 +151,7 @@ below-below count [] = refl
 below-below count (x ∷ xs) = go (ltb x count) refl (below-below count xs)
   where
     go : (t : Bool) → ltb x count ≡ t → below count (below count xs) ≡ below count xs
-        → below count (when t (x ∷ below count xs) (below count xs)) ≡ when t (x ∷ below count xs) (below count xs)
+        → below count (cond t (x ∷ below count xs) (below count xs)) ≡ cond t (x ∷ below count xs) (below count xs)
     go true e h = rw e (ap (λ (l : List ℕ). x ∷ l) h)
     go false e h = h
 
@@ -178,7 +177,7 @@ pvs-below file map leaf count = go (eqb leaf 0) (leafOf file map leaf)
     row (Some offset) = within offset (visibilityOf file (map .visibility))
 
     go : (t : Bool) (a : Answer BspLeaf)
-        → mapped (below count) (when t (answer []) (thenAnswer a (λ l. rowOf file map count (l .«vis_offset»)))) ≡ when t (answer []) (thenAnswer a (λ l. rowOf file map count (l .«vis_offset»)))
+        → mapped (below count) (cond t (answer []) (thenAnswer a (λ l. rowOf file map count (l .«vis_offset»)))) ≡ cond t (answer []) (thenAnswer a (λ l. rowOf file map count (l .«vis_offset»)))
     go true a = refl
     go false (answer l) = row (l .«vis_offset»)
     go false (refused n) = refl

@@ -2,12 +2,11 @@
 -- and stands for 8 n leaves that are not visible. Any other byte covers 8 leaves, lowest bit first, a set bit for a visible leaf. The row
 -- ends when the count reaches the number of leaves; of its last byte the bits past the last leaf are not read (document 02, note 3).
 use Prim.Native.Nat.{ℕ, zero, suc, _+_, _-_, _*_, _/_, _%_, min}
-use mathlib.Core.Bool.{Bool, true, false}
+use mathlib.Core.Bool.{Bool, true, false, cond}
 use mathlib.Core.List.{List, [], _∷_, _++_}
 use lib.Dec.{eqb, ltb}
 use lib.ListN.{length, drop, replicate}
 use Rattle.format.specs.Answer.{Answer, answer, refused, mapped}
-use Rattle.format.specs.Step.{when}
 
 -- the n lowest bits of a number, lowest first
 unfoldable pub bits : ℕ → ℕ → List Bool
@@ -26,11 +25,11 @@ inByte count leaf = min 8 (count - leaf)
 -- The bits of a row, the first of them that of `leaf`, until the number of leaves, `count`, is reached. 33 where the bytes end before. A run
 -- of leaves that are not visible may reach past the count.
 unfoldable pub rowBits : ℕ → ℕ → List ℕ → Answer (List Bool)
-rowBits count leaf [] = when (ltb leaf count) (refused 33) (answer [])
-rowBits count leaf (zero ∷ []) = when (ltb leaf count) (refused 33) (answer [])
+rowBits count leaf [] = cond (ltb leaf count) (refused 33) (answer [])
+rowBits count leaf (zero ∷ []) = cond (ltb leaf count) (refused 33) (answer [])
 rowBits count leaf (zero ∷ n ∷ bytes) =
-    when (ltb leaf count) (before (replicate (8 * n) false) (rowBits count (leaf + 8 * n) bytes)) (answer [])
-rowBits count leaf (suc b ∷ bytes) = when (ltb leaf count) (before (bits (inByte count leaf) (suc b)) (rowBits count (leaf + 8) bytes)) (answer [])
+    cond (ltb leaf count) (before (replicate (8 * n) false) (rowBits count (leaf + 8 * n) bytes)) (answer [])
+rowBits count leaf (suc b ∷ bytes) = cond (ltb leaf count) (before (bits (inByte count leaf) (suc b)) (rowBits count (leaf + 8) bytes)) (answer [])
 
 -- the leaves whose bits are set, in order, the first bit being that of `leaf`
 unfoldable pub visible : ℕ → List Bool → List ℕ
@@ -48,9 +47,9 @@ rowFrom count leaf bytes = mapped (visible leaf) (rowBits count leaf bytes)
 
 -- The leaves that the row at an offset of the visibility data lists. An offset past the data is refused; one at its end is not past it.
 unfoldable pub rowAt : List ℕ → ℕ → ℕ → Answer (List ℕ)
-rowAt visibility offset count = when (ltb (length visibility) offset) (refused 33) (rowFrom count 1 (drop offset visibility))
+rowAt visibility offset count = cond (ltb (length visibility) offset) (refused 33) (rowFrom count 1 (drop offset visibility))
 
 -- the entries of a list that are below the count
 unfoldable pub below : ℕ → List ℕ → List ℕ
 below count [] = []
-below count (leaf ∷ more) = when (ltb leaf count) (leaf ∷ below count more) (below count more)
+below count (leaf ∷ more) = cond (ltb leaf count) (leaf ∷ below count more) (below count more)

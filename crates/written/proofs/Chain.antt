@@ -3,14 +3,13 @@
 -- Assumes nothing.
 use Prim.Native.Nat.{ℕ, zero, suc, _+_, _-_, _<_, _≤_}
 use mathlib.Core.Path.{_≡_, refl, sym, ap, _∙_}
-use mathlib.Core.Bool.{Bool, true, false}
+use mathlib.Core.Bool.{Bool, true, false, cond}
 use mathlib.Core.List.{List, [], _∷_}
 use native.Mathlib.Omega.{arith}
 use borrow.Author.Tests.{eqb-true, eqb-false, ne-eqb}
 use lib.Dec.{eqb}
 use lib.ListN.{length, replicate, length-replicate}
 use Rattle.format.specs.Answer.{Answer, answer}
-use Rattle.format.specs.Step.{when}
 use Rattle.math.specs.declared.HyperplaneSide.{HyperplaneSide}
 use Rattle.math.specs.declared.HyperplaneSide.the-variants.{Positive, Negative}
 use Rattle.walk.specs.Order.{childNodes, nodesBelow, treeSize}
@@ -35,7 +34,7 @@ pub record Chained {E : Type 0} (N : Nodes E) (n : ℕ) : Type 0 where
 
 -- what is behind node i of n
 abbrev pub behind : {E : Type 0} → E → ℕ → ℕ → Child E
-behind stop n i = when (eqb (i + 1) n) (end stop) (node (i + 1))
+behind stop n i = cond (eqb (i + 1) n) (end stop) (node (i + 1))
 
 -- so many steps to the back
 abbrev backs : ℕ → List HyperplaneSide
@@ -55,7 +54,7 @@ module _ {E : Type 0} (plane : ℕ → ℕ) (front : ℕ → E) (stop : E) (N : 
   next-child i j Positive h q = no-node (front i) j q
   next-child i j Negative h q = by (eqb (i + 1) n) refl q
     where
-      by : (t : Bool) → eqb (i + 1) n ≡ t → when t (end stop) (node (i + 1)) ≡ node j → (Negative ≡ Negative) × (j ≡ i + 1) × (j < n)
+      by : (t : Bool) → eqb (i + 1) n ≡ t → cond t (end stop) (node (i + 1)) ≡ node j → (Negative ≡ Negative) × (j ≡ i + 1) × (j < n)
       by true e q = no-node stop j q
       by false e q = let z : i + 1 ≡ j = cc in let d = eqb-false (i + 1) n e in (refl, sym z, omega arith)
 
@@ -89,7 +88,7 @@ module _ {E : Type 0} (plane : ℕ → ℕ) (front : ℕ → E) (stop : E) (N : 
   ends-in i Positive e h q = let z : front i ≡ e = cc in rw z at (fronts i h)
   ends-in i Negative e h q = by (eqb (i + 1) n) q
     where
-      by : (t : Bool) → when t (end stop) (node (i + 1)) ≡ end e → N .leafIn e ≡ true
+      by : (t : Bool) → cond t (end stop) (node (i + 1)) ≡ end e → N .leafIn e ≡ true
       by true q = let z : stop ≡ e = cc in rw z at stops
       by false q = no-node e (i + 1) (sym q)
 
@@ -100,7 +99,7 @@ module _ {E : Type 0} (plane : ℕ → ℕ) (front : ℕ → E) (stop : E) (N : 
   nodes-from (suc k) i h l = rw (reads i h) (by (λ j. nodes-from k (i + 1) j (omega arith)) (eqb (i + 1) n) refl)
     where
       by : (i + 1 < n → length (nodesBelow N k (i + 1)) + (i + 1) ≡ n) → (t : Bool) → eqb (i + 1) n ≡ t
-          → suc (length (childNodes N (λ m. nodesBelow N k m) (when t (end stop) (node (i + 1))))) + i ≡ n
+          → suc (length (childNodes N (λ m. nodesBelow N k m) (cond t (end stop) (node (i + 1))))) + i ≡ n
       by again true e = let z = eqb-true (i + 1) n e in omega arith
       by again false e =
           let d = eqb-false (i + 1) n e in
