@@ -10,13 +10,13 @@ use lib.Ieee.{Float, binary32, add}
 use Rattle.float.specs.Whole.{minimum, maximum, times16}
 use Rattle.math.specs.Vector.{dot}
 use Rattle.math.specs.declared.Vector3.{Vector3}
-use Rattle.format.specs.Answer.{Answer, answer, refused, thenAnswer}
+use Rattle.format.specs.Answer.{Answer, answer, refused, thenAnswer, onRefusal}
 use Rattle.format.specs.Section.{recordCount}
 use Rattle.format.specs.declared.section.BspData.{BspData}
 use Rattle.format.specs.declared.section.BspFileSectionId.the-variants.{EdgeList}
 use Rattle.records.specs.Texinfo.{texinfoOf}
 use Rattle.records.specs.declared.texinfo.BspTexInfo.{BspTexInfo}
-use Rattle.faces.specs.Extents.{indexed, cornerOf, unbounded, widened, spanOver, spanOf, textureMin, extent, surfaceIn, surfaceOf}
+use Rattle.faces.specs.Extents.{cornerOf, unbounded, widened, spanOver, spanOf, textureMin, extent, surfaceIn, surfaceOf}
 use Rattle.faces.specs.declared.face.BspFace.{BspFace}
 use Rattle.faces.specs.declared.extents.Span.{Span}
 use Rattle.faces.specs.declared.extents.Surface.{Surface}
@@ -69,7 +69,7 @@ module _ (lesser greater : Float → Float → Float) where
 
   unfoldable pub surfaceOfBy : List ℕ → BspData → BspFace → Answer Surface
   surfaceOfBy s m f =
-      indexed (texinfoOf s m (f .«texinfo_id»)) (λ info.
+      onRefusal (refused 23) (texinfoOf s m (f .«texinfo_id»)) (λ info.
       thenAnswer (spanOfBy s m info (f .«edge_id») (f .«edge_count»)) (λ w.
       answer (surfaceIn w (info .special))))
 
@@ -117,7 +117,7 @@ module _ (lesser greater : Float → Float → Float)
   any-zero s m f = by (texinfoOf s m (f .«texinfo_id»))
     where
       by : (x : Answer BspTexInfo)
-          → indexed x (λ info. thenAnswer (spanOfBy lesser greater s m info (f .«edge_id») (f .«edge_count»)) (λ w. answer (surfaceIn w (info .special))))
-          ≡ indexed x (λ info. thenAnswer (spanOf s m info (f .«edge_id») (f .«edge_count»)) (λ w. answer (surfaceIn w (info .special))))
+          → onRefusal (refused 23) x (λ info. thenAnswer (spanOfBy lesser greater s m info (f .«edge_id») (f .«edge_count»)) (λ w. answer (surfaceIn w (info .special))))
+          ≡ onRefusal (refused 23) x (λ info. thenAnswer (spanOf s m info (f .«edge_id») (f .«edge_count»)) (λ w. answer (surfaceIn w (info .special))))
       by (answer info) = surfaces (info .special) _ _ (of-alike s m info (f .«edge_id») (f .«edge_count»))
       by (refused n) = refl

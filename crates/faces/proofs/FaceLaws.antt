@@ -7,7 +7,7 @@ use mathlib.Core.Bool.{Bool, true, false, cond}
 use mathlib.Core.List.{List}
 use native.Mathlib.Omega.{arith}
 use lib.Dec.{ltb}
-use Rattle.format.specs.Answer.{Answer, answer, refused, thenAnswer}
+use Rattle.format.specs.Answer.{Answer, answer, refused, thenAnswer, onRefusal}
 use Rattle.format.specs.Field.{indexAt}
 use Rattle.format.specs.Section.{recordCount}
 use Rattle.format.specs.declared.section.BspData.{BspData}
@@ -20,7 +20,7 @@ use Rattle.records.specs.Number.{number16At, countAt}
 use Rattle.records.proofs.Readable as Readable
 use Rattle.records.proofs.Agree.{Agree, agree-self, agree-then, agree-after, agree-number16}
 use Rattle.faces.specs.Face.{sideAt, faceAt, faceEndAt, fileFaceOf}
-use Rattle.faces.specs.Extents.{indexed, vertexOn, cornerOf, widened, unbounded, spanOver, spanOf, surfaceIn, surfaceOf, faceOf}
+use Rattle.faces.specs.Extents.{vertexOn, cornerOf, widened, unbounded, spanOver, spanOf, surfaceIn, surfaceOf, faceOf}
 use Rattle.faces.specs.declared.extents.Span.{Span}
 use Rattle.faces.specs.declared.face.BspFace.{BspFace}
 
@@ -57,9 +57,9 @@ only-answer v n e = let z : _≡_ {A = ℕ} 0 1 = cc in absurd (omega arith)
 only-refused : {A : Type 0} → Only23 {A = A} (refused 23)
 only-refused n e = let z : _≡_ {A = ℕ} 23 n = cc in omega (arith, z)
 
-only-indexed : {A B : Type 0} (a : Answer A) (k : A → Answer B) → ((v : A) → Only23 (k v)) → Only23 (indexed a k)
-only-indexed (answer v) k h = h v
-only-indexed (refused n) k h = only-refused
+only-on-refusal : {A B : Type 0} (a : Answer A) (k : A → Answer B) → ((v : A) → Only23 (k v)) → Only23 (onRefusal (refused 23) a k)
+only-on-refusal (answer v) k h = h v
+only-on-refusal (refused n) k h = only-refused
 
 only-then : {A B : Type 0} (a : Answer A) (k : A → Answer B) → Only23 a → ((v : A) → Only23 (k v)) → Only23 (thenAnswer a k)
 only-then (answer v) k f h = h v
@@ -73,9 +73,9 @@ module _ (s : List ℕ) (m : BspData) where
   only-corner : (i : ℕ) → Only23 (cornerOf s m i)
   unfolding cornerOf
   only-corner i =
-      only-indexed (edgelistOf s m i) _ (λ entry.
-      only-indexed (edgeOf s m (entry .index)) _ (λ edge.
-      only-indexed (vertexOf s m (vertexOn (entry .direction) edge)) _ (λ v. only-answer v)))
+      only-on-refusal (edgelistOf s m i) _ (λ entry.
+      only-on-refusal (edgeOf s m (entry .index)) _ (λ edge.
+      only-on-refusal (vertexOf s m (vertexOn (entry .direction) edge)) _ (λ v. only-answer v)))
 
   only-over : (info : BspTexInfo) (n i : ℕ) (w : Span) → Only23 (spanOver s m info n i w)
   unfolding spanOver
@@ -90,5 +90,5 @@ module _ (s : List ℕ) (m : BspData) where
   pub surface-refuses : (f : BspFace) (n : ℕ) → surfaceOf s m f ≡ refused n → n ≡ 23
   unfolding surfaceOf
   surface-refuses f =
-      only-indexed (texinfoOf s m (f .«texinfo_id»)) _ (λ info.
+      only-on-refusal (texinfoOf s m (f .«texinfo_id»)) _ (λ info.
       only-then (spanOf s m info (f .«edge_id») (f .«edge_count»)) _ (only-span info (f .«edge_id») (f .«edge_count»)) (λ w. only-answer (surfaceIn w (info .special))))

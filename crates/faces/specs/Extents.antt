@@ -9,7 +9,7 @@ use lib.Ieee.{Float, binary32, ofBits, add, sub, div, toSigned}
 use Rattle.float.specs.Whole.{minimum, maximum, floorOf, ceilOf, times16}
 use Rattle.math.specs.Vector.{dot}
 use Rattle.math.specs.declared.Vector3.{Vector3}
-use Rattle.format.specs.Answer.{Answer, answer, refused, thenAnswer}
+use Rattle.format.specs.Answer.{Answer, answer, refused, thenAnswer, onRefusal}
 use Rattle.format.specs.Refusal.{numberOf}
 use Rattle.format.specs.Section.{recordCount}
 use Rattle.format.specs.declared.section.BspData.{BspData}
@@ -30,22 +30,17 @@ use Rattle.faces.specs.declared.extents.SpanAnswer.the-variants as SpanA
 use Rattle.faces.specs.declared.extents.SurfaceAnswer.{SurfaceAnswer}
 use Rattle.faces.specs.declared.extents.SurfaceAnswer.the-variants as SurfaceA
 
--- a record that an index leads to: where there is none, 23
-abbrev pub indexed : {A B : Type 0} → Answer A → (A → Answer B) → Answer B
-indexed (answer v) k = k v
-indexed (refused n) k = refused 23
-
 -- `vertex_ids[direction as usize]`
 abbrev pub vertexOn : BspEdgeDirection → BspEdge → ℕ
 vertexOn Forward e = e .«vertex_id_0»
 vertexOn Backward e = e .«vertex_id_1»
 
--- the vertex of an entry of the list of edges
+-- the vertex of an entry of the list of edges; 23 where an index leads to no record
 unfoldable pub cornerOf : List ℕ → BspData → ℕ → Answer Vector3
 cornerOf s m i =
-    indexed (edgelistOf s m i) (λ entry.
-    indexed (edgeOf s m (entry .index)) (λ edge.
-    indexed (vertexOf s m (vertexOn (entry .direction) edge)) (λ vertex.
+    onRefusal (refused 23) (edgelistOf s m i) (λ entry.
+    onRefusal (refused 23) (edgeOf s m (entry .index)) (λ edge.
+    onRefusal (refused 23) (vertexOf s m (vertexOn (entry .direction) edge)) (λ vertex.
     answer vertex)))
 
 -- INFINITY and NEG_INFINITY, before the first vertex
@@ -109,7 +104,7 @@ surfaceIn w special = record {
 -- what loading works out for a face
 unfoldable pub surfaceOf : List ℕ → BspData → BspFace → Answer Surface
 surfaceOf s m f =
-    indexed (texinfoOf s m (f .«texinfo_id»)) (λ info.
+    onRefusal (refused 23) (texinfoOf s m (f .«texinfo_id»)) (λ info.
     thenAnswer (spanOf s m info (f .«edge_id») (f .«edge_count»)) (λ w.
     answer (surfaceIn w (info .special))))
 

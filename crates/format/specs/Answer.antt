@@ -14,3 +14,8 @@ mapped f (refused n) = refused n
 abbrev pub thenAnswer : {A B : Type 0} → Answer A → (A → Answer B) → Answer B
 thenAnswer (answer a) k = k a
 thenAnswer (refused n) k = refused n
+
+-- what is made of a value, and this in place of any refusal
+abbrev pub onRefusal : {A B : Type 0} → B → Answer A → (A → B) → B
+onRefusal other (answer a) k = k a
+onRefusal other (refused n) k = other

@@ -7,7 +7,7 @@ use Rattle.format.specs.Step.{Step, refused, andThen}
 use Rattle.format.specs.Refusal.{numberOf}
 use Rattle.format.specs.declared.refusal.Refusal.{Refusal}
 use Rattle.format.proofs.Chain.{go, no}
-use Rattle.format.specs.Answer.{Answer}
+use Rattle.format.specs.Answer.{Answer, onRefusal}
 use Rattle.faces.specs.Extents.{surfaceAnswer}
 use Rattle.faces.specs.Face.{faceStep}
 use Rattle.faces.specs.declared.extents.Surface.{Surface}
@@ -24,7 +24,6 @@ use Rattle.records.specs.declared.node.ReadRenderNode.the-variants as Ren
 use Rattle.records.specs.declared.texinfo.BspTexInfo.{BspTexInfo}
 use Rattle.records.specs.declared.texinfo.ReadTexInfo.{ReadTexInfo}
 use Rattle.records.specs.declared.texinfo.ReadTexInfo.the-variants as Tex
-use Rattle.load.specs.Extents.{withAnswer}
 
 module _ {B : Type 0} (k : BspFace → ℕ → Step B) where
   pub face-ok : (r : ReadFace) (x : Step BspFace) (v : BspFace) (p : ℕ) (y : Step B) → faceStep r ≡ x → r ≡ Fac.Value v p → y ≡ k v p → y ≡ andThen x k
@@ -35,10 +34,10 @@ module _ {B : Type 0} (k : BspFace → ℕ → Step B) where
 
 -- what was worked out for a face
 module _ {B : Type 0} (k : Surface → Step B) where
-  pub surface-ok : (r : SurfaceAnswer) (x : Answer Surface) (v : Surface) (y : Step B) → surfaceAnswer r ≡ x → r ≡ Sur.Value v → y ≡ k v → y ≡ withAnswer x k
+  pub surface-ok : (r : SurfaceAnswer) (x : Answer Surface) (v : Surface) (y : Step B) → surfaceAnswer r ≡ x → r ≡ Sur.Value v → y ≡ k v → y ≡ onRefusal (refused 11) x k
   surface-ok r x v y e q h = rw (sym e ∙ ap surfaceAnswer q) h
 
-  pub surface-no : (r : SurfaceAnswer) (x : Answer Surface) (n : Refusal) → surfaceAnswer r ≡ x → r ≡ Sur.Refused n → refused 11 ≡ withAnswer x k
+  pub surface-no : (r : SurfaceAnswer) (x : Answer Surface) (n : Refusal) → surfaceAnswer r ≡ x → r ≡ Sur.Refused n → refused 11 ≡ onRefusal (refused 11) x k
   surface-no r x n e q = rw (sym e ∙ ap surfaceAnswer q)
 
 module _ {B : Type 0} (k : BspRenderNode → ℕ → Step B) where

@@ -11,7 +11,7 @@ use borrow.Author.Tests.{eqb-true, eqb-false, leb-true, lt-leb}
 use lib.Dec.{eqb, leb, ltb}
 use lib.ListN.{length}
 use Rattle.format.specs.Answer as Answer
-use Rattle.format.specs.Answer.{Answer, answer}
+use Rattle.format.specs.Answer.{Answer, answer, onRefusal}
 use Rattle.format.specs.Field.{u16At}
 use Rattle.format.specs.Section.{elementSize, withinLimit, recordCount, sectionOf}
 use Rattle.format.specs.Step.{Step, ok, refused}
@@ -38,7 +38,7 @@ use Rattle.records.proofs.Readable.{answered}
 use Rattle.sections.specs.Row.{section, blob}
 use Rattle.sections.proofs.Bounded.{Bounded, Stands, stands, then, of-ok, of-refused, of-when, not-ok, at-position, again, bounded-u16}
 use Rattle.load.specs.Entities.{textOf, entities}
-use Rattle.load.specs.Extents.{isBad, withAnswer, extentsAt, faceExtents}
+use Rattle.load.specs.Extents.{isBad, extentsAt, faceExtents}
 use Rattle.load.specs.Load.{loadOf}
 use Rattle.load.specs.Tested.{textured, texinfos, faces, outside, referencesAt, leafReferences}
 use Rattle.load.proofs.Limits.{left, each-limit}
@@ -145,7 +145,7 @@ unfolding extentsAt
 surfaced n k s m at u p e = let a = first (faceAt n k s at) _ u p e in by (a .0) (a .1 .0) (a .1 .1 .0) (surfaceOf s m (a .0)) refl (a .1 .1 .1)
   where
     by : (f : BspFace) (q : ℕ) → faceAt n k s at ≡ ok f q → (x : Answer Surface) → surfaceOf s m f ≡ x
-        → withAnswer x (λ x. cond (isBad (x .special) (x .extents .s)) (refused 12) (cond (isBad (x .special) (x .extents .t)) (refused 12) (here q))) ≡ here p
+        → onRefusal (refused 11) x (λ x. cond (isBad (x .special) (x .extents .s)) (refused 12) (cond (isBad (x .special) (x .extents .t)) (refused 12) (here q))) ≡ here p
         → (f : BspFace) × ((faceAt n k s at ≡ ok f p) × Surfaced s m f)
     by f q g (Answer.answer x) h e =
         let b = left (isBad (x .special) (x .extents .s)) 12 _ p e in

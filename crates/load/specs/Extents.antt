@@ -5,8 +5,7 @@ use mathlib.Core.Bool.{Bool, not, _&&_, cond}
 use mathlib.Core.List.{List}
 use lib.IntN.{ℤ, pos}
 use lib.Signed.{ltZ}
-use Rattle.format.specs.Answer as Answer
-use Rattle.format.specs.Answer.{Answer}
+use Rattle.format.specs.Answer.{onRefusal}
 use Rattle.format.specs.Section.{recordCount}
 use Rattle.format.specs.Step.{Step, ok, refused, andThen}
 use Rattle.format.specs.declared.section.BspData.{BspData}
@@ -19,16 +18,11 @@ use Rattle.sections.specs.Row.{eachRecord}
 unfoldable pub isBad : Bool → ℤ → Bool
 isBad special extent = not special && ltZ (pos 2000) extent
 
--- what was worked out of other records, and what follows; where one of them is not there the Rust panics (11)
-abbrev pub withAnswer : {A B : Type 0} → Answer A → (A → Step B) → Step B
-withAnswer (Answer.answer v) k = k v
-withAnswer (Answer.refused n) k = refused 11
-
--- one face
+-- one face; where a record that it leads to is not there the Rust panics (11)
 unfoldable pub extentsAt : ℕ → ℕ → BspData → List ℕ → ℕ → Step (Unit {0})
 extentsAt planes infos m s at =
     andThen (faceAt planes infos s at) (λ face next.
-    withAnswer (surfaceOf s m face) (λ x.
+    onRefusal (refused 11) (surfaceOf s m face) (λ x.
     cond (isBad (x .special) (x .extents .s)) (refused 12)
     (cond (isBad (x .special) (x .extents .t)) (refused 12)
     (ok tt next))))

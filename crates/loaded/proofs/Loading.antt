@@ -11,7 +11,7 @@ use lib.IntN.{pos, negsuc}
 use lib.Signed.{ltZ}
 use mir.Syntax.{w16, w32}
 use Rattle.format.specs.Answer as Ans
-use Rattle.format.specs.Answer.{Answer, answer}
+use Rattle.format.specs.Answer.{Answer, answer, onRefusal}
 use Rattle.format.specs.Step.{Step, ok, refused, andThen}
 use Rattle.format.specs.Field.{u8At, u16At, u32At, i16At, i32At, f32At, indexAt}
 use Rattle.format.specs.Code.{negatedContents}
@@ -38,7 +38,7 @@ use Rattle.sections.specs.Row.{records, section, blob}
 use Rattle.sections.specs.Table.{isMultiple, isVersion, exceeds, sectionAt, threeSectionsAt, tableEndAt, tableAt, headerAt, limitsFromLeaves, limits}
 use Rattle.utf8.specs.Unicode.{isUtf8}
 use Rattle.load.specs.Entities.{textOf, entities}
-use Rattle.load.specs.Extents.{isBad, withAnswer, extentsAt, faceExtents}
+use Rattle.load.specs.Extents.{isBad, extentsAt, faceExtents}
 use Rattle.load.specs.Tested.{outside, textured, texinfos, faces, referencesAt, leafReferences}
 use Rattle.load.specs.Load.{fromExtents, fromEdges, fromCollisionNodes, fromTexinfo, fromVertices, fromPlanes, loadAt, outcome}
 use Rattle.records.specs.declared.number.OptionalOffset.{OptionalOffset}
@@ -269,9 +269,9 @@ module _ (s : List ℕ) where
 
   module _ (m : BspData) where
     -- what is worked out of other records is refused with 11, whatever refused it
-    with-answer : {A B : Type 0} (x : Answer A) (k : A → Step B) → ((a : A) → Known (k a)) → Known (withAnswer x k)
-    with-answer (answer a) k g = g a
-    with-answer (Ans.refused n) k g = says 11 eleven
+    on-refusal : {A B : Type 0} (x : Answer A) (k : A → Step B) → ((a : A) → Known (k a)) → Known (onRefusal (refused 11) x k)
+    on-refusal (answer a) k g = g a
+    on-refusal (Ans.refused n) k g = says 11 eleven
 
     abbrev planes : ℕ
     planes = recordCount Planes (m .planes)
@@ -282,7 +282,7 @@ module _ (s : List ℕ) where
     extents : Known (faceExtents s m)
     unfolding faceExtents extentsAt
     extents =
-        rows (extentsAt planes infos m) (λ at. then (faceAt planes infos s at) _ (face planes infos at) (λ f p. with-answer (surfaceOf s m f) _ (λ x.
+        rows (extentsAt planes infos m) (λ at. then (faceAt planes infos s at) _ (face planes infos at) (λ f p. on-refusal (surfaceOf s m f) _ (λ x.
         test (isBad (x .special) (x .extents .s)) _ _ (says 12 (omega arith, omega arith)) (test (isBad (x .special) (x .extents .t)) _ _ (says 12 (omega arith, omega arith)) (gives _ _))))) _ _
 
     abbrev leaves : ℕ

@@ -8,7 +8,7 @@ use native.Mathlib.Omega.{arith}
 use borrow.Author.Tests.{le-leb, lt-leb, ltb-true, ltb-false}
 use lib.Dec.{ltb, leb}
 use lib.ListN.{length}
-use Rattle.format.specs.Answer.{Answer, answer, refused, mapped}
+use Rattle.format.specs.Answer.{Answer, answer, refused, mapped, thenAnswer}
 use Rattle.format.specs.Step.{Step}
 use Rattle.format.specs.Section.{elementSize, withinLimit, recordCount, place}
 use Rattle.format.specs.declared.section.BspData.{BspData}
@@ -24,7 +24,7 @@ use Rattle.records.specs.Node.{collisionNodeAt, renderNodeAt}
 use Rattle.records.specs.Leaf.{leafAt}
 use Rattle.nodes.specs.Tables.{End, contents, leaf, nothing, renderNode, clipNode, leafIn, leafContents, nodesOf, tableOf, leafTable}
 use Rattle.nodes.specs.Fast as Fast
-use Rattle.nodes.specs.Fast.{partOf, tablesOf, placeIn, hereAt, renderNodeHere, clipNodeHere, planeRead, leafContentsHere}
+use Rattle.nodes.specs.Fast.{partOf, tablesOf, placeIn, renderNodeHere, clipNodeHere, planeRead, leafContentsHere}
 use Rattle.nodes.specs.declared.table.HullTable.{HullTable}
 use Rattle.nodes.specs.declared.table.HullTable.the-variants.{Render, Clip, Box}
 
@@ -37,43 +37,39 @@ module _ (id : BspFileSectionId) (z : BspFileSection) (limit n i : ℕ) (limited
   by-tests false true p q =
       rw (limited (z .size / elementSize id)) (simp (p, q, lt-leb (z .size / elementSize id) limit (ltb-true limit (z .size / elementSize id) q), le-leb 0 i (omega arith)))
   by-tests false false p q =
-      rw (limited (z .size / elementSize id)) (simp (p, q, le-leb (z .size / elementSize id) limit (ltb-false limit (z .size / elementSize id) q)) (same (leb (z .offset + i * elementSize id + elementSize id) n)))
-    where
-      same : (c : Bool) → cond c (answer (z .offset + i * elementSize id)) (refused 23) ≡ cond c (answer (z .offset + i * elementSize id)) (refused 23)
-      same true = refl
-      same false = refl
+      rw (limited (z .size / elementSize id)) (simp (p, q, le-leb (z .size / elementSize id) limit (ltb-false limit (z .size / elementSize id) q)) refl)
 
   pub part-place : place id z n i ≡ placeIn (partOf z (elementSize id) limit) (elementSize id) n i
   part-place = by-tests (leb (z .size / elementSize id) i) (ltb limit (z .size / elementSize id)) refl refl
 
 -- what stands at a place, made into what a walk needs of it
-read-map : {A B : Type 0} (f : A → B) (one : ℕ → Step A) (a : Answer ℕ) → hereAt a (λ p. mapped f (reading (one p))) ≡ mapped f (readAt a one)
+read-map : {A B : Type 0} (f : A → B) (one : ℕ → Step A) (a : Answer ℕ) → thenAnswer a (λ p. mapped f (reading (one p))) ≡ mapped f (readAt a one)
 read-map f one (answer p) = refl
 read-map f one (refused n) = refl
 
-read-as-is : {A : Type 0} (one : ℕ → Step A) (a : Answer ℕ) → hereAt a (λ p. reading (one p)) ≡ readAt a one
+read-as-is : {A : Type 0} (one : ℕ → Step A) (a : Answer ℕ) → thenAnswer a (λ p. reading (one p)) ≡ readAt a one
 read-as-is one (answer p) = refl
 read-as-is one (refused n) = refl
 
 module _ (s : List ℕ) (m : BspData) (i : ℕ) where
-  render-is : hereAt (placeIn (partOf (m .«render_nodes») 24 32767) 24 (length s) i) (renderNodeHere s) ≡ mapped renderNode (recordOf RenderNodes renderNodeAt s m i)
+  render-is : thenAnswer (placeIn (partOf (m .«render_nodes») 24 32767) 24 (length s) i) (renderNodeHere s) ≡ mapped renderNode (recordOf RenderNodes renderNodeAt s m i)
   unfolding renderNodeHere recordOf
   render-is =
       rw (← part-place RenderNodes (m .«render_nodes») 32767 (length s) i (λ k. refl))
       (read-map renderNode (λ p. renderNodeAt s p) (place RenderNodes (m .«render_nodes») (length s) i))
 
-  clip-is : hereAt (placeIn (partOf (m .«collision_nodes») 8 32767) 8 (length s) i) (clipNodeHere s) ≡ mapped clipNode (recordOf CollisionNodes collisionNodeAt s m i)
+  clip-is : thenAnswer (placeIn (partOf (m .«collision_nodes») 8 32767) 8 (length s) i) (clipNodeHere s) ≡ mapped clipNode (recordOf CollisionNodes collisionNodeAt s m i)
   unfolding clipNodeHere recordOf
   clip-is =
       rw (← part-place CollisionNodes (m .«collision_nodes») 32767 (length s) i (λ k. refl))
       (read-map clipNode (λ p. collisionNodeAt s p) (place CollisionNodes (m .«collision_nodes») (length s) i))
 
-  plane-is : hereAt (placeIn (partOf (m .planes) 20 8192) 20 (length s) i) (planeRead s) ≡ recordOf Planes planeAt s m i
+  plane-is : thenAnswer (placeIn (partOf (m .planes) 20 8192) 20 (length s) i) (planeRead s) ≡ recordOf Planes planeAt s m i
   unfolding planeRead recordOf
   plane-is =
       rw (← part-place Planes (m .planes) 8192 (length s) i (λ k. refl)) (read-as-is (λ p. planeAt s p) (place Planes (m .planes) (length s) i))
 
-  leaf-is : hereAt (placeIn (partOf (m .leaves) 28 32767) 28 (length s) i) (leafContentsHere s) ≡ mapped leafContents (recordOf Leaves leafAt s m i)
+  leaf-is : thenAnswer (placeIn (partOf (m .leaves) 28 32767) 28 (length s) i) (leafContentsHere s) ≡ mapped leafContents (recordOf Leaves leafAt s m i)
   unfolding leafContentsHere recordOf
   leaf-is =
       rw (← part-place Leaves (m .leaves) 32767 (length s) i (λ k. refl))

@@ -22,7 +22,7 @@ use Rattle.math.specs.declared.HyperplaneSide.the-variants.{Positive, Negative}
 use Rattle.walk.specs.Table.{Node, childOn}
 use Rattle.walk.specs.Walk.{Entered, withNode, withPlane, enter}
 use Rattle.nodes.specs.Tables.{End}
-use Rattle.nodes.specs.Fast.{Within, isRender, isBox, fileTable, wordsAnswer, nodeOf, childOf, wordOn, nodeHere, nodeSize, ReadsNode, planeHere, planeFor, planeOfIndex, planeIn, sideFrom, sidedAnswer, twoDists, distsFrom, distsAnswer, table, hereAt, placeIn, planeRead, renderNodeHere, clipNodeHere, nodeIn}
+use Rattle.nodes.specs.Fast.{Within, isRender, isBox, fileTable, wordsAnswer, nodeOf, childOf, wordOn, nodeHere, nodeSize, ReadsNode, planeHere, planeFor, planeOfIndex, planeIn, sideFrom, sidedAnswer, twoDists, distsFrom, distsAnswer, table, placeIn, planeRead, renderNodeHere, clipNodeHere, nodeIn}
 use Rattle.nodes.specs.Fast as Fast
 use Rattle.nodes.specs.Walks.{madeFrom, madeWith, madeAt, MadeIn, childToward, nodeAndDists, wordAt, areWhole, allBytes, Read}
 use Rattle.nodes.specs.declared.table.HullTable.{HullTable}
@@ -165,9 +165,9 @@ module _ (s : List ℕ) (t : Tables) (e : areWhole t (length s) ≡ true) where
   at-place q size j f g k =
       sym (inside q size (length s) j k (omega arith) (omega (arith, record-inside s q size g j k)))
 
-  plane-by : (j : ℕ) → j < t .planes .count → hereAt (placeIn (t .planes) 20 (length s) j) (planeRead s) ≡ answer (planeHere s (t .planes .at + j * 20))
+  plane-by : (j : ℕ) → j < t .planes .count → thenAnswer (placeIn (t .planes) 20 (length s) j) (planeRead s) ≡ answer (planeHere s (t .planes .at + j * 20))
   plane-by j k =
-      ap (λ (x : Answer ℕ). hereAt x (planeRead s)) (at-place (t .planes) 20 j (whole-planes .0) (whole-planes .1) k)
+      ap (λ (x : Answer ℕ). thenAnswer x (planeRead s)) (at-place (t .planes) 20 j (whole-planes .0) (whole-planes .1) k)
       ∙ plane-is s (t .planes .at + j * 20) (omega (arith, record-inside s (t .planes) 20 (whole-planes .1) j k, whole-planes .1))
 
   plane-of : (tab : HullTable) → isBox tab ≡ false → (j : ℕ) → j < t .planes .count → planeFor tab s t j ≡ answer (planeHere s (t .planes .at + j * 20))
@@ -190,8 +190,8 @@ module _ (s : List ℕ) (t : Tables) (e : areWhole t (length s) ≡ true) where
 
   module _ (i : ℕ) (l : i < t .nodes .count) where
     node-by : (tab : HullTable) → isBox tab ≡ false → t .nodes .at + t .nodes .count * nodeSize (isRender tab) ≤ length s → nodeIn tab s (t .nodes) i ≡ nodeHere (isRender tab) s (t .nodes .at + i * nodeSize (isRender tab))
-    node-by Render b g = ap (λ (x : Answer ℕ). hereAt x (renderNodeHere s)) (at-place (t .nodes) 24 i (whole-nodes .0) g l)
-    node-by Clip b g = ap (λ (x : Answer ℕ). hereAt x (clipNodeHere s)) (at-place (t .nodes) 8 i (whole-nodes .0) g l)
+    node-by Render b g = ap (λ (x : Answer ℕ). thenAnswer x (renderNodeHere s)) (at-place (t .nodes) 24 i (whole-nodes .0) g l)
+    node-by Clip b g = ap (λ (x : Answer ℕ). thenAnswer x (clipNodeHere s)) (at-place (t .nodes) 8 i (whole-nodes .0) g l)
     node-by Box b g = let z : _≡_ {A = ℕ} 0 1 = cc in absurd (omega arith)
 
     node-is : Fast.nodeAt s t i ≡ nodeHere render s (t .nodes .at + i * nodeSize render)

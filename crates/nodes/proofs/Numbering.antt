@@ -10,13 +10,13 @@ use lib.Dec.{leb}
 use lib.Ieee.{Float}
 use lib.ListN.{length, getD, take, drop, length-take, length-drop}
 use lib.Seq.{getD-take, getD-drop, take-all}
-use Rattle.format.specs.Answer.{Answer, answer, refused}
+use Rattle.format.specs.Answer.{Answer, answer, refused, thenAnswer}
 use Rattle.format.specs.declared.section.BspData.{BspData}
 use Rattle.format.specs.declared.section.BspFileSection.{BspFileSection}
 use Rattle.math.specs.Plane as Pl
 use Rattle.math.specs.declared.Vector3.{Vector3}
 use Rattle.math.specs.declared.Hyperplane.{Hyperplane}
-use Rattle.nodes.specs.Fast.{Within, along, sideFrom, partOf, placeIn, hereAt, planeHere, planeRead, planeOfIndex, tablesOf}
+use Rattle.nodes.specs.Fast.{Within, along, sideFrom, partOf, placeIn, planeHere, planeRead, planeOfIndex, tablesOf}
 use Rattle.nodes.specs.Numbered.{allowed, readable, planeOf, planeNumbered, sideOf, pickedBy}
 use Rattle.nodes.specs.declared.table.Part.{Part}
 use Rattle.nodes.specs.declared.table.HullTable.the-variants.{Clip}
@@ -133,14 +133,14 @@ module _ (s : List ℕ) (z : BspFileSection) (i : ℕ) where
     read g = simp (lt-leb c i h, le-leb (i * 20 + 20) (length bs) g)
 
   by-tests : (a b d : Bool) → leb c i ≡ a → leb m i ≡ b → leb (i * 20 + 20) (length bs) ≡ d
-      → planeOf bs c i ≡ hereAt (placeIn p 20 (length s) i) (planeRead s)
+      → planeOf bs c i ≡ thenAnswer (placeIn p 20 (length s) i) (planeRead s)
   by-tests true b d q r t =
       let h = leb-true c i q in
-      past h ∙ ap (λ (x : Answer ℕ). hereAt x (planeRead s)) (none p 20 (length s) i h)
+      past h ∙ ap (λ (x : Answer ℕ). thenAnswer x (planeRead s)) (none p 20 (length s) i h)
   by-tests false true d q r t =
       let h = leb-false c i q in
       let g = leb-true m i r in
-      unread h (omega (arith, g, readable-length s z)) ∙ ap (λ (x : Answer ℕ). hereAt x (planeRead s)) (unreadable p 20 (length s) i h g)
+      unread h (omega (arith, g, readable-length s z)) ∙ ap (λ (x : Answer ℕ). thenAnswer x (planeRead s)) (unreadable p 20 (length s) i h g)
   by-tests false false true q r t =
       let h = leb-false c i q in
       let g = leb-false m i r in
@@ -148,14 +148,14 @@ module _ (s : List ℕ) (z : BspFileSection) (i : ℕ) where
       let o : z .offset ≤ length s = omega (arith, l, readable-length s z) in
       let n : z .offset + i * 20 + 20 ≤ length s = omega (arith, l, readable-length s z) in
       read h l ∙ ap answer (plane-within bs s (z .offset) (same-bytes o) (i * 20) l)
-      ∙ sym (plane-is s (z .offset + i * 20) n) ∙ ap (λ (x : Answer ℕ). hereAt x (planeRead s)) (inside p 20 (length s) i h g n)
+      ∙ sym (plane-is s (z .offset + i * 20) n) ∙ ap (λ (x : Answer ℕ). thenAnswer x (planeRead s)) (inside p 20 (length s) i h g n)
   by-tests false false false q r t =
       let h = leb-false c i q in
       let g = leb-false m i r in
       let l = leb-false (i * 20 + 20) (length bs) t in
-      unread h l ∙ ap (λ (x : Answer ℕ). hereAt x (planeRead s)) (outside p 20 (length s) i h g (omega (arith, l, g, readable-length s z)))
+      unread h l ∙ ap (λ (x : Answer ℕ). thenAnswer x (planeRead s)) (outside p 20 (length s) i h g (omega (arith, l, g, readable-length s z)))
 
-  plane-there : planeOf bs c i ≡ hereAt (placeIn p 20 (length s) i) (planeRead s)
+  plane-there : planeOf bs c i ≡ thenAnswer (placeIn p 20 (length s) i) (planeRead s)
   plane-there = by-tests (leb c i) (leb m i) (leb (i * 20 + 20) (length bs)) refl refl refl
 
 pub numbered-is : (s : List ℕ) (m : BspData) (mins maxs : Vector3) → planeOf (readable s (m .planes)) (m .planes .size / 20) ≡ planeOfIndex s (tablesOf m Clip mins maxs)

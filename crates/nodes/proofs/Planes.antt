@@ -13,7 +13,7 @@ use lib.ListN.{length, getD}
 use mir.Syntax.{w32}
 use mir.Val.{toZ}
 use Rattle.format.specs.Answer as Ans
-use Rattle.format.specs.Answer.{answer}
+use Rattle.format.specs.Answer.{answer, thenAnswer}
 use Rattle.format.specs.Step.{ok, refused}
 use Rattle.math.specs.Plane as Pl
 use Rattle.math.specs.declared.Vector3.{Vector3}
@@ -25,7 +25,7 @@ use Rattle.format.specs.Section.{placeAnswer}
 use Rattle.format.specs.declared.refusal.Refusal.{Refusal}
 use Rattle.format.specs.declared.section.Place.{Place}
 use Rattle.format.specs.declared.section.Place.the-variants.{At, Refused}
-use Rattle.nodes.specs.Fast.{isBox, u32, f32, along, pointOf, normal, placeIn, hereAt, planeWith, planeHere, planeRead, planeFor, planeOfIndex, planeIn, boxPlane, twoDists}
+use Rattle.nodes.specs.Fast.{isBox, u32, f32, along, pointOf, normal, placeIn, planeWith, planeHere, planeRead, planeFor, planeOfIndex, planeIn, boxPlane, twoDists}
 use Rattle.nodes.specs.declared.table.HullTable.{HullTable}
 use Rattle.nodes.specs.declared.table.HullTable.the-variants.{Render, Clip, Box}
 use Rattle.nodes.specs.declared.table.Tables.{Tables}
@@ -139,7 +139,7 @@ module _ (s : List ℕ) (t : Tables) (i : ℕ) where
     of-box Clip e = let z : _≡_ {A = ℕ} 0 1 = cc in absurd (omega arith)
     of-box Box e = refl
 
-    of-file : (tab : HullTable) → isBox tab ≡ false → planeFor tab s t i ≡ hereAt (placeIn (t .planes) 20 (length s) i) (planeRead s)
+    of-file : (tab : HullTable) → isBox tab ≡ false → planeFor tab s t i ≡ thenAnswer (placeIn (t .planes) 20 (length s) i) (planeRead s)
     of-file Render e = refl
     of-file Clip e = refl
     of-file Box e = let z : _≡_ {A = ℕ} 0 1 = cc in absurd (omega arith)
@@ -148,13 +148,13 @@ module _ (s : List ℕ) (t : Tables) (i : ℕ) where
     unfolding planeIn planeOfIndex
     box-plane e = simp (lt-ltb i (t .planes .count) h) (of-box (t .table) (sym is-b ∙ e))
 
-    file-plane : b ≡ false → planeIn s t i ≡ hereAt (placeIn (t .planes) 20 (length s) i) (planeRead s)
+    file-plane : b ≡ false → planeIn s t i ≡ thenAnswer (placeIn (t .planes) 20 (length s) i) (planeRead s)
     unfolding planeIn planeOfIndex
     file-plane e = simp (lt-ltb i (t .planes .count) h) (of-file (t .table) (sym is-b ∙ e))
 
     module _ (e : b ≡ false) (r : Place) (is-r : placeAnswer r ≡ placeIn (t .planes) 20 (length s) i) where
-      there : (x : Place) → r ≡ x → planeIn s t i ≡ hereAt (placeAnswer x) (planeRead s)
-      there x q = file-plane e ∙ ap (λ a. hereAt a (planeRead s)) (sym is-r ∙ ap placeAnswer q)
+      there : (x : Place) → r ≡ x → planeIn s t i ≡ thenAnswer (placeAnswer x) (planeRead s)
+      there x q = file-plane e ∙ ap (λ a. thenAnswer a (planeRead s)) (sym is-r ∙ ap placeAnswer q)
 
       pub plane-at : (at : ℕ) → r ≡ At at → planeIn s t i ≡ answer (planeHere s at)
       plane-at at q = there (At at) q ∙ plane-is s at (within (t .planes) 20 (length s) i r at is-r q)

@@ -8,7 +8,7 @@ use native.Mathlib.Omega.{arith}
 use borrow.Author.Tests.{lt-ltb, le-ltb}
 use lib.ListN.{length}
 use Rattle.format.specs.Answer as Ans
-use Rattle.format.specs.Answer.{Answer, answer}
+use Rattle.format.specs.Answer.{Answer, answer, thenAnswer}
 use Rattle.format.specs.Refusal.{numberOf}
 use Rattle.format.specs.Code.{contentsOf}
 use Rattle.format.specs.Section.{placeAnswer}
@@ -19,7 +19,7 @@ use Rattle.format.specs.declared.section.Place.{Place}
 use Rattle.format.specs.declared.section.Place.the-variants.{At, Refused}
 use Rattle.walk.specs.Walk.{meet}
 use Rattle.nodes.specs.Tables.{nth}
-use Rattle.nodes.specs.Fast.{isRender, isBox, fileTable, placeIn, hereAt, coded, wordsAnswer, renderNodeHere, clipNodeHere, boxNode, nodeIn, nodeAt, leafContentsHere, endOf, table, contentsMet}
+use Rattle.nodes.specs.Fast.{isRender, isBox, fileTable, placeIn, coded, wordsAnswer, renderNodeHere, clipNodeHere, boxNode, nodeIn, nodeAt, leafContentsHere, endOf, table, contentsMet}
 use Rattle.nodes.specs.declared.table.HullTable.{HullTable}
 use Rattle.nodes.specs.declared.table.HullTable.the-variants.{Render, Clip, Box}
 use Rattle.nodes.specs.declared.table.Part.{Part}
@@ -47,22 +47,22 @@ module _ (s : List ℕ) (p : Part) (i : ℕ) (b : Bool) where
   no-node h = by b
     where
       by : (c : Bool) → Ans.refused 20 ≡ nodeIn (fileTable c) s p i
-      by true = ap (λ x. hereAt x (renderNodeHere s)) (none p 24 (length s) i h)
-      by false = ap (λ x. hereAt x (clipNodeHere s)) (none p 8 (length s) i h)
+      by true = ap (λ x. thenAnswer x (renderNodeHere s)) (none p 24 (length s) i h)
+      by false = ap (λ x. thenAnswer x (clipNodeHere s)) (none p 8 (length s) i h)
 
   module _ (e : b ≡ true) (r : Place) (is-r : placeAnswer r ≡ placeIn p 24 (length s) i) where
     pub render-at : (w : ReadWords) (at : ℕ) → r ≡ At at → wordsAnswer Render w ≡ renderNodeHere s at → wordsAnswer (fileTable b) w ≡ nodeIn (fileTable b) s p i
-    render-at w at q a = rw e (a ∙ sym (ap (λ x. hereAt x (renderNodeHere s)) (sym is-r ∙ ap placeAnswer q)))
+    render-at w at q a = rw e (a ∙ sym (ap (λ x. thenAnswer x (renderNodeHere s)) (sym is-r ∙ ap placeAnswer q)))
 
     pub render-not : (x : Refusal) → r ≡ Refused x → Ans.refused (numberOf x) ≡ nodeIn (fileTable b) s p i
-    render-not x q = rw e (sym (ap (λ y. hereAt y (renderNodeHere s)) (sym is-r ∙ ap placeAnswer q)))
+    render-not x q = rw e (sym (ap (λ y. thenAnswer y (renderNodeHere s)) (sym is-r ∙ ap placeAnswer q)))
 
   module _ (e : b ≡ false) (r : Place) (is-r : placeAnswer r ≡ placeIn p 8 (length s) i) where
     pub clip-at : (w : ReadWords) (at : ℕ) → r ≡ At at → wordsAnswer Clip w ≡ clipNodeHere s at → wordsAnswer (fileTable b) w ≡ nodeIn (fileTable b) s p i
-    clip-at w at q a = rw e (a ∙ sym (ap (λ x. hereAt x (clipNodeHere s)) (sym is-r ∙ ap placeAnswer q)))
+    clip-at w at q a = rw e (a ∙ sym (ap (λ x. thenAnswer x (clipNodeHere s)) (sym is-r ∙ ap placeAnswer q)))
 
     pub clip-not : (x : Refusal) → r ≡ Refused x → Ans.refused (numberOf x) ≡ nodeIn (fileTable b) s p i
-    clip-not x q = rw e (sym (ap (λ y. hereAt y (clipNodeHere s)) (sym is-r ∙ ap placeAnswer q)))
+    clip-not x q = rw e (sym (ap (λ y. thenAnswer y (clipNodeHere s)) (sym is-r ∙ ap placeAnswer q)))
 
 -- of a box or of the file
 module _ (s : List ℕ) (t : Tables) (i : ℕ) (w : ReadWords) (b : Bool) (is-b : b ≡ isBox (t .table)) where
@@ -96,15 +96,15 @@ module _ (s : List ℕ) (t : Tables) (w : ℕ) (b : Bool) (is-b : b ≡ isRender
     no-leaf h = rw is-render (simp (le-ltb (65535 - w) (t .leaves .count) h))
 
     module _ (h : 65535 - w < t .leaves .count) (r : Place) (is-r : placeAnswer r ≡ placeIn (t .leaves) 28 (length s) (65535 - w)) where
-      at-place : hereAt (placeAnswer r) (leafContentsHere s) ≡ contentsMet s t w
+      at-place : thenAnswer (placeAnswer r) (leafContentsHere s) ≡ contentsMet s t w
       unfolding contentsMet meet
       at-place = rw (is-render, is-r) (simp (lt-ltb (65535 - w) (t .leaves .count) h))
 
       pub leaf-at : (at : ℕ) (x : Answer BspLeafContents) → r ≡ At at → x ≡ leafContentsHere s at → x ≡ contentsMet s t w
-      leaf-at at x q a = a ∙ sym (ap (λ y. hereAt (placeAnswer y) (leafContentsHere s)) q) ∙ at-place
+      leaf-at at x q a = a ∙ sym (ap (λ y. thenAnswer (placeAnswer y) (leafContentsHere s)) q) ∙ at-place
 
       pub leaf-not : (x : Refusal) → r ≡ Refused x → Ans.refused (numberOf x) ≡ contentsMet s t w
-      leaf-not x q = sym (ap (λ y. hereAt (placeAnswer y) (leafContentsHere s)) q) ∙ at-place
+      leaf-not x q = sym (ap (λ y. thenAnswer (placeAnswer y) (leafContentsHere s)) q) ∙ at-place
 
   by-code : (tab : HullTable) → isRender tab ≡ false → coded (contentsOf (65536 - w)) ≡ endOf tab w
   by-code Render e = let z : _≡_ {A = ℕ} 0 1 = cc in absurd (omega arith)

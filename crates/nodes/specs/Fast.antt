@@ -7,7 +7,7 @@ use mathlib.Core.List.{List}
 use lib.Dec.{ltb, leb, eqb}
 use lib.ListN.{length, getD}
 use lib.Ieee.{Float, binary32, ofBits, nan}
-use Rattle.format.specs.Answer.{Answer, answer, refused, mapped}
+use Rattle.format.specs.Answer.{Answer, answer, refused, mapped, thenAnswer}
 use Rattle.format.specs.Refusal.{numberOf}
 use Rattle.format.specs.Code.{contentsOf}
 use Rattle.format.specs.declared.contents.BspLeafContents.{BspLeafContents}
@@ -123,11 +123,6 @@ placeIn p size n i =
     (cond (leb (p .readable) i) (refused 23)
     (cond (leb (p .at + i * size + size) n) (answer (p .at + i * size)) (refused 23)))
 
--- what stands at a place
-abbrev pub hereAt : {A : Type 0} → Answer ℕ → (ℕ → Answer A) → Answer A
-hereAt (answer p) one = one p
-hereAt (refused n) one = refused n
-
 -- ---- nodes as words
 
 -- the end that a code stands for
@@ -192,8 +187,8 @@ unfoldable pub boxNode : ℕ → Answer (Node End)
 boxNode i = nth boxNodes i
 
 abbrev pub nodeIn : HullTable → List ℕ → Part → ℕ → Answer (Node End)
-nodeIn Render s p i = hereAt (placeIn p 24 (length s) i) (renderNodeHere s)
-nodeIn Clip s p i = hereAt (placeIn p 8 (length s) i) (clipNodeHere s)
+nodeIn Render s p i = thenAnswer (placeIn p 24 (length s) i) (renderNodeHere s)
+nodeIn Clip s p i = thenAnswer (placeIn p 8 (length s) i) (clipNodeHere s)
 nodeIn Box s p i = boxNode i
 
 unfoldable pub nodeAt : List ℕ → Tables → ℕ → Answer (Node End)
@@ -229,8 +224,8 @@ unfoldable pub boxPlane : Vector3 → Vector3 → ℕ → Answer Hyperplane
 boxPlane mins maxs i = nth (boxPlanes mins maxs) i
 
 abbrev pub planeFor : HullTable → List ℕ → Tables → ℕ → Answer Hyperplane
-planeFor Render s t i = hereAt (placeIn (t .planes) 20 (length s) i) (planeRead s)
-planeFor Clip s t i = hereAt (placeIn (t .planes) 20 (length s) i) (planeRead s)
+planeFor Render s t i = thenAnswer (placeIn (t .planes) 20 (length s) i) (planeRead s)
+planeFor Clip s t i = thenAnswer (placeIn (t .planes) 20 (length s) i) (planeRead s)
 planeFor Box s t i = boxPlane (t .mins) (t .maxs) i
 
 unfoldable pub planeOfIndex : List ℕ → Tables → ℕ → Answer Hyperplane
@@ -264,7 +259,7 @@ leafContentsHere s at = mapped leafContents (reading (leafAt s at))
 
 abbrev pub endContents : List ℕ → Tables → End → Answer BspLeafContents
 endContents s t (contents c) = answer c
-endContents s t (leaf n) = hereAt (placeIn (t .leaves) 28 (length s) n) (leafContentsHere s)
+endContents s t (leaf n) = thenAnswer (placeIn (t .leaves) 28 (length s) n) (leafContentsHere s)
 endContents s t nothing = refused 23
 
 abbrev pub endAnswer : EndContents → Answer BspLeafContents

@@ -116,8 +116,8 @@ while-below count leaf list (zero ∷ n ∷ it) =
 while-below count leaf list (suc b ∷ it) =
     tested (ltb leaf count) count leaf list _ _
     (while-below count (leaf + 8) (forShift 8 0 (suc b) leaf list) it
-    ∙ rw (for-shift 8 0 (suc b) leaf list, div-one (suc b), below-append, kept-below 8 count leaf (suc b), before-before)
-    (ap (before (below count list)) (sym (after-kept count leaf (suc b) it))))
+    ∙ rw (for-shift 8 0 (suc b) leaf list, div-one (suc b), below-append, kept-below 8 count leaf (suc b))
+    (before-before (below count list) (visible leaf (bits (min 8 (count - leaf)) (suc b))) (rowFrom count (leaf + 8) it) ∙ ap (before (below count list)) (sym (after-kept count leaf (suc b) it))))
 
 -- the arm `Some(o)`, less its entries at or above the count, gives the row at the offset
 pub rust-row : (visibility : List ℕ) (offset count : ℕ) → mapped (below count) (matchOffset visibility count (Some offset)) ≡ rowAt visibility offset count

@@ -15,8 +15,7 @@ bits (suc n) b = eqb (b % 2) 1 ∷ bits n (b / 2)
 
 -- these, and then what the rest of the row gives
 abbrev pub before : {A : Type 0} → List A → Answer (List A) → Answer (List A)
-before first (answer rest) = answer (first ++ rest)
-before first (refused n) = refused n
+before first rest = mapped (λ more. first ++ more) rest
 
 -- how many bits of a byte are those of leaves below the count, the lowest being that of `leaf`
 abbrev pub inByte : ℕ → ℕ → ℕ

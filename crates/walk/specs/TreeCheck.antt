@@ -6,7 +6,7 @@ use mathlib.Core.Bool.{cond}
 use mathlib.Core.List.{List, _++_}
 use lib.Dec.{ltb, eqb}
 use lib.ListN.{length, getD, set, replicate, drop}
-use Rattle.format.specs.Answer.{Answer, answer, refused}
+use Rattle.format.specs.Answer.{Answer, answer, refused, mapped}
 use Rattle.walk.specs.Table.{Child, node, end, Node, Nodes}
 
 -- what the check answers, a height or a refusal, and the marks that it leaves
@@ -19,8 +19,7 @@ checked a ms = record { answer = a; marks = ms }
 
 -- a node's height is one more than the greater height of its children
 abbrev pub higher : ℕ → Answer ℕ → Answer ℕ
-higher front (answer back) = answer (max front back + 1)
-higher front (refused n) = refused n
+higher front back = mapped (λ height. max front height + 1) back
 
 abbrev pub withFront : ℕ → Checked → Checked
 withFront front back = checked (higher front (back .answer)) (back .marks)

@@ -7,7 +7,7 @@ use mathlib.Core.List.{List, [], _∷_}
 use lib.Dec.{ltb}
 use lib.ListN.{length}
 use Rattle.format.specs.Answer as Ans
-use Rattle.format.specs.Answer.{Answer, answer}
+use Rattle.format.specs.Answer.{Answer, answer, mapped}
 use Rattle.math.specs.Plane as Pl
 use Rattle.math.specs.declared.Vector3.{Vector3}
 use Rattle.math.specs.declared.Hyperplane.{Hyperplane}
@@ -46,8 +46,7 @@ pub record Entered (E : Type 0) : Type 0 where
 module _ {E A : Type 0} (T : Table E A) where
   -- the node's plane, once it is read
   abbrev pub withPlane : Node E → Answer Hyperplane → Answer (Entered E)
-  withPlane nd (answer h) = answer (record { nd = nd; plane = h })
-  withPlane nd (Ans.refused n) = Ans.refused n
+  withPlane nd h = mapped (λ h. record { nd = nd; plane = h }) h
 
   -- the plane's number, then the plane
   abbrev pub withNode : Answer (Node E) → Answer (Entered E)
