@@ -22,7 +22,9 @@ use Rattle.textures.specs.Section as Section
 use Rattle.load.specs.Entities.{entities}
 use Rattle.load.specs.Extents.{faceExtents}
 use Rattle.load.specs.Tested.{texinfos, faces, leafReferences}
-use Rattle.load.specs.Load.{fromExtents, fromEdges, fromCollisionNodes, fromTexinfo, fromVertices, fromPlanes, counted, loadAt, loadOf, outcome}
+use Rattle.load.specs.Load.{counted, loadAt, loadOf, outcome}
+use Rattle.load.specs.Private.{fromExtents, fromEdges, fromCollisionNodes, fromTexinfo, fromVertices, fromPlanes, fromHeader}
+use Rattle.load.proofs.Stages.{stages}
 
 -- a check that passed
 abbrev pub Ok : Step (Unit {0}) → Type 0
@@ -109,8 +111,8 @@ rest s m w q e l t p n =
     )
 
 -- all the stages
-from-start : (s : List ℕ) (w : BspData) (q : ℕ) → loadAt s ≡ ok w q → Passed s w
-unfolding loadAt fromPlanes limits limitsFromLeaves exceeds
+from-start : (s : List ℕ) (w : BspData) (q : ℕ) → fromHeader s ≡ ok w q → Passed s w
+unfolding fromHeader fromPlanes limits limitsFromLeaves exceeds
 from-start s w q e =
     let a = first (headerAt s) _ w q e in
     let b = first (limits (a .0)) _ w q (a .1 .1 .1) in
@@ -125,5 +127,5 @@ pub passed : (s : List ℕ) (m : BspData) → loadOf s ≡ answer m → Passed s
 passed s m e = by (loadAt s) refl e
   where
     by : (x : Step BspData) → loadAt s ≡ x → outcome x ≡ answer m → Passed s m
-    by (ok w q) h e = from-start s m q (h ∙ ap (λ v. ok v q) (ap (λ x. given x m) e))
+    by (ok w q) h e = from-start s m q (stages s ∙ h ∙ ap (λ v. ok v q) (ap (λ x. given x m) e))
     by (refused n) h e = absurd (subst Is-answer (sym e) tt)

@@ -3,3 +3,4 @@ pub mod Entities
 pub mod Tested
 pub mod Extents
 pub mod Load
+pub mod Private

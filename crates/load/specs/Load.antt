@@ -24,40 +24,6 @@ use Rattle.load.specs.Tested.{texinfos, faces, leafReferences}
 use Rattle.load.specs.declared.Loaded.{Loaded}
 use Rattle.load.specs.declared.Loaded.the-variants as L
 
-unfoldable pub fromExtents : List ℕ → BspData → Step BspData
-fromExtents s m =
-    andThen (faceExtents s m) (λ u p.
-    andThen (leafReferences s m) (λ u p.
-    andThen (section fileModelAt Models s (m .models)) (λ u p.
-    ok m 0)))
-
-unfoldable pub fromEdges : List ℕ → BspData → Step BspData
-fromEdges s m =
-    andThen (section edgeAt Edges s (m .edges)) (λ u p.
-    andThen (section edgeIndexAt EdgeList s (m .edgelist)) (λ u p.
-    fromExtents s m))
-
-unfoldable pub fromCollisionNodes : List ℕ → BspData → Step BspData
-fromCollisionNodes s m =
-    andThen (section collisionNodeAt CollisionNodes s (m .«collision_nodes»)) (λ u p.
-    andThen (section leafAt Leaves s (m .leaves)) (λ u p.
-    andThen (section u16At FaceList s (m .facelist)) (λ u p.
-    fromEdges s m)))
-
-unfoldable pub fromTexinfo : List ℕ → BspData → Step BspData
-fromTexinfo s m =
-    andThen (texinfos s m) (λ u p.
-    andThen (faces s m) (λ u p.
-    andThen (blob s (m .lightmaps)) (λ u p.
-    fromCollisionNodes s m)))
-
-unfoldable pub fromVertices : List ℕ → BspData → Step BspData
-fromVertices s m =
-    andThen (section vectorAt Vertices s (m .vertices)) (λ u p.
-    andThen (blob s (m .visibility)) (λ u p.
-    andThen (section renderNodeAt RenderNodes s (m .«render_nodes»)) (λ u p.
-    fromTexinfo s m)))
-
 -- the map record with its texture count
 abbrev pub counted : BspData → ℕ → BspData
 counted m n = record {
@@ -79,18 +45,30 @@ counted m n = record {
   «texture_count» = n;
 }
 
-unfoldable pub fromPlanes : List ℕ → BspData → Step BspData
-fromPlanes s m =
-    andThen (section planeAt Planes s (m .planes)) (λ u p.
-    andThen (Section.textures s (m .textures)) (λ n p.
-    fromVertices s (counted m n)))
-
+-- the nineteen steps
 unfoldable pub loadAt : List ℕ → Step BspData
 loadAt s =
     andThen (headerAt s) (λ m p.
     andThen (limits m) (λ u p.
     andThen (entities s (m .entities)) (λ u p.
-    fromPlanes s m)))
+    andThen (section planeAt Planes s (m .planes)) (λ u p.
+    andThen (Section.textures s (m .textures)) (λ n p.
+    let map : BspData = counted m n in
+    andThen (section vectorAt Vertices s (map .vertices)) (λ u p.
+    andThen (blob s (map .visibility)) (λ u p.
+    andThen (section renderNodeAt RenderNodes s (map .«render_nodes»)) (λ u p.
+    andThen (texinfos s map) (λ u p.
+    andThen (faces s map) (λ u p.
+    andThen (blob s (map .lightmaps)) (λ u p.
+    andThen (section collisionNodeAt CollisionNodes s (map .«collision_nodes»)) (λ u p.
+    andThen (section leafAt Leaves s (map .leaves)) (λ u p.
+    andThen (section u16At FaceList s (map .facelist)) (λ u p.
+    andThen (section edgeAt Edges s (map .edges)) (λ u p.
+    andThen (section edgeIndexAt EdgeList s (map .edgelist)) (λ u p.
+    andThen (faceExtents s map) (λ u p.
+    andThen (leafReferences s map) (λ u p.
+    andThen (section fileModelAt Models s (map .models)) (λ u p.
+    ok map 0)))))))))))))))))))
 
 -- the map record, or the first refusal
 abbrev pub outcome : Step BspData → Answer BspData

@@ -1,6 +1,7 @@
 // Loads a BSP29 map from the lent bytes of its file.
 ghost use mathlib.Core.Path.{_≡_};
-ghost use Rattle.load.specs.Load.{loadedStep, loadedAnswer, loadAt, loadOf, fromPlanes, counted, fromVertices, fromTexinfo, fromCollisionNodes, fromEdges, fromExtents};
+ghost use Rattle.load.specs.Load.{loadedStep, loadedAnswer, loadOf, counted};
+ghost use Rattle.load.specs.Private.{fromHeader, fromPlanes, fromVertices, fromTexinfo, fromCollisionNodes, fromEdges, fromExtents};
 
 pub mod extents;
 pub mod section;
@@ -45,7 +46,7 @@ pub fn load(file: &[u8]) -> Loaded
 
 // The header, the limits and the entity text, and what follows.
 fn load_header(file: &[u8]) -> Loaded
-    ensures { λ r. ⌜ loadedStep r ≡ loadAt (now (file .entry)) ⌝ }
+    ensures { λ r. ⌜ loadedStep r ≡ fromHeader (now (file .entry)) ⌝ }
 {
     match read_header(file) {
         ReadTable::Refused(e) => Loaded::Refused(e),

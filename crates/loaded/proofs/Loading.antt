@@ -4,7 +4,7 @@ use Prim.Native.Nat.{ℕ, zero, suc, _+_, _≤_}
 use native.Mathlib.Omega.{arith}
 use mathlib.Core.Bool.{Bool, true, false, cond}
 use mathlib.Core.List.{List}
-use mathlib.Core.Path.{_≡_, refl}
+use mathlib.Core.Path.{_≡_, refl, subst}
 use lib.Dec.{ltb, leb, eqb}
 use lib.ListN.{length}
 use lib.IntN.{pos, negsuc}
@@ -40,7 +40,9 @@ use Rattle.utf8.specs.Unicode.{isUtf8}
 use Rattle.load.specs.Entities.{textOf, entities}
 use Rattle.load.specs.Extents.{isBad, extentsAt, faceExtents}
 use Rattle.load.specs.Tested.{outside, textured, texinfos, faces, referencesAt, leafReferences}
-use Rattle.load.specs.Load.{fromExtents, fromEdges, fromCollisionNodes, fromTexinfo, fromVertices, fromPlanes, loadAt, outcome}
+use Rattle.load.specs.Load.{loadAt, outcome}
+use Rattle.load.specs.Private.{fromExtents, fromEdges, fromCollisionNodes, fromTexinfo, fromVertices, fromPlanes, fromHeader}
+use Rattle.load.proofs.Stages.{stages}
 use Rattle.records.specs.declared.number.OptionalOffset.{OptionalOffset}
 use Rattle.records.specs.declared.number.OptionalOffset.the-variants as Opt
 use Rattle.textures.specs.Name.{isAscii, isWrong}
@@ -363,8 +365,8 @@ module _ (s : List ℕ) where
   unfolding fromPlanes
   from-planes m = then (section planeAt Planes s _) _ (whole planeAt plane _ _) (λ u p. then (Textures.textures s _) _ (texture-section _) (λ n p. from-vertices _))
 
-  all : Known (loadAt s)
-  unfolding loadAt
+  all : Known (fromHeader s)
+  unfolding fromHeader
   all = then (headerAt s) _ header (λ m p. then (limits m) _ (within m) (λ u p. then (entities s _) _ (text _) (λ u p. from-planes m)))
 
 of-step : (x : Step BspData) → Known x → RefusedOnly OfLoading (outcome x)
@@ -372,4 +374,4 @@ of-step (ok m p) f = answers OfLoading m
 of-step (refused n) f = refuses OfLoading n (f .number n refl)
 
 pub loading-refuses : LoadingRefuses
-loading-refuses s = of-step (loadAt s) (all s)
+loading-refuses s = of-step (loadAt s) (subst Known (stages s) (all s))

@@ -1,7 +1,7 @@
 -- Every made-up map loads, and gives the map record that its header says.
 -- Assumes nothing.
 use Prim.Native.Nat.{ℕ, zero, suc, _+_, _*_, _<_, _≤_}
-use mathlib.Core.Path.{_≡_, refl, ap}
+use mathlib.Core.Path.{_≡_, refl, sym, ap, _∙_}
 use mathlib.Core.Bool.{false}
 use mathlib.Core.List.{List, _∷_}
 use native.Mathlib.Nat.{mul-div-cancel}
@@ -32,7 +32,9 @@ use Rattle.utf8.specs.Unicode.{isUtf8, run, next, lead, whole}
 use Rattle.textures.specs.Count.{any}
 use Rattle.textures.specs.Group.{sequenced}
 use Rattle.textures.specs.Section.{textures, texturesAt, listed}
-use Rattle.load.specs.Load.{outcome, loadOf, loadAt, fromPlanes, fromVertices, fromTexinfo, fromCollisionNodes, fromEdges, fromExtents}
+use Rattle.load.specs.Load.{outcome, loadOf}
+use Rattle.load.specs.Private.{fromHeader, fromPlanes, fromVertices, fromTexinfo, fromCollisionNodes, fromEdges, fromExtents}
+use Rattle.load.proofs.Stages.{stages}
 use Rattle.load.specs.Entities.{entities}
 use Rattle.load.specs.Tested.{textured, texinfos, faces, outside, referencesAt, leafReferences}
 use Rattle.load.specs.Extents.{faceExtents}
@@ -152,9 +154,9 @@ module _ (seed n : ℕ) (h : n ≤ 500) where
   unfolding fromPlanes mapOf
   from-planes = rw (planes-read, textures-read) from-vertices
 
-  loads-at : loadAt s ≡ ok (mapOf n) 0
-  unfolding loadAt mapOf
+  loads-at : fromHeader s ≡ ok (mapOf n) 0
+  unfolding fromHeader mapOf
   loads-at = rw (header-reads seed n h, within-limits n h, text-reads seed n) from-planes
 
   pub loads : loadOf s ≡ answer (mapOf n)
-  loads = ap outcome loads-at
+  loads = ap outcome (sym (stages s) ∙ loads-at)

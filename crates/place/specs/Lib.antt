@@ -2,4 +2,5 @@
 pub mod Stop
 pub mod Part
 pub mod Place
+pub mod Private
 pub mod EveryFile

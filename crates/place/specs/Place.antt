@@ -102,54 +102,30 @@ listStop s m =
 unfoldable pub texturesStop : List ℕ → BspData → Stop
 texturesStop s m = hereOr (numberAt 2097152 s (m .textures .offset)) (stop 0 (m .textures .offset)) (λ n p. listStop s (counted m n))
 
-unfoldable pub fromExtents : List ℕ → BspData → Located
-fromExtents s m =
-    located (faceExtents s m) 7 (stopIn Part.Extents s m) (λ u.
-    located (leafReferences s m) 5 (stopIn Part.References s m) (λ u.
-    located (section fileModelAt Id.Models s (m .models)) 14 (stopIn Part.Models s m) (λ u.
-    loads)))
-
-unfoldable pub fromEdges : List ℕ → BspData → Located
-fromEdges s m =
-    located (section edgeAt Id.Edges s (m .edges)) 12 (stopIn Part.Edges s m) (λ u.
-    located (section edgeIndexAt Id.EdgeList s (m .edgelist)) 13 (stopIn Part.EdgeList s m) (λ u.
-    fromExtents s m))
-
-unfoldable pub fromCollisionNodes : List ℕ → BspData → Located
-fromCollisionNodes s m =
-    located (section collisionNodeAt Id.CollisionNodes s (m .«collision_nodes»)) 9 (stopIn Part.CollisionNodes s m) (λ u.
-    located (section leafAt Id.Leaves s (m .leaves)) 10 (stopIn Part.Leaves s m) (λ u.
-    located (section u16At Id.FaceList s (m .facelist)) 11 (stopIn Part.FaceList s m) (λ u.
-    fromEdges s m)))
-
--- bytes that are no records (visibility data, lightmaps) are named by their section's start
-unfoldable pub fromTexinfo : List ℕ → BspData → Located
-fromTexinfo s m =
-    located (texinfos s m) 6 (stopIn Part.TextureInfo s m) (λ u.
-    located (faces s m) 7 (stopIn Part.Faces s m) (λ u.
-    located (blob s (m .lightmaps)) 8 (stop 0 (m .lightmaps .offset)) (λ u.
-    fromCollisionNodes s m)))
-
-unfoldable pub fromVertices : List ℕ → BspData → Located
-fromVertices s m =
-    located (section vectorAt Id.Vertices s (m .vertices)) 3 (stopIn Part.Vertices s m) (λ u.
-    located (blob s (m .visibility)) 4 (stop 0 (m .visibility .offset)) (λ u.
-    located (section renderNodeAt Id.RenderNodes s (m .«render_nodes»)) 5 (stopIn Part.RenderNodes s m) (λ u.
-    fromTexinfo s m)))
-
-unfoldable pub fromPlanes : List ℕ → BspData → Located
-fromPlanes s m =
-    located (section planeAt Id.Planes s (m .planes)) 1 (stopIn Part.Planes s m) (λ u.
-    located (Section.textures s (m .textures)) 2 (texturesStop s m) (λ n.
-    fromVertices s (counted m n)))
-
--- the entity text is named by its start
+-- the nineteen steps; the entity text, and bytes that are no records (visibility data, lightmaps), are named by their section's start
 unfoldable pub placeOf : List ℕ → Located
 placeOf s =
     located (headerAt s) 15 (headerStop s) (λ m.
     located (limits m) 15 (stopIn Part.Limits s m) (λ u.
     located (entities s (m .entities)) 0 (stop 0 (m .entities .offset)) (λ u.
-    fromPlanes s m)))
+    located (section planeAt Id.Planes s (m .planes)) 1 (stopIn Part.Planes s m) (λ u.
+    located (Section.textures s (m .textures)) 2 (texturesStop s m) (λ n.
+    let map : BspData = counted m n in
+    located (section vectorAt Id.Vertices s (map .vertices)) 3 (stopIn Part.Vertices s map) (λ u.
+    located (blob s (map .visibility)) 4 (stop 0 (map .visibility .offset)) (λ u.
+    located (section renderNodeAt Id.RenderNodes s (map .«render_nodes»)) 5 (stopIn Part.RenderNodes s map) (λ u.
+    located (texinfos s map) 6 (stopIn Part.TextureInfo s map) (λ u.
+    located (faces s map) 7 (stopIn Part.Faces s map) (λ u.
+    located (blob s (map .lightmaps)) 8 (stop 0 (map .lightmaps .offset)) (λ u.
+    located (section collisionNodeAt Id.CollisionNodes s (map .«collision_nodes»)) 9 (stopIn Part.CollisionNodes s map) (λ u.
+    located (section leafAt Id.Leaves s (map .leaves)) 10 (stopIn Part.Leaves s map) (λ u.
+    located (section u16At Id.FaceList s (map .facelist)) 11 (stopIn Part.FaceList s map) (λ u.
+    located (section edgeAt Id.Edges s (map .edges)) 12 (stopIn Part.Edges s map) (λ u.
+    located (section edgeIndexAt Id.EdgeList s (map .edgelist)) 13 (stopIn Part.EdgeList s map) (λ u.
+    located (faceExtents s map) 7 (stopIn Part.Extents s map) (λ u.
+    located (leafReferences s map) 5 (stopIn Part.References s map) (λ u.
+    located (section fileModelAt Id.Models s (map .models)) 14 (stopIn Part.Models s map) (λ u.
+    loads)))))))))))))))))))
 
 -- what an answer stands for
 abbrev pub placeAnswer : LoadPlace → Located

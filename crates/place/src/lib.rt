@@ -1,6 +1,7 @@
 // Where loading refuses a file: the section, the record and the byte at which the reader stands that refuses.
 ghost use mathlib.Core.Path.{_≡_};
 ghost use Rattle.place.specs.Place as Spec;
+ghost use Rattle.place.specs.Private as Parts;
 ghost use Rattle.place.specs.Place.{placeAnswer};
 
 pub mod part;
@@ -71,7 +72,7 @@ pub fn load_place(file: &[u8]) -> LoadPlace
 
 // The planes and the textures, and what follows.
 fn from_planes(file: &[u8], map: BspData) -> LoadPlace
-    ensures { λ r. ⌜ placeAnswer r ≡ Spec.fromPlanes (now (file .entry)) map ⌝ }
+    ensures { λ r. ⌜ placeAnswer r ≡ Parts.fromPlanes (now (file .entry)) map ⌝ }
 {
     match check_planes(file, map.planes) {
         Position::Refused(e) => LoadPlace::Refused(e, 1, stop_in(file, Part::Planes, map)),
@@ -84,7 +85,7 @@ fn from_planes(file: &[u8], map: BspData) -> LoadPlace
 
 // The vertices, the visibility data and the render nodes, and what follows.
 fn from_vertices(file: &[u8], map: BspData) -> LoadPlace
-    ensures { λ r. ⌜ placeAnswer r ≡ Spec.fromVertices (now (file .entry)) map ⌝ }
+    ensures { λ r. ⌜ placeAnswer r ≡ Parts.fromVertices (now (file .entry)) map ⌝ }
 {
     match check_vertices(file, map.vertices) {
         Position::Refused(e) => LoadPlace::Refused(e, 3, stop_in(file, Part::Vertices, map)),
@@ -114,7 +115,7 @@ fn from_vertices(file: &[u8], map: BspData) -> LoadPlace
 
 // The texture infos, the faces and the lightmaps, and what follows.
 fn from_texinfo(file: &[u8], map: BspData) -> LoadPlace
-    ensures { λ r. ⌜ placeAnswer r ≡ Spec.fromTexinfo (now (file .entry)) map ⌝ }
+    ensures { λ r. ⌜ placeAnswer r ≡ Parts.fromTexinfo (now (file .entry)) map ⌝ }
 {
     match check_texinfo(file, map) {
         Position::Refused(e) => LoadPlace::Refused(e, 6, stop_in(file, Part::TextureInfo, map)),
@@ -140,7 +141,7 @@ fn from_texinfo(file: &[u8], map: BspData) -> LoadPlace
 
 // The collision nodes, the leaves and the face list, and what follows.
 fn from_collision_nodes(file: &[u8], map: BspData) -> LoadPlace
-    ensures { λ r. ⌜ placeAnswer r ≡ Spec.fromCollisionNodes (now (file .entry)) map ⌝ }
+    ensures { λ r. ⌜ placeAnswer r ≡ Parts.fromCollisionNodes (now (file .entry)) map ⌝ }
 {
     match check_collision_nodes(file, map.collision_nodes) {
         Position::Refused(e) => LoadPlace::Refused(e, 9, stop_in(file, Part::CollisionNodes, map)),
@@ -160,7 +161,7 @@ fn from_collision_nodes(file: &[u8], map: BspData) -> LoadPlace
 
 // The edges and the edge list, and what follows.
 fn from_edges(file: &[u8], map: BspData) -> LoadPlace
-    ensures { λ r. ⌜ placeAnswer r ≡ Spec.fromEdges (now (file .entry)) map ⌝ }
+    ensures { λ r. ⌜ placeAnswer r ≡ Parts.fromEdges (now (file .entry)) map ⌝ }
 {
     match check_edges(file, map.edges) {
         Position::Refused(e) => LoadPlace::Refused(e, 12, stop_in(file, Part::Edges, map)),
@@ -173,7 +174,7 @@ fn from_edges(file: &[u8], map: BspData) -> LoadPlace
 
 // The extents of the faces, the leaves that render nodes name, and the models.
 fn from_extents(file: &[u8], map: BspData) -> LoadPlace
-    ensures { λ r. ⌜ placeAnswer r ≡ Spec.fromExtents (now (file .entry)) map ⌝ }
+    ensures { λ r. ⌜ placeAnswer r ≡ Parts.fromExtents (now (file .entry)) map ⌝ }
 {
     match check_extents(file, map) {
         Position::Refused(e) => LoadPlace::Refused(e, 7, stop_in(file, Part::Extents, map)),

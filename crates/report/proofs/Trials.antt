@@ -23,7 +23,7 @@ use Rattle.textures.specs.Section as Textures
 use Rattle.textures.specs.Section.{listed, texturesAt}
 use Rattle.load.specs.Entities.{entities}
 use Rattle.load.specs.Extents.{faceExtents}
-use Rattle.load.specs.Load.{fromExtents, fromEdges, fromCollisionNodes, fromTexinfo, fromVertices, fromPlanes, loadAt, loadOf}
+use Rattle.load.specs.Load.{loadAt, loadOf}
 use Rattle.load.specs.Tested.{texinfos, faces, leafReferences}
 use Rattle.report.specs.Text.{ascii, digits, decimal, line}
 use Rattle.report.specs.Report.{countLine, countLines, told, reportText}
@@ -38,7 +38,7 @@ smallest version =
     word version ++ (word 124 ++ (word 1 ++ (replicate 8 0 ++ (word 125 ++ (word 4 ++ (replicate 88 0 ++ (word 129 ++ (word 64 ++ replicate 69 0))))))))
 
 pub small : reportText (smallest 29) ≡ ascii "planes 0\nnodes 0\nclipnodes 0\nleaves 0\nfaces 0\nmodels 1\nentities 1\n"
-unfolding reportText told countLines countLine line decimal digits loadAt headerAt i32At u32At f32At isVersion tableAt threeSectionsAt sectionAt isMultiple indexAt tableEndAt limits limitsFromLeaves exceeds recordCount entities textEnd isUtf8 run next lead whole fromPlanes Textures.textures texturesAt listed sequenced any section records numberAt fromVertices blob fromTexinfo texinfos faces fromCollisionNodes fromEdges fromExtents faceExtents leafReferences fileModelAt fileModelEndAt boundsAt rootsAt vectorAt paddedBounds ofBits
+unfolding reportText told countLines countLine line decimal digits loadAt headerAt i32At u32At f32At isVersion tableAt threeSectionsAt sectionAt isMultiple indexAt tableEndAt limits limitsFromLeaves exceeds recordCount entities textEnd isUtf8 run next lead whole Textures.textures texturesAt listed sequenced any section records numberAt blob texinfos faces faceExtents leafReferences fileModelAt fileModelEndAt boundsAt rootsAt vectorAt paddedBounds ofBits
 small = refl
 
 pub other-version : reportText (smallest 28) ≡ ascii "refused 2\n"

@@ -37,10 +37,10 @@ use Rattle.textures.specs.Section as Textures
 use Rattle.textures.specs.Section.{listed, texturesAt}
 use Rattle.load.specs.Entities.{entities}
 use Rattle.load.specs.Extents.{isBad, faceExtents}
-use Rattle.load.specs.Load.{fromExtents, fromEdges, fromCollisionNodes, fromTexinfo, fromVertices, fromPlanes, loadAt}
+use Rattle.load.specs.Load.{loadAt}
 use Rattle.load.specs.Tested.{texinfos, faces, outside, referencesAt, leafReferences}
 use Rattle.trial_table.specs.Trials.{trials, each}
 
 pub all-hold : each (λ t. t .definition) trials ≡ each (λ t. t .document) trials
-unfolding trials each contentsAt leafEndAt leafAt renderChild renderChildAt renderNodeEndAt renderNodeAt index16At offsetOf offsetAt pointAt outside referencesAt loadAt headerAt i32At u32At f32At isVersion tableAt threeSectionsAt sectionAt isMultiple indexAt tableEndAt limits limitsFromLeaves exceeds recordCount entities textEnd isUtf8 run next lead whole fromPlanes Textures.textures texturesAt listed sequenced any section records numberAt fromVertices blob fromTexinfo texinfos faces fromCollisionNodes fromEdges fromExtents faceExtents leafReferences fileModelAt fileModelEndAt boundsAt rootsAt vectorAt paddedBounds leafIdOf modelOf rowAt rowBits bits visible forBounds hull tableOf walk enter meet recursiveTrace ofWhole ofBits add sub mul div neg lt le eq toSigned lineSegment newPlane normalize sqrt rootOfUnits nearestRoot digits equal Tr.join extent floorOf ceilOf times16 isBad treeCheck checkNode recordOf place collisionNodeAt collisionChildAt planeAt filePlane i16At u16At negatedContents contentsOf contentsMet boxSide entitiesOf nodesBelow sizedCheck
+unfolding trials each contentsAt leafEndAt leafAt renderChild renderChildAt renderNodeEndAt renderNodeAt index16At offsetOf offsetAt pointAt outside referencesAt loadAt headerAt i32At u32At f32At isVersion tableAt threeSectionsAt sectionAt isMultiple indexAt tableEndAt limits limitsFromLeaves exceeds recordCount entities textEnd isUtf8 run next lead whole Textures.textures texturesAt listed sequenced any section records numberAt blob texinfos faces faceExtents leafReferences fileModelAt fileModelEndAt boundsAt rootsAt vectorAt paddedBounds leafIdOf modelOf rowAt rowBits bits visible forBounds hull tableOf walk enter meet recursiveTrace ofWhole ofBits add sub mul div neg lt le eq toSigned lineSegment newPlane normalize sqrt rootOfUnits nearestRoot digits equal Tr.join extent floorOf ceilOf times16 isBad treeCheck checkNode recordOf place collisionNodeAt collisionChildAt planeAt filePlane i16At u16At negatedContents contentsOf contentsMet boxSide entitiesOf nodesBelow sizedCheck
 all-hold = refl

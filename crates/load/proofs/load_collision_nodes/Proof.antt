@@ -2,7 +2,7 @@
 -- Assumes nothing.
 use borrow.Author.Needs.{needs}
 use Rattle.sections.proofs.Chain.{position}
-use Rattle.load.specs.Load.{fromCollisionNodes}
+use Rattle.load.specs.Private.{fromCollisionNodes}
 use Rattle.load.proofs.load_collision_nodes.Statement.{statement}
 use Rattle.load.proofs.load_collision_nodes.Tie as tie
 

@@ -2,7 +2,7 @@
 -- Assumes nothing.
 use borrow.Author.Needs.{needs}
 use Rattle.sections.proofs.Chain.{position}
-use Rattle.load.specs.Load.{fromEdges}
+use Rattle.load.specs.Private.{fromEdges}
 use Rattle.load.proofs.load_edges.Statement.{statement}
 use Rattle.load.proofs.load_edges.Tie as tie
 

@@ -2,7 +2,7 @@
 -- Assumes nothing.
 use borrow.Author.Needs.{needs}
 use Rattle.sections.proofs.Chain.{position}
-use Rattle.load.specs.Load.{fromExtents}
+use Rattle.load.specs.Private.{fromExtents}
 use Rattle.load.proofs.load_extents.Statement.{statement}
 use Rattle.load.proofs.load_extents.Tie as tie
 

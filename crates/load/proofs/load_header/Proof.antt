@@ -2,7 +2,7 @@
 -- Assumes nothing.
 use borrow.Author.Needs.{needs}
 use Rattle.sections.proofs.Chain.{table, position}
-use Rattle.load.specs.Load.{loadAt}
+use Rattle.load.specs.Private.{fromHeader}
 use Rattle.load.proofs.load_header.Statement.{statement}
 use Rattle.load.proofs.load_header.Tie as tie
 
@@ -20,7 +20,7 @@ load-header-spec =
     (λ c. search needs)
     (λ c. search needs)
     (λ c κs. search needs)
-    (λ c. unfold loadAt in search (table, position) depth 10)
-    (λ c. unfold loadAt in search (table, position) depth 10)
-    (λ c. unfold loadAt in search (table, position) depth 10)
-    (λ c. unfold loadAt in search (table, position) depth 10))
+    (λ c. unfold fromHeader in search (table, position) depth 10)
+    (λ c. unfold fromHeader in search (table, position) depth 10)
+    (λ c. unfold fromHeader in search (table, position) depth 10)
+    (λ c. unfold fromHeader in search (table, position) depth 10))

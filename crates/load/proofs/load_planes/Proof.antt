@@ -3,7 +3,7 @@
 use borrow.Author.Needs.{needs}
 use Rattle.format.proofs.Chain.{index}
 use Rattle.sections.proofs.Chain.{position}
-use Rattle.load.specs.Load.{fromPlanes}
+use Rattle.load.specs.Private.{fromPlanes}
 use Rattle.load.proofs.load_planes.Statement.{statement}
 use Rattle.load.proofs.load_planes.Tie as tie
 

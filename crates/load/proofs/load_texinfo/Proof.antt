@@ -2,7 +2,7 @@
 -- Assumes nothing.
 use borrow.Author.Needs.{needs}
 use Rattle.sections.proofs.Chain.{position}
-use Rattle.load.specs.Load.{fromTexinfo}
+use Rattle.load.specs.Private.{fromTexinfo}
 use Rattle.load.proofs.load_texinfo.Statement.{statement}
 use Rattle.load.proofs.load_texinfo.Tie as tie
 

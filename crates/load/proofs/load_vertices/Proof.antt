@@ -2,7 +2,7 @@
 -- Assumes nothing.
 use borrow.Author.Needs.{needs}
 use Rattle.sections.proofs.Chain.{position}
-use Rattle.load.specs.Load.{fromVertices}
+use Rattle.load.specs.Private.{fromVertices}
 use Rattle.load.proofs.load_vertices.Statement.{statement}
 use Rattle.load.proofs.load_vertices.Tie as tie
 

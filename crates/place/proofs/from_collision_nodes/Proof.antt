@@ -1,7 +1,7 @@
 -- `place::from_collision_nodes` meets its contract. Assumes nothing.
 use borrow.Author.Needs.{needs}
 use mathlib.Core.Path.{refl}
-use Rattle.place.specs.Place.{fromCollisionNodes}
+use Rattle.place.specs.Private.{fromCollisionNodes}
 use Rattle.place.proofs.Chain.{position}
 use Rattle.place.proofs.from_collision_nodes.Statement.{statement}
 use Rattle.place.proofs.from_collision_nodes.Tie as tie

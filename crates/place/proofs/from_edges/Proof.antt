@@ -1,7 +1,7 @@
 -- `place::from_edges` meets its contract. Assumes nothing.
 use borrow.Author.Needs.{needs}
 use mathlib.Core.Path.{refl}
-use Rattle.place.specs.Place.{fromEdges}
+use Rattle.place.specs.Private.{fromEdges}
 use Rattle.place.proofs.Chain.{position}
 use Rattle.place.proofs.from_edges.Statement.{statement}
 use Rattle.place.proofs.from_edges.Tie as tie

@@ -1,7 +1,7 @@
 -- `place::from_extents` meets its contract. Assumes nothing.
 use borrow.Author.Needs.{needs}
 use mathlib.Core.Path.{refl}
-use Rattle.place.specs.Place.{fromExtents}
+use Rattle.place.specs.Private.{fromExtents}
 use Rattle.place.proofs.Chain.{position}
 use Rattle.place.proofs.from_extents.Statement.{statement}
 use Rattle.place.proofs.from_extents.Tie as tie

@@ -1,7 +1,7 @@
 -- `place::from_planes` meets its contract. Assumes nothing.
 use borrow.Author.Needs.{needs}
 use mathlib.Core.Path.{refl}
-use Rattle.place.specs.Place.{fromPlanes}
+use Rattle.place.specs.Private.{fromPlanes}
 use Rattle.place.proofs.Chain.{index, position}
 use Rattle.place.proofs.from_planes.Statement.{statement}
 use Rattle.place.proofs.from_planes.Tie as tie

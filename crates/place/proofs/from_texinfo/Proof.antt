@@ -1,7 +1,7 @@
 -- `place::from_texinfo` meets its contract. Assumes nothing.
 use borrow.Author.Needs.{needs}
 use mathlib.Core.Path.{refl}
-use Rattle.place.specs.Place.{fromTexinfo}
+use Rattle.place.specs.Private.{fromTexinfo}
 use Rattle.place.proofs.Chain.{position}
 use Rattle.place.proofs.from_texinfo.Statement.{statement}
 use Rattle.place.proofs.from_texinfo.Tie as tie

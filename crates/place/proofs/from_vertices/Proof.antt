@@ -1,7 +1,7 @@
 -- `place::from_vertices` meets its contract. Assumes nothing.
 use borrow.Author.Needs.{needs}
 use mathlib.Core.Path.{refl}
-use Rattle.place.specs.Place.{fromVertices}
+use Rattle.place.specs.Private.{fromVertices}
 use Rattle.place.proofs.Chain.{position}
 use Rattle.place.proofs.from_vertices.Statement.{statement}
 use Rattle.place.proofs.from_vertices.Tie as tie

@@ -1,8 +1,9 @@
 -- `place::load_place` meets its contract. Assumes nothing.
 use borrow.Author.Needs.{needs}
 use mathlib.Core.Path.{refl}
-use Rattle.place.specs.Place.{placeOf}
+use Rattle.place.specs.Private.{fromHeader}
 use Rattle.place.proofs.Chain.{table, position}
+use Rattle.place.proofs.Stages.{by-stages}
 use Rattle.place.proofs.load_place.Statement.{statement}
 use Rattle.place.proofs.load_place.Tie as tie
 
@@ -46,16 +47,16 @@ from-planes-requires : tie.Need-from-planes-requires
 from-planes-requires c κs = search needs
 
 returns : tie.Need-returns
-returns c = unfold placeOf in search (table, position, refl) depth 10
+returns c = by-stages _ (unfold fromHeader in search (table, position, refl) depth 10)
 
 returns-2 : tie.Need-returns-2
-returns-2 c = unfold placeOf in search (table, position, refl) depth 10
+returns-2 c = by-stages _ (unfold fromHeader in search (table, position, refl) depth 10)
 
 returns-3 : tie.Need-returns-3
-returns-3 c = unfold placeOf in search (table, position, refl) depth 10
+returns-3 c = by-stages _ (unfold fromHeader in search (table, position, refl) depth 10)
 
 returns-4 : tie.Need-returns-4
-returns-4 c = unfold placeOf in search (table, position, refl) depth 10
+returns-4 c = by-stages _ (unfold fromHeader in search (table, position, refl) depth 10)
 
 pub load-place-spec : {M : Type 1} → statement M
 load-place-spec =
