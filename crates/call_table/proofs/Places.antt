@@ -21,10 +21,10 @@ use Rattle.load.specs.Extents.{faceExtents}
 use Rattle.load.specs.Tested.{texinfos, faces, leafReferences}
 use Rattle.place.specs.Stop.{stops}
 use Rattle.place.specs.Part.{recordAt, sectionSpan, spanOf, stopIn}
-use Rattle.place.specs.Place.{headerStop, placeOf, fromPlanes, fromVertices, fromTexinfo, fromCollisionNodes, fromEdges, fromExtents}
+use Rattle.place.specs.Place.{headerStop, placeOf}
 use Rattle.ffi_place.specs.Calls.{bspLoadPlace}
 use Rattle.call_table.specs.Places.{places, meant}
 
 pub as-meant : places ≡ meant
-unfolding places meant bspLoadPlace placeOf headerStop fromPlanes fromVertices fromTexinfo fromCollisionNodes fromEdges fromExtents stopIn stops spanOf sectionSpan recordAt headerAt i16At u16At i32At u32At f32At isVersion tableAt threeSectionsAt sectionAt isMultiple indexAt tableEndAt limits limitsFromLeaves exceeds recordCount entities textEnd isUtf8 run next lead whole Textures.textures texturesAt listed sequenced any section records numberAt index16At offsetOf offsetAt blob texinfos faces leafAt contentsAt leafEndAt negatedContents contentsOf faceExtents leafReferences fileModelAt fileModelEndAt boundsAt rootsAt vectorAt pointAt ofBits
+unfolding places meant bspLoadPlace placeOf headerStop stopIn stops spanOf sectionSpan recordAt headerAt i16At u16At i32At u32At f32At isVersion tableAt threeSectionsAt sectionAt isMultiple indexAt tableEndAt limits limitsFromLeaves exceeds recordCount entities textEnd isUtf8 run next lead whole Textures.textures texturesAt listed sequenced any section records numberAt index16At offsetOf offsetAt blob texinfos faces leafAt contentsAt leafEndAt negatedContents contentsOf faceExtents leafReferences fileModelAt fileModelEndAt boundsAt rootsAt vectorAt pointAt ofBits
 as-meant = refl
