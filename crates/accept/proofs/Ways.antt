@@ -22,10 +22,11 @@ use Rattle.walk.specs.TreeCheck.{Checked, checked, treeCheck}
 use Rattle.walk.proofs.Check.{answer-is}
 use Rattle.nodes.specs.Tables.{nodesOf}
 use Rattle.nodes.specs.declared.table.HullTable.{HullTable}
-use Rattle.tree.specs.Check.{heightAnswer}
+use Rattle.tree.specs.Answers.{heightAnswer}
 use Rattle.tree.specs.declared.TreeChecked.{TreeChecked}
 use Rattle.tree.specs.declared.TreeChecked.the-variants as Tc
-use Rattle.accept.specs.Accept.{Check, passes, also, each, inside, within, modelLeaves, treeFrom, marksFor, acceptOf, accept, judged, Judged, acceptanceAnswer}
+use Rattle.accept.specs.Accept.{Check, passes, also, each, inside, within, modelLeaves, treeFrom, marksFor, acceptOf, accept, judged, Judged}
+use Rattle.accept.specs.Answers.{acceptanceAnswer}
 use Rattle.accept.specs.Fast.{Remembered}
 use Rattle.accept.specs.declared.Acceptance.{Acceptance}
 use Rattle.accept.specs.declared.Acceptance.the-variants as A

@@ -12,7 +12,6 @@ use mathlib.Core.List.{List, _++_}
 use lib.Dec.{ltb, eqb}
 use lib.ListN.{length, replicate, drop}
 use Rattle.format.specs.Answer.{Answer, answer, refused, mapped, thenAnswer}
-use Rattle.format.specs.Refusal.{numberOf}
 use Rattle.format.specs.Section.{recordCount}
 use Rattle.format.specs.declared.section.BspData.{BspData}
 use Rattle.format.specs.declared.section.BspFileSectionId.the-variants.{Planes, Vertices, RenderNodes, TextureInfo, Faces, CollisionNodes, Leaves, FaceList, Edges, EdgeList, Models}
@@ -28,8 +27,6 @@ use Rattle.walk.specs.TreeCheck.{treeCheck}
 use Rattle.nodes.specs.Tables.{nodesOf}
 use Rattle.nodes.specs.declared.table.HullTable.{HullTable}
 use Rattle.nodes.specs.declared.table.HullTable.the-variants.{Render, Clip}
-use Rattle.accept.specs.declared.Acceptance.{Acceptance}
-use Rattle.accept.specs.declared.Acceptance.the-variants as A
 
 -- a check answers nothing but that it passed, or it is refused
 abbrev pub Check : Type 0
@@ -156,8 +153,3 @@ accept s m ms =
     cond (ltb (length ms) (marksFor m))
     (judged (refused 22) ms)
     (judged (acceptOf s m) (replicate (marksFor m) 0 ++ drop (marksFor m) ms))
-
--- what an answer of the code stands for
-abbrev pub acceptanceAnswer : Acceptance → Check
-acceptanceAnswer A.Passed = passes
-acceptanceAnswer (A.Refused e) = refused (numberOf e)

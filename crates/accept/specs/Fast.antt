@@ -1,3 +1,4 @@
+-- For the contracts of functions that no other crate can name; a reader of the calls may leave this file out.
 -- What only private contracts cite: the roots that the code remembers as passed, and what it notes of the visibility data.
 use Prim.Native.Nat.{ℕ, zero, suc, _+_, _*_, _/_, _%_, _<_, _≤_}
 use mathlib.Core.List.{List, [], _∷_}

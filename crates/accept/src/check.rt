@@ -1,7 +1,7 @@
 // A reference into a table, and a range of it.
 ghost use mathlib.Core.Path.{_≡_};
 ghost use Rattle.accept.specs.Accept as Acc;
-ghost use Rattle.accept.specs.Accept.{acceptanceAnswer};
+ghost use Rattle.accept.specs.Answers.{acceptanceAnswer};
 use crate::Acceptance;
 use format::refusal::Refusal;
 

@@ -2,7 +2,7 @@
 ghost use mathlib.Core.Path.{_≡_};
 ghost use lib.ListN.{length, replicate};
 ghost use Rattle.accept.specs.Accept as Acc;
-ghost use Rattle.accept.specs.Accept.{acceptanceAnswer};
+ghost use Rattle.accept.specs.Answers.{acceptanceAnswer};
 use format::refusal::Refusal;
 use format::section::BspData;
 use format::section::BspFileSectionId;

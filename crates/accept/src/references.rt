@@ -4,7 +4,7 @@ ghost use Prim.Native.Nat.{_+_, _<_, _^_};
 ghost use Rattle.format.specs.Section.{recordCount};
 ghost use Rattle.format.specs.declared.section.BspFileSectionId.the-variants as Id;
 ghost use Rattle.accept.specs.Accept as Acc;
-ghost use Rattle.accept.specs.Accept.{acceptanceAnswer};
+ghost use Rattle.accept.specs.Answers.{acceptanceAnswer};
 use crate::Acceptance;
 use crate::check::inside;
 use crate::check::within;

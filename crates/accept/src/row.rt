@@ -9,7 +9,7 @@ ghost use Rattle.format.specs.declared.section.BspFileSectionId.the-variants as
 ghost use Rattle.vis.specs.Row.{rowAt};
 ghost use Rattle.vis.specs.Pvs.{sectionRow};
 ghost use Rattle.accept.specs.Accept as Acc;
-ghost use Rattle.accept.specs.Accept.{acceptanceAnswer};
+ghost use Rattle.accept.specs.Answers.{acceptanceAnswer};
 ghost use Rattle.accept.specs.Fast as Fast;
 use crate::Acceptance;
 use format::refusal::Refusal;

@@ -6,7 +6,7 @@ ghost use Rattle.nodes.specs.Tables.{nodesOf};
 ghost use Rattle.format.specs.Section.{recordCount};
 ghost use Rattle.format.specs.declared.section.BspFileSectionId.the-variants as Id;
 ghost use Rattle.accept.specs.Accept as Acc;
-ghost use Rattle.accept.specs.Accept.{acceptanceAnswer};
+ghost use Rattle.accept.specs.Answers.{acceptanceAnswer};
 ghost use Rattle.accept.specs.Fast as Fast;
 use crate::Acceptance;
 use format::section::BspData;

@@ -7,6 +7,7 @@ ghost use Rattle.walk.specs.BoxWalk as BoxWalk;
 ghost use Rattle.nodes.specs.Fast as Fast;
 ghost use Rattle.hull.specs.Hull as Hull;
 ghost use Rattle.boxes.specs.Sets as Sets;
+ghost use Rattle.boxes.specs.Answers as Answers;
 use format::contents::BspLeafContents;
 use format::refusal::Refusal;
 use format::section::BspData;
@@ -56,7 +57,7 @@ fn only(contents: BspLeafContents) -> u32
 // then the side that the box falls on, or the front side and then the back side.
 fn box_node(s: &[u8], t: Tables, lo: Vector3, hi: Vector3, node: usize, levels: u32) -> BoxContents
     requires { ⌜ Box.isBox lo hi ≡ true ⌝ }
-    ensures { λ r. ⌜ Sets.setAnswer r ≡ BoxWalk.boxWalk (Fast.table (now (s .entry)) t) lo hi levels node ⌝ }
+    ensures { λ r. ⌜ Answers.setAnswer r ≡ BoxWalk.boxWalk (Fast.table (now (s .entry)) t) lo hi levels node ⌝ }
 {
     let nodes = t.nodes;
     if (nodes.count as usize) <= node {
@@ -92,7 +93,7 @@ fn box_node(s: &[u8], t: Tables, lo: Vector3, hi: Vector3, node: usize, levels: 
 // A child, by its word, with so many levels left below its parent.
 fn box_child(s: &[u8], t: Tables, lo: Vector3, hi: Vector3, word: u16, levels: u32) -> BoxContents
     requires { ⌜ Box.isBox lo hi ≡ true ⌝ }
-    ensures { λ r. ⌜ Sets.setAnswer r ≡ Sets.boxWord (Fast.table (now (s .entry)) t) (t .table) lo hi levels word ⌝ }
+    ensures { λ r. ⌜ Answers.setAnswer r ≡ Sets.boxWord (Fast.table (now (s .entry)) t) (t .table) lo hi levels word ⌝ }
 {
     if word < 32768 {
         return box_node(s, t, lo, hi, word as usize, levels);
@@ -113,7 +114,7 @@ pub fn contents_in_box(
     maxs: Vector3,
     marks: &mut [u8],
 ) -> BoxContents
-    ensures { λ r. ⌜ Walk.checked (Sets.setAnswer r) (now (marks .exit)) ≡ BoxWalk.boxContents (Hull.hullTable (now (file .entry)) map hull) mins maxs (now (marks .entry)) (hull .«node_id») ⌝ }
+    ensures { λ r. ⌜ Walk.checked (Answers.setAnswer r) (now (marks .exit)) ≡ BoxWalk.boxContents (Hull.hullTable (now (file .entry)) map hull) mins maxs (now (marks .entry)) (hull .«node_id») ⌝ }
 {
     if !is_box(mins, maxs) {
         return BoxContents::Refused(Refusal::NotABox);

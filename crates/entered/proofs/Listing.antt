@@ -13,7 +13,7 @@ use Rattle.format.specs.Listed.{listed, into}
 use Rattle.walk.specs.Walk.{Outcome, done, refused, held, withVisits}
 use Rattle.entered.specs.Lists.{nodesEntered}
 use Rattle.phys.specs.declared.Trace.{Trace}
-use Rattle.hull.specs.Traces.{tracedAnswer}
+use Rattle.hull.specs.Answers.{tracedAnswer}
 use Rattle.hull.specs.declared.tracing.Traced.{Traced}
 use Rattle.entered.specs.Onward.{written, saysWith}
 

@@ -24,7 +24,8 @@ use Rattle.phys.specs.declared.Trace.{Trace as TraceT}
 use Rattle.phys.specs.declared.TraceStart.{TraceStart}
 use Rattle.phys.specs.declared.TraceEnd.{TraceEnd}
 use Rattle.walk.specs.Table.{Table}
-use Rattle.walk.specs.Walk.{Outcome, done, refused, entered, held, after, ended}
+use Rattle.walk.specs.Walk.{Outcome, done, refused, entered, held, ended}
+use Rattle.walk.specs.Private.{after}
 use Rattle.walk.specs.Trace.{joined, withFar, recursiveTrace, trace}
 use Rattle.nodes.specs.Tables.{End, tableOf}
 use Rattle.nodes.specs.Fast as Fast
@@ -35,7 +36,8 @@ use Rattle.nodes.specs.declared.read.Words.{Words as WordsT}
 use Rattle.nodes.specs.declared.read.EndContents.{EndContents}
 use Rattle.nodes.specs.declared.read.EndContents.the-variants as E
 use Rattle.hull.proofs.Founds.{table-same}
-use Rattle.hull.specs.Traces.{stopsAt, joinedWith, joinFar, tracedAnswer}
+use Rattle.hull.specs.Traces.{stopsAt, joinedWith, joinFar}
+use Rattle.hull.specs.Answers.{tracedAnswer}
 use Rattle.hull.specs.declared.tracing.Traced.{Traced}
 use Rattle.hull.specs.declared.tracing.Traced.the-variants as T
 use Rattle.entered.specs.Onward.{bothParts, followed, wholeOf, Crosses, partOf, written, saysWith, resumed, Goes}

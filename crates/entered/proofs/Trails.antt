@@ -41,7 +41,8 @@ use Rattle.nodes.specs.declared.read.Sided.{Sided}
 use Rattle.nodes.specs.declared.read.Sided.the-variants as S
 use Rattle.nodes.proofs.Entering.{child-node, child-end, enter-not, enter-is, enter-no-plane}
 use Rattle.entered.proofs.Listing.{Fills, too-short, filled}
-use Rattle.entered.specs.Lists.{nodesEntered, nodeOr0, onward, next, trail, trailFrom}
+use Rattle.entered.specs.Lists.{nodesEntered}
+use Rattle.entered.specs.Private.{nodeOr0, onward, next, trail, trailFrom}
 
 module _ {E A : Type 0} (T : Table E A) (p : Vector3) where
   -- the nodes of an outcome are the trail from i

@@ -1,3 +1,4 @@
+-- For the contracts of functions that no other crate can name; a reader of the calls may leave this file out.
 -- For the private contracts of `traced`: the part of a trace that goes on to a child, the two parts of a segment at a crossing, a trace with the list that
 -- its nodes are written into, and the way down to a crossing.
 use Prim.Native.Nat.{ℕ, suc, _+_, _≤_}
@@ -23,7 +24,8 @@ use Rattle.nodes.specs.Fast as Fast
 use Rattle.nodes.specs.declared.table.HullTable.{HullTable}
 use Rattle.nodes.specs.declared.table.Tables.{Tables}
 use Rattle.nodes.specs.declared.read.Words.{Words}
-use Rattle.hull.specs.Traces.{stopsAt, tracedAnswer, crossedAt}
+use Rattle.hull.specs.Traces.{stopsAt, crossedAt}
+use Rattle.hull.specs.Answers.{tracedAnswer}
 use Rattle.hull.specs.declared.tracing.Traced.{Traced}
 use Rattle.entered.specs.declared.traced.Onward.{Onward}
 use Rattle.entered.specs.declared.traced.Onward.the-variants as O

@@ -3,14 +3,17 @@ ghost use mathlib.Core.Path.{_≡_};
 ghost use lib.ListN.{set};
 ghost use Rattle.format.specs.Listed.{listed, into};
 ghost use Rattle.phys.specs.Trace as Tr;
-ghost use Rattle.walk.specs.Walk.{after, ended};
+ghost use Rattle.walk.specs.Walk.{ended};
+ghost use Rattle.walk.specs.Private.{after};
 ghost use Rattle.walk.specs.Trace as Tracing;
 ghost use Rattle.walk.specs.Trace.{recursiveTrace};
 ghost use Rattle.nodes.specs.Fast as Fast;
 ghost use Rattle.nodes.specs.Walks as Walks;
 ghost use Rattle.hull.specs.Hull.{hullTable};
-ghost use Rattle.hull.specs.Traces.{tracedAnswer, joinFar};
+ghost use Rattle.hull.specs.Traces.{joinFar};
+ghost use Rattle.hull.specs.Answers.{tracedAnswer};
 ghost use Rattle.entered.specs.Lists as Lists;
+ghost use Rattle.entered.specs.Answers as Answers;
 ghost use Rattle.entered.specs.Onward as Going;
 use crate::walked::EnteredAnswer;
 use format::refusal::Refusal;
@@ -249,7 +252,7 @@ pub fn nodes_of_trace(
     end: Vector3,
     list: &mut [u32],
 ) -> EnteredAnswer
-    ensures { λ r. ⌜ listed (Lists.enteredAnswer r) (now (list .exit)) ≡ into (Lists.nodesEntered (Tracing.trace (hullTable (now (s .entry)) map hull) (hull .«node_id») start end)) (now (list .entry)) ⌝ }
+    ensures { λ r. ⌜ listed (Answers.enteredAnswer r) (now (list .exit)) ≡ into (Lists.nodesEntered (Tracing.trace (hullTable (now (s .entry)) map hull) (hull .«node_id») start end)) (now (list .entry)) ⌝ }
 {
     match trace(s, map, hull, start, end) {
         Traced::Refused(e) => EnteredAnswer::Refused(e),

@@ -8,6 +8,8 @@ ghost use Rattle.nodes.specs.Tables.{leafTable};
 ghost use Rattle.nodes.specs.Fast as Fast;
 ghost use Rattle.hull.specs.Hull.{hullTable};
 ghost use Rattle.entered.specs.Lists as Lists;
+ghost use Rattle.entered.specs.Answers as Answers;
+ghost use Rattle.entered.specs.Private as Private;
 use format::refusal::Refusal;
 use format::section::BspData;
 use hull::collision::BspCollisionHull;
@@ -32,7 +34,7 @@ pub enum EnteredAnswer {
 
 // The node that a walk goes on to; 0 where it does not.
 fn next_node(s: &[u8], t: Tables, node: usize, point: Vector3) -> u16
-    ensures { λ r. ⌜ r ≡ Lists.next (Fast.table (now (s .entry)) t) point node ⌝ }
+    ensures { λ r. ⌜ r ≡ Private.next (Fast.table (now (s .entry)) t) point node ⌝ }
 {
     match read_words(s, t, node) {
         ReadWords::Refused(_) => 0,
@@ -52,7 +54,7 @@ fn next_node(s: &[u8], t: Tables, node: usize, point: Vector3) -> u16
 // Fills the list with the nodes that a walk goes on to, one after the other.
 fn write_walk(s: &[u8], t: Tables, root: usize, point: Vector3, list: &mut [u32])
     requires { ⌜ root < 4294967296 ⌝ }
-    ensures { λ r. ⌜ now (list .exit) ≡ Lists.trail (Fast.table (now (s .entry)) t) point (length (now (list .entry))) root ⌝ }
+    ensures { λ r. ⌜ now (list .exit) ≡ Private.trail (Fast.table (now (s .entry)) t) point (length (now (list .entry))) root ⌝ }
 {
     let mut node = root;
     let mut i = 0;
@@ -72,7 +74,7 @@ fn list_walk(
     visits: u64,
     list: &mut [u32],
 ) -> EnteredAnswer
-    ensures { λ r. ⌜ listed (Lists.enteredAnswer r) (now (list .exit)) ≡ into (Lists.trailFrom (Fast.table (now (s .entry)) t) point visits root) (now (list .entry)) ⌝ }
+    ensures { λ r. ⌜ listed (Answers.enteredAnswer r) (now (list .exit)) ≡ into (Private.trailFrom (Fast.table (now (s .entry)) t) point visits root) (now (list .entry)) ⌝ }
 {
     let nodes = t.nodes;
     if (nodes.count as usize) <= root {
@@ -95,7 +97,7 @@ pub fn nodes_to_point(
     point: Vector3,
     list: &mut [u32],
 ) -> EnteredAnswer
-    ensures { λ r. ⌜ listed (Lists.enteredAnswer r) (now (list .exit)) ≡ into (Lists.nodesEntered (pointWalk (hullTable (now (s .entry)) map hull) (hull .«node_id») point)) (now (list .entry)) ⌝ }
+    ensures { λ r. ⌜ listed (Answers.enteredAnswer r) (now (list .exit)) ≡ into (Lists.nodesEntered (pointWalk (hullTable (now (s .entry)) map hull) (hull .«node_id») point)) (now (list .entry)) ⌝ }
 {
     match contents_at_point(s, map, hull, point) {
         PointContents::Refused(e) => EnteredAnswer::Refused(e),
@@ -115,7 +117,7 @@ pub fn nodes_to_leaf(
     point: Vector3,
     list: &mut [u32],
 ) -> EnteredAnswer
-    ensures { λ r. ⌜ listed (Lists.enteredAnswer r) (now (list .exit)) ≡ into (Lists.nodesEntered (pointWalk (leafTable (now (s .entry)) map) root point)) (now (list .entry)) ⌝ }
+    ensures { λ r. ⌜ listed (Answers.enteredAnswer r) (now (list .exit)) ≡ into (Lists.nodesEntered (pointWalk (leafTable (now (s .entry)) map) root point)) (now (list .entry)) ⌝ }
 {
     match find_leaf_from(s, map, root, point) {
         FoundLeaf::Refused(e) => EnteredAnswer::Refused(e),

@@ -10,7 +10,7 @@ use Rattle.format.specs.declared.refusal.Refusal.{Refusal}
 use Rattle.format.proofs.Chain.{go, no}
 use Rattle.records.specs.Access.{reading}
 use Rattle.records.proofs.Chain.{value, none}
-use Rattle.faces.specs.Face.{sideStep, stylesStep, faceStep}
+use Rattle.faces.specs.Answers.{sideStep, stylesStep, faceStep}
 use Rattle.faces.specs.declared.face.BspFaceSide.{BspFaceSide}
 use Rattle.faces.specs.declared.face.LightStyles.{LightStyles}
 use Rattle.faces.specs.declared.face.BspFace.{BspFace}

@@ -10,7 +10,6 @@ use Rattle.float.specs.Whole.{minimum, maximum, floorOf, ceilOf, times16}
 use Rattle.math.specs.Vector.{dot}
 use Rattle.math.specs.declared.Vector3.{Vector3}
 use Rattle.format.specs.Answer.{Answer, answer, refused, thenAnswer, onRefusal}
-use Rattle.format.specs.Refusal.{numberOf}
 use Rattle.format.specs.Section.{recordCount}
 use Rattle.format.specs.declared.section.BspData.{BspData}
 use Rattle.format.specs.declared.section.BspFileSectionId.the-variants.{EdgeList}
@@ -25,10 +24,6 @@ use Rattle.faces.specs.Face.{fileFaceOf}
 use Rattle.faces.specs.declared.face.BspFace.{BspFace}
 use Rattle.faces.specs.declared.extents.Span.{Span}
 use Rattle.faces.specs.declared.extents.Surface.{Surface}
-use Rattle.faces.specs.declared.extents.SpanAnswer.{SpanAnswer}
-use Rattle.faces.specs.declared.extents.SpanAnswer.the-variants as SpanA
-use Rattle.faces.specs.declared.extents.SurfaceAnswer.{SurfaceAnswer}
-use Rattle.faces.specs.declared.extents.SurfaceAnswer.the-variants as SurfaceA
 
 -- `vertex_ids[direction as usize]`
 abbrev pub vertexOn : BspEdgeDirection → BspEdge → ℕ
@@ -127,12 +122,3 @@ faceOf s m i =
     thenAnswer (fileFaceOf s m i) (λ f.
     thenAnswer (surfaceOf s m f) (λ x.
     answer (withSurface f x)))
-
--- what the answers stand for
-abbrev pub spanAnswer : SpanAnswer → Answer Span
-spanAnswer (SpanA.Value x) = answer x
-spanAnswer (SpanA.Refused e) = refused (numberOf e)
-
-abbrev pub surfaceAnswer : SurfaceAnswer → Answer Surface
-surfaceAnswer (SurfaceA.Value x) = answer x
-surfaceAnswer (SurfaceA.Refused e) = refused (numberOf e)

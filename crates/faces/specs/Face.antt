@@ -5,9 +5,7 @@ use mathlib.Core.List.{List}
 use lib.Dec.{eqb}
 use lib.IntN.{pos}
 use Rattle.format.specs.Step.{Step, ok, refused, andThen}
-use Rattle.format.specs.Answer as Answer
 use Rattle.format.specs.Answer.{Answer}
-use Rattle.format.specs.Refusal.{numberOf}
 use Rattle.format.specs.Field.{u8At, indexAt}
 use Rattle.format.specs.Section.{recordCount}
 use Rattle.format.specs.declared.section.BspData.{BspData}
@@ -18,14 +16,6 @@ use Rattle.faces.specs.declared.face.BspFaceSide.{BspFaceSide}
 use Rattle.faces.specs.declared.face.BspFaceSide.the-variants.{Front, Back}
 use Rattle.faces.specs.declared.face.LightStyles.{LightStyles}
 use Rattle.faces.specs.declared.face.BspFace.{BspFace}
-use Rattle.faces.specs.declared.face.ReadSide.{ReadSide}
-use Rattle.faces.specs.declared.face.ReadSide.the-variants as Sid
-use Rattle.faces.specs.declared.face.ReadLightStyles.{ReadLightStyles}
-use Rattle.faces.specs.declared.face.ReadLightStyles.the-variants as Sty
-use Rattle.faces.specs.declared.face.ReadFace.{ReadFace}
-use Rattle.faces.specs.declared.face.ReadFace.the-variants as Fac
-use Rattle.faces.specs.declared.face.FaceAnswer.{FaceAnswer}
-use Rattle.faces.specs.declared.face.FaceAnswer.the-variants as FaceA
 
 -- 0 or 1
 abbrev pub sideOf : ℕ → ℕ → Step BspFaceSide
@@ -76,20 +66,3 @@ faceAt planes infos s at =
 -- by index, with texture mins and extents of 0
 abbrev pub fileFaceOf : List ℕ → BspData → ℕ → Answer BspFace
 fileFaceOf s m i = recordOf Faces (faceAt (recordCount Planes (m .planes)) (recordCount TextureInfo (m .texinfo))) s m i
-
--- what the answers of the readers stand for
-abbrev pub sideStep : ReadSide → Step BspFaceSide
-sideStep (Sid.Value x p) = ok x p
-sideStep (Sid.Refused e) = refused (numberOf e)
-
-abbrev pub stylesStep : ReadLightStyles → Step LightStyles
-stylesStep (Sty.Value x p) = ok x p
-stylesStep Sty.EndOfFile = refused 1
-
-abbrev pub faceStep : ReadFace → Step BspFace
-faceStep (Fac.Value x p) = ok x p
-faceStep (Fac.Refused e) = refused (numberOf e)
-
-abbrev pub faceAnswer : FaceAnswer → Answer BspFace
-faceAnswer (FaceA.Value x) = Answer.answer x
-faceAnswer (FaceA.Refused e) = Answer.refused (numberOf e)

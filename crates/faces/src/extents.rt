@@ -1,9 +1,9 @@
 // The texture mins and extents of a face, as loading works them out (the Rust's text after 'see Calc_SurfaceExtents').
 ghost use mathlib.Core.Path.{_≡_};
 ghost use Prim.Native.Nat.{_+_, _<_, _^_};
-ghost use Rattle.records.specs.Plane.{vertexAnswer};
-ghost use Rattle.faces.specs.Face.{faceAnswer};
-ghost use Rattle.faces.specs.Extents.{vertexOn, cornerOf, unbounded, widened, spanOver, spanAnswer, textureMin, extent, surfaceIn, spanOf, surfaceOf, surfaceAnswer, withSurface, faceOf};
+ghost use Rattle.records.specs.Answers.{vertexAnswer};
+ghost use Rattle.faces.specs.Extents.{vertexOn, cornerOf, unbounded, widened, spanOver, textureMin, extent, surfaceIn, spanOf, surfaceOf, withSurface, faceOf};
+ghost use Rattle.faces.specs.Answers.{spanAnswer, surfaceAnswer, faceAnswer};
 use crate::face::BspFace;
 use crate::face::FaceAnswer;
 use crate::face::TexturePair;

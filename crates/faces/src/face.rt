@@ -1,6 +1,7 @@
 // Faces as the file has them; their texture mins and extents are worked out from other records.
 ghost use mathlib.Core.Path.{_≡_};
-ghost use Rattle.faces.specs.Face.{sideAt, sideStep, stylesAt, stylesStep, faceAt, faceEndAt, faceLightAt, faceStep, fileFaceOf, faceAnswer};
+ghost use Rattle.faces.specs.Face.{sideAt, stylesAt, faceAt, faceEndAt, faceLightAt, fileFaceOf};
+ghost use Rattle.faces.specs.Answers.{sideStep, stylesStep, faceStep, faceAnswer};
 use format::field::ReadIndex;
 use format::field::ReadU8;
 use format::field::read_index;

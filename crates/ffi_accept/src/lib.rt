@@ -1,7 +1,7 @@
 // Whole-map acceptance, as a number.
 ghost use mathlib.Core.Path.{_≡_};
 ghost use Rattle.words.specs.Words.{written};
-ghost use Rattle.accept.specs.Accept.{acceptanceAnswer};
+ghost use Rattle.accept.specs.Answers.{acceptanceAnswer};
 ghost use Rattle.ffi_accept.specs.Calls as Calls;
 use accept::Acceptance;
 use words::LIST_TOO_SHORT;

@@ -4,7 +4,7 @@ ghost use Prim.Native.Nat.{_≤_};
 ghost use lib.ListN.{length};
 ghost use Rattle.format.specs.Answer.{mapped};
 ghost use Rattle.words.specs.Words.{written, left, given, numberWords};
-ghost use Rattle.boxes.specs.Sets.{setAnswer};
+ghost use Rattle.boxes.specs.Answers.{setAnswer};
 ghost use Rattle.ffi_boxes.specs.Calls as Calls;
 use boxes::BoxContents;
 use boxes::contents_in_box;

@@ -8,7 +8,8 @@ use Rattle.format.specs.declared.refusal.Refusal.{Refusal}
 use Rattle.format.specs.declared.section.BspData.{BspData}
 use Rattle.words.specs.Words.{Written, give, Left, left, beside, mapOf}
 use Rattle.words.proofs.Giving.{refuses, gives}
-use Rattle.hull.specs.Hull.{hullAnswer, HullChecked, hullChecked, checkHull}
+use Rattle.hull.specs.Hull.{HullChecked, hullChecked, checkHull}
+use Rattle.hull.specs.Answers.{hullAnswer}
 use Rattle.hull.specs.declared.collision.BspCollisionHull.{BspCollisionHull}
 use Rattle.hull.specs.declared.collision.HullAnswer.{HullAnswer}
 use Rattle.hull.specs.declared.collision.HullAnswer.the-variants.{Hull, Refused}

@@ -1,7 +1,7 @@
 // The tree check of a hull, as words in lists that a caller lends: the hull with the number of nodes and the height of its root's tree.
 ghost use mathlib.Core.Path.{_≡_};
 ghost use Rattle.words.specs.Words.{left};
-ghost use Rattle.hull.specs.Hull.{hullAnswer};
+ghost use Rattle.hull.specs.Answers.{hullAnswer};
 ghost use Rattle.ffi_hull.specs.Layout.{hullFrom};
 ghost use Rattle.ffi_checked.specs.Calls as Calls;
 use ffi_hull::layout;

@@ -4,7 +4,7 @@ ghost use Prim.Native.Nat.{_≤_};
 ghost use lib.ListN.{length};
 ghost use Rattle.format.specs.Answer.{mapped};
 ghost use Rattle.words.specs.Words.{written, left, given, numberWords};
-ghost use Rattle.entered.specs.Lists.{enteredAnswer};
+ghost use Rattle.entered.specs.Answers.{enteredAnswer};
 ghost use Rattle.ffi_entered.specs.Calls as Calls;
 use entered::traced::nodes_of_trace;
 use entered::walked::EnteredAnswer;

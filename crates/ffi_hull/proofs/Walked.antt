@@ -16,14 +16,15 @@ use Rattle.format.specs.declared.section.BspData.{BspData}
 use Rattle.math.specs.declared.Vector3.{Vector3}
 use Rattle.walk.specs.Table.{Table}
 use Rattle.words.specs.Words.{mapOf}
-use Rattle.nodes.specs.Tables.{End, tableOf, leafTable}
+use Rattle.nodes.specs.Tables.{End, tableOf, leafTable, fileTable}
 use Rattle.nodes.specs.Fast as Fast
-use Rattle.nodes.specs.Fast.{fileTable, tablesOf}
+use Rattle.nodes.specs.Fast.{tablesOf}
 use Rattle.nodes.proofs.Equal.{table-is, leaves-are}
 use Rattle.nodes.specs.declared.table.HullTable.{HullTable}
 use Rattle.nodes.specs.declared.table.HullTable.the-variants.{Render, Clip, Box}
 use Rattle.nodes.specs.declared.table.Tables.{Tables}
-use Rattle.hull.specs.Hull.{hullTable, hullAnswer}
+use Rattle.hull.specs.Hull.{hullTable}
+use Rattle.hull.specs.Answers.{hullAnswer}
 use Rattle.hull.specs.declared.collision.BspCollisionHull.{BspCollisionHull}
 use Rattle.hull.specs.declared.collision.HullAnswer.{HullAnswer}
 use Rattle.hull.specs.declared.collision.HullAnswer.the-variants.{Hull, Refused}

@@ -4,7 +4,7 @@ ghost use Prim.Native.Nat.{_≤_};
 ghost use lib.ListN.{length};
 ghost use Rattle.format.specs.Answer.{mapped};
 ghost use Rattle.words.specs.Words.{written, given};
-ghost use Rattle.hull.specs.Hull.{hullAnswer};
+ghost use Rattle.hull.specs.Answers.{hullAnswer};
 ghost use Rattle.ffi_hull.specs.Layout as Layout;
 use crate::layout;
 use hull::collision::HullAnswer;

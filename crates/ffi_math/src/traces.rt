@@ -5,6 +5,7 @@ ghost use Prim.Native.Nat.{_≤_};
 ghost use lib.ListN.{getD};
 ghost use Rattle.math.specs.Vector as Vec;
 ghost use Rattle.phys.specs.Trace as Tr;
+ghost use Rattle.phys.specs.Answers as Answers;
 ghost use Rattle.words.specs.Words.{flagWord};
 ghost use Rattle.ffi_math.specs.Traces as Traces;
 ghost use Rattle.ffi_math.specs.Words.{partOf};
@@ -146,7 +147,7 @@ fn trace_word(trace: Trace, word: u32) -> u32
 
 // Word number `word` of what `join` answers.
 fn joined_word(joined: Joined, word: u32) -> u32
-    ensures { λ r. ⌜ r ≡ getD (Traces.joinedWords (Tr.joinedOf joined)) word 0 ⌝ }
+    ensures { λ r. ⌜ r ≡ getD (Traces.joinedWords (Answers.joinedOf joined)) word 0 ⌝ }
 {
     match joined {
         Joined::Trace(trace) => {

@@ -23,7 +23,7 @@ use Rattle.nodes.specs.Tables.{End, tableOf}
 use Rattle.nodes.specs.declared.table.HullTable.the-variants.{Clip}
 use Rattle.nodes.proofs.Equal.{table-is}
 use Rattle.ordered.specs.Same.{fileRows}
-use Rattle.ffi_order.specs.Calls.{planesMap}
+use Rattle.ffi_order.specs.Private.{planesMap}
 
 abbrev none : Vector3
 none = vector zero32 zero32 zero32

@@ -15,8 +15,7 @@ use Rattle.walk.specs.Table.{Table}
 use Rattle.walk.specs.Walk.{withVisits, pointWalk}
 use Rattle.walk.specs.Trace as Tracing
 use Rattle.walk.specs.Writing.{InOrder, orderNodes}
-use Rattle.nodes.specs.Tables.{End, tableOf}
-use Rattle.nodes.specs.Fast.{fileTable}
+use Rattle.nodes.specs.Tables.{End, tableOf, fileTable}
 use Rattle.hull.specs.Hull.{hullTable}
 use Rattle.hull.specs.declared.collision.BspCollisionHull.{BspCollisionHull}
 use Rattle.ordered.specs.Same as S

@@ -7,13 +7,12 @@ use lib.IntN.{ℤ}
 use lib.Ieee.{Float}
 use lib.ListN.{length}
 use Rattle.format.specs.Answer.{mapped}
-use Rattle.format.specs.declared.section.BspData.{BspData}
-use Rattle.words.specs.Words.{Written, given, atLeast, numberWords, mapLength, mapOf, sectionAt}
+use Rattle.words.specs.Words.{Written, given, atLeast, numberWords, mapLength, mapOf}
 use Rattle.walk.specs.Walk.{withVisits, pointWalk}
 use Rattle.walk.specs.Trace as Tracing
 use Rattle.walk.specs.Writing.{InOrder, orderNodes}
 use Rattle.ordered.specs.Same.{fileNodes, fileRows}
-use Rattle.ffi_hull.specs.Layout.{noSection, pointAt}
+use Rattle.ffi_hull.specs.Layout.{pointAt}
 use Rattle.ffi_walks.specs.Calls.{contentsLength, contentsWords}
 use Rattle.ffi_traces.specs.Layout.{traceLength, traceWords}
 
@@ -55,26 +54,3 @@ unfoldable pub bspOrderTrace : List ℕ → List ℕ → List ℤ → ℕ → Li
 bspOrderTrace s map list root segment out =
     atLeast mapLength map out (atLeast 6 segment out (atLeast traceLength out out
     (given (mapped traceWords (withVisits (Tracing.trace (fileRows s (mapOf map) list) root (pointAt segment 0) (pointAt segment 3)))) out)))
-
--- ---- for private contracts: the map record with the section of the planes alone
-
-abbrev pub planesMap : List ℕ → BspData
-planesMap ws =
-    record {
-      entities = noSection;
-      planes = sectionAt ws 2;
-      textures = noSection;
-      vertices = noSection;
-      visibility = noSection;
-      «render_nodes» = noSection;
-      texinfo = noSection;
-      faces = noSection;
-      lightmaps = noSection;
-      «collision_nodes» = noSection;
-      leaves = noSection;
-      facelist = noSection;
-      edges = noSection;
-      edgelist = noSection;
-      models = noSection;
-      «texture_count» = 0;
-    }

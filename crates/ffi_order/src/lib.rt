@@ -4,13 +4,13 @@ ghost use Prim.Native.Nat.{_≤_};
 ghost use lib.ListN.{length};
 ghost use Rattle.format.specs.Answer.{mapped};
 ghost use Rattle.words.specs.Words.{written, given, numberWords};
-ghost use Rattle.nodes.specs.Fast.{fileTable};
-ghost use Rattle.hull.specs.Walks.{contentsAnswer};
-ghost use Rattle.hull.specs.Traces.{tracedAnswer};
-ghost use Rattle.order.specs.Order.{orderedAnswer};
+ghost use Rattle.nodes.specs.Tables.{fileTable};
+ghost use Rattle.hull.specs.Answers.{tracedAnswer, contentsAnswer};
+ghost use Rattle.order.specs.Answers.{orderedAnswer};
 ghost use Rattle.ffi_walks.specs.Calls.{contentsWords};
 ghost use Rattle.ffi_traces.specs.Layout.{traceWords};
 ghost use Rattle.ffi_order.specs.Calls as Calls;
+ghost use Rattle.ffi_order.specs.Private as Private;
 use ffi_hull::layout;
 use ffi_traces::trace_words;
 use format::section::BspData;
@@ -40,7 +40,7 @@ fn node_table(render: bool) -> HullTable
 
 // The section of the planes, from a map record's words; the others are left empty.
 fn planes_map(words: &[u32]) -> BspData
-    ensures { λ r. ⌜ r ≡ Calls.planesMap (now (words .entry)) ⌝ }
+    ensures { λ r. ⌜ r ≡ Private.planesMap (now (words .entry)) ⌝ }
 {
     let none = BspFileSection { offset: 0, size: 0 };
     BspData {

@@ -8,7 +8,8 @@ use lib.ListN.{length}
 use Rattle.format.specs.Refusal.{numberOf}
 use Rattle.format.specs.declared.refusal.Refusal.{Refusal}
 use Rattle.words.specs.Words.{Written, written, give}
-use Rattle.place.specs.Place.{placeOf, placeAnswer}
+use Rattle.place.specs.Place.{placeOf}
+use Rattle.place.specs.Answers.{placeAnswer}
 use Rattle.place.specs.declared.LoadPlace.{LoadPlace}
 use Rattle.place.specs.declared.LoadPlace.the-variants as L
 use Rattle.place.specs.declared.part.Stop.{Stop}

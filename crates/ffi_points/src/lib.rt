@@ -4,7 +4,7 @@ ghost use Prim.Native.Nat.{_≤_};
 ghost use lib.ListN.{length};
 ghost use Rattle.format.specs.Answer.{mapped};
 ghost use Rattle.words.specs.Words.{written, left, given, numberWords};
-ghost use Rattle.points.specs.Points.{pointsAnswer};
+ghost use Rattle.points.specs.Answers.{pointsAnswer};
 ghost use Rattle.ffi_points.specs.Calls as Calls;
 use ffi_hull::layout;
 use hull::collision::HullAnswer;

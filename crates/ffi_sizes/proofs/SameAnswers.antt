@@ -14,8 +14,7 @@ use Rattle.walk.specs.Table.{Table}
 use Rattle.walk.specs.Walk.{withVisits, pointWalk}
 use Rattle.walk.specs.Trace as Tracing
 use Rattle.words.specs.Words.{Written, written, put, given, mapOf}
-use Rattle.nodes.specs.Tables.{End, tableOf}
-use Rattle.nodes.specs.Fast.{isBox}
+use Rattle.nodes.specs.Tables.{End, tableOf, isBox}
 use Rattle.nodes.specs.declared.table.HullTable.{HullTable}
 use Rattle.nodes.specs.declared.table.HullTable.the-variants.{Render, Clip, Box}
 use Rattle.sizes.specs.declared.BodySizes.{BodySizes}

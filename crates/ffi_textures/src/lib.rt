@@ -5,7 +5,7 @@ ghost use lib.ListN.{length};
 ghost use Rattle.format.specs.Answer.{mapped};
 ghost use Rattle.words.specs.Words.{written, left, given, numberWords};
 ghost use Rattle.textures.specs.Frame.{fileNumber, listLength};
-ghost use Rattle.textures.specs.Access.{textureAnswer};
+ghost use Rattle.textures.specs.Answers.{textureAnswer};
 ghost use Rattle.ffi_textures.specs.Calls as Calls;
 use texture_numbers::texture_numbers;
 use textures::access::frame_texture;

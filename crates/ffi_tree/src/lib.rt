@@ -4,7 +4,7 @@ ghost use Prim.Native.Nat.{_≤_};
 ghost use lib.ListN.{length};
 ghost use Rattle.format.specs.Answer.{mapped};
 ghost use Rattle.words.specs.Words.{written, left, given, numberWords};
-ghost use Rattle.tree.specs.Check.{heightAnswer};
+ghost use Rattle.tree.specs.Answers.{heightAnswer};
 ghost use Rattle.ffi_tree.specs.Calls as Calls;
 use nodes::table::HullTable;
 use tree::TreeChecked;

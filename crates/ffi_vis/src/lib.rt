@@ -4,7 +4,7 @@ ghost use Prim.Native.Nat.{_≤_};
 ghost use lib.ListN.{length};
 ghost use Rattle.format.specs.Answer.{mapped};
 ghost use Rattle.words.specs.Words.{written, left, given, numberWords};
-ghost use Rattle.vis.specs.Pvs.{lengthOf};
+ghost use Rattle.vis.specs.Answers.{lengthOf};
 ghost use Rattle.ffi_vis.specs.Calls as Calls;
 use vis::Pvs;
 use words::LIST_TOO_SHORT;

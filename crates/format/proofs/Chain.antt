@@ -12,7 +12,7 @@ use mir.Syntax.{Width}
 use mir.Val.{SFits, toZ, ofZ}
 use mir.Facts.{toZ-ofZ}
 use Rattle.format.specs.Step.{Step, ok, refused, andThen}
-use Rattle.format.specs.Field.{u8Step, u16Step, u32Step, i16Step, i32Step, f32Step, indexStep}
+use Rattle.format.specs.Answers.{u8Step, u16Step, u32Step, i16Step, i32Step, f32Step, indexStep}
 use Rattle.format.specs.Refusal.{numberOf}
 use Rattle.format.specs.Code.{negatedContents}
 use Rattle.format.specs.declared.refusal.Refusal.{Refusal}

@@ -8,3 +8,4 @@ pub mod Code
 pub mod Section
 pub mod Layout
 pub mod Listed
+pub mod Answers

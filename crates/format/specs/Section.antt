@@ -3,13 +3,10 @@ use Prim.Native.Nat.{ℕ, _+_, _*_, _/_}
 use mathlib.Core.Bool.{Bool, true, cond}
 use lib.Dec.{leb}
 use Rattle.format.specs.Answer.{Answer, answer, refused}
-use Rattle.format.specs.Refusal.{numberOf}
 use Rattle.format.specs.declared.section.BspFileSection.{BspFileSection}
 use Rattle.format.specs.declared.section.BspData.{BspData}
 use Rattle.format.specs.declared.section.BspFileSectionId.{BspFileSectionId}
 use Rattle.format.specs.declared.section.BspFileSectionId.the-variants.{Entities, Planes, Textures, Vertices, Visibility, RenderNodes, TextureInfo, Faces, Lightmaps, CollisionNodes, Leaves, FaceList, Edges, EdgeList, Models}
-use Rattle.format.specs.declared.section.Place.{Place}
-use Rattle.format.specs.declared.section.Place.the-variants.{At, Refused}
 
 -- the size on disk of one element of a section
 abbrev pub elementSize : BspFileSectionId → ℕ
@@ -78,8 +75,3 @@ place id z n i =
     (cond (withinLimit id (recordCount id z))
     (cond (leb (z .offset + i * elementSize id + elementSize id) n) (answer (z .offset + i * elementSize id)) (refused 23))
     (refused 23))
-
--- what the answers of `place` stand for
-abbrev pub placeAnswer : Place → Answer ℕ
-placeAnswer (At p) = answer p
-placeAnswer (Refused e) = refused (numberOf e)

@@ -4,7 +4,8 @@ ghost use Prim.Native.Nat.{_+_, _*_};
 ghost use mir.Syntax.{w16, w32};
 ghost use mir.Val.{toZ};
 ghost use Rattle.format.specs.Refusal.{numberOf};
-ghost use Rattle.format.specs.Field.{u8At, u16At, u32At, i16At, i32At, f32At, indexAt, u8Step, u16Step, u32Step, i16Step, i32Step, f32Step, indexStep};
+ghost use Rattle.format.specs.Field.{u8At, u16At, u32At, i16At, i32At, f32At, indexAt};
+ghost use Rattle.format.specs.Answers.{u8Step, u16Step, u32Step, i16Step, i32Step, f32Step, indexStep};
 use crate::refusal::Refusal;
 
 pub enum ReadU8 {

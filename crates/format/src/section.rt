@@ -1,6 +1,7 @@
 // The fifteen sections of a file, the sizes and limits of their records, the map record, and where a record lies.
 ghost use mathlib.Core.Path.{_≡_};
 ghost use Rattle.format.specs.Section as Sec;
+ghost use Rattle.format.specs.Answers as Answers;
 use crate::refusal::Refusal;
 
 // Where a section lies in the file, in bytes.
@@ -112,7 +113,7 @@ impl BspFileSection {
 
     // Where the record of an index lies in a file of `len` bytes.
     pub fn place(self, id: BspFileSectionId, len: usize, index: usize) -> Place
-        ensures { λ r. ⌜ Sec.placeAnswer r ≡ Sec.place id self len index ⌝ }
+        ensures { λ r. ⌜ Answers.placeAnswer r ≡ Sec.place id self len index ⌝ }
     {
         let count = self.record_count(id);
         if (count as usize) <= index {

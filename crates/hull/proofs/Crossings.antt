@@ -20,10 +20,11 @@ use Rattle.math.specs.declared.PointIntersection.{PointIntersection as Crossing
 use Rattle.phys.specs.Trace as Tr
 use Rattle.phys.specs.declared.Trace.{Trace as TraceT}
 use Rattle.walk.specs.Table.{Node, Table, childOn}
-use Rattle.walk.specs.Walk.{Outcome, done, refused, held, after}
+use Rattle.walk.specs.Walk.{Outcome, done, refused, held}
+use Rattle.walk.specs.Private.{after}
 use Rattle.walk.specs.Trace.{joined, withFar, stops, nearOf, farOf, afterNear, withNear, recursiveTrace}
 use Rattle.walk.proofs.Steps.{after-done, after-refused}
-use Rattle.records.specs.Plane.{planeAnswer}
+use Rattle.records.specs.Answers.{planeAnswer}
 use Rattle.records.specs.declared.plane.PlaneAnswer.{PlaneAnswer}
 use Rattle.records.specs.declared.plane.PlaneAnswer.the-variants as P
 use Rattle.nodes.specs.Tables.{End}

@@ -12,13 +12,15 @@ use Rattle.format.specs.Section.{recordCount}
 use Rattle.format.specs.declared.refusal.Refusal.{Refusal}
 use Rattle.format.specs.declared.section.BspData.{BspData}
 use Rattle.format.specs.declared.section.BspFileSectionId.the-variants.{CollisionNodes}
-use Rattle.models.specs.Model.{fileModelOf, fileModelAnswer, nodeCounts, leafIdOf, withRest, modelOf}
+use Rattle.models.specs.Model.{fileModelOf, nodeCounts, leafIdOf, withRest, modelOf}
+use Rattle.models.specs.Answers.{fileModelAnswer}
 use Rattle.models.specs.declared.model.BspFileModel.{BspFileModel}
 use Rattle.models.specs.declared.model.BspModel.{BspModel}
 use Rattle.models.specs.declared.model.FileModelAnswer.{FileModelAnswer}
 use Rattle.models.specs.declared.model.FileModelAnswer.the-variants as M
 use Rattle.models.specs.declared.model.PerHull.{PerHull}
-use Rattle.hull.specs.Hull.{hullAnswer, hullOf, ownHull, hull}
+use Rattle.hull.specs.Hull.{hullOf, ownHull, hull}
+use Rattle.hull.specs.Answers.{hullAnswer}
 use Rattle.hull.specs.declared.collision.HullAnswer.{HullAnswer}
 
 pub hull-none : (roots counts : PerHull) (j : ℕ) → 3 ≤ j → Ans.refused 20 ≡ hullOf roots counts j

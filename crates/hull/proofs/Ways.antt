@@ -15,7 +15,8 @@ use Rattle.math.specs.declared.Hyperplane.{Hyperplane}
 use Rattle.phys.specs.Trace as Tr
 use Rattle.phys.specs.declared.Trace.{Trace as TraceT}
 use Rattle.phys.specs.declared.TraceStart.{TraceStart}
-use Rattle.walk.specs.Walk.{Outcome, after}
+use Rattle.walk.specs.Walk.{Outcome}
+use Rattle.walk.specs.Private.{after}
 use Rattle.walk.proofs.Steps.{after-done}
 use Rattle.nodes.specs.declared.table.Tables.{Tables}
 use Rattle.hull.specs.Traces.{planeMet, wentTrace, wayAnswer, endsWith, carriedTo, countedAs, joinParts, joinWay, stopsAt, joinedWith, joinFar}

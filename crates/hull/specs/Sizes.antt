@@ -11,8 +11,7 @@ use Rattle.math.specs.declared.Vector3.{Vector3}
 use Rattle.walk.specs.Tree.{Height}
 use Rattle.walk.specs.TreeCheck as TreeCheck
 use Rattle.walk.specs.TreeCheck.{treeCheck}
-use Rattle.nodes.specs.Tables.{nodesOf}
-use Rattle.nodes.specs.Fast.{isBox}
+use Rattle.nodes.specs.Tables.{nodesOf, isBox}
 use Rattle.tree.specs.Size.{NodeCount}
 use Rattle.hull.specs.Hull as Hull
 use Rattle.hull.specs.Hull.{forBounds, checkHull}

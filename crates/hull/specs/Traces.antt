@@ -1,3 +1,4 @@
+-- For the contracts of functions below the calls; a reader of the calls may leave this file out.
 -- What a trace's answer says, in document 01's terms. The definitions after it are cited by private contracts alone: a trace taken up
 -- again at a crossing, with the nodes entered before.
 use Prim.Native.Nat.{ℕ, suc, _≤_}
@@ -21,13 +22,12 @@ use Rattle.phys.specs.declared.Trace.{Trace as TraceT}
 use Rattle.phys.specs.declared.TraceStart.{TraceStart}
 use Rattle.phys.specs.declared.TraceEnd.{TraceEnd}
 use Rattle.walk.specs.Table.{Child, node, end, Node, Table, childOn}
-use Rattle.walk.specs.Walk.{Outcome, refused, after, meet}
+use Rattle.walk.specs.Walk.{Outcome, refused, meet}
+use Rattle.walk.specs.Private.{after}
 use Rattle.walk.specs.Trace.{recursiveTrace, nearOf, withNear}
 use Rattle.nodes.specs.Fast as Fast
 use Rattle.nodes.specs.declared.table.Tables.{Tables}
 use Rattle.nodes.specs.declared.read.Words.{Words}
-use Rattle.hull.specs.declared.tracing.Traced.{Traced}
-use Rattle.hull.specs.declared.tracing.Traced.the-variants as T
 use Rattle.hull.specs.declared.tracing.Went.{Went}
 use Rattle.hull.specs.declared.tracing.Way.{Way}
 use Rattle.hull.specs.declared.tracing.Way.the-variants as Y
@@ -35,11 +35,6 @@ use Rattle.hull.specs.declared.tracing.MetChild.{MetChild}
 use Rattle.hull.specs.declared.tracing.MetChild.the-variants as M
 use Rattle.hull.specs.declared.tracing.Descent.{Descent}
 use Rattle.hull.specs.declared.tracing.Descent.the-variants as D
-
--- the trace and visits
-abbrev pub tracedAnswer : Traced → Answer (TraceT × ℕ)
-tracedAnswer (T.Trace t v) = answer (t, v)
-tracedAnswer (T.Refused e) = Ans.refused (numberOf e)
 
 -- ---- a trace by numbers alone: where it comes to, with its plane by number
 

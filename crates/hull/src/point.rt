@@ -4,7 +4,7 @@ ghost use Rattle.walk.specs.Walk.{withVisits, pointWalk};
 ghost use Rattle.nodes.specs.Tables.{leafTable};
 ghost use Rattle.nodes.specs.Fast as Fast;
 ghost use Rattle.hull.specs.Hull as Hull;
-ghost use Rattle.hull.specs.Walks as Walks;
+ghost use Rattle.hull.specs.Answers as Answers;
 use crate::collision::BspCollisionHull;
 use format::contents::BspLeafContents;
 use format::refusal::Refusal;
@@ -32,7 +32,7 @@ pub enum FoundLeaf {
 
 // The contents at a point, from a node of a table on.
 fn contents_in(s: &[u8], t: Tables, root: usize, point: Vector3) -> PointContents
-    ensures { λ r. ⌜ Walks.contentsAnswer r ≡ withVisits (pointWalk (Fast.table (now (s .entry)) t) root point) ⌝ }
+    ensures { λ r. ⌜ Answers.contentsAnswer r ≡ withVisits (pointWalk (Fast.table (now (s .entry)) t) root point) ⌝ }
 {
     match walk_to_end(s, t, root, point.x, point.y, point.z) {
         WalkEnd::Refused(e) => PointContents::Refused(e),
@@ -50,7 +50,7 @@ pub fn contents_at_point(
     hull: BspCollisionHull,
     point: Vector3,
 ) -> PointContents
-    ensures { λ r. ⌜ Walks.contentsAnswer r ≡ withVisits (pointWalk (Hull.hullTable (now (s .entry)) map hull) (hull .«node_id») point) ⌝ }
+    ensures { λ r. ⌜ Answers.contentsAnswer r ≡ withVisits (pointWalk (Hull.hullTable (now (s .entry)) map hull) (hull .«node_id») point) ⌝ }
 {
     let table = hull.table;
     contents_in(
@@ -63,7 +63,7 @@ pub fn contents_at_point(
 
 // The leaf that a point is in, from a render node on.
 pub fn find_leaf_from(s: &[u8], map: BspData, root: usize, point: Vector3) -> FoundLeaf
-    ensures { λ r. ⌜ Walks.leafAnswer r ≡ withVisits (pointWalk (leafTable (now (s .entry)) map) root point) ⌝ }
+    ensures { λ r. ⌜ Answers.leafAnswer r ≡ withVisits (pointWalk (leafTable (now (s .entry)) map) root point) ⌝ }
 {
     let t = tables_of(map, HullTable::Render, point, point);
     let leaves = t.leaves;
@@ -81,7 +81,7 @@ pub fn find_leaf_from(s: &[u8], map: BspData, root: usize, point: Vector3) -> Fo
 
 // `find_leaf`: from render node 0.
 pub fn find_leaf(s: &[u8], map: BspData, point: Vector3) -> FoundLeaf
-    ensures { λ r. ⌜ Walks.leafAnswer r ≡ withVisits (pointWalk (leafTable (now (s .entry)) map) 0 point) ⌝ }
+    ensures { λ r. ⌜ Answers.leafAnswer r ≡ withVisits (pointWalk (leafTable (now (s .entry)) map) 0 point) ⌝ }
 {
     find_leaf_from(s, map, 0, point)
 }

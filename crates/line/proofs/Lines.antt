@@ -21,7 +21,7 @@ use Rattle.math.specs.declared.Hyperplane.{Hyperplane}
 use Rattle.math.specs.declared.HyperplaneSide.{HyperplaneSide}
 use Rattle.walk.specs.Table.{Child, Node, Table, childOn}
 use Rattle.walk.specs.Walk.{enter}
-use Rattle.records.specs.Plane.{planeAnswer}
+use Rattle.records.specs.Answers.{planeAnswer}
 use Rattle.records.specs.declared.plane.PlaneAnswer.{PlaneAnswer}
 use Rattle.records.specs.declared.plane.PlaneAnswer.the-variants as P
 use Rattle.nodes.specs.Tables.{End}
@@ -33,7 +33,7 @@ use Rattle.nodes.specs.declared.read.EndContents.{EndContents}
 use Rattle.nodes.specs.declared.read.EndContents.the-variants as E
 use Rattle.nodes.proofs.Entering.{child-node, child-end}
 use Rattle.line.specs.Line.{Went, onward, stopped, refused, nearPart, farPart, pointAt, crossing, into, planeFrom, withPlane, contentsBelow, backOff, intoLeaf, onChild, blocked, beyond, past, across, lineAt, lineFrom}
-use Rattle.line.specs.Answers.{wentOf, Crossed, Comes, Beyond, childAt, contentsBeside, childWent, farWent}
+use Rattle.line.specs.Private.{wentOf, Crossed, Comes, Beyond, childAt, contentsBeside, childWent, farWent}
 use Rattle.line.specs.declared.contents.Ground.{Ground}
 use Rattle.line.specs.declared.state.Stretch.{Stretch}
 use Rattle.line.specs.declared.state.LinePlane.{LinePlane}

@@ -20,7 +20,7 @@ use Rattle.nodes.specs.declared.table.Tables.{Tables}
 use Rattle.nodes.specs.declared.read.Words.{Words as WordsT}
 use Rattle.nodes.proofs.Entering.{child-node, child-end}
 use Rattle.line.specs.Line.{contentsOn, contentsAt, contentsFrom}
-use Rattle.line.specs.Answers.{childAt, contentsBeside}
+use Rattle.line.specs.Private.{childAt, contentsBeside}
 use Rattle.line.proofs.Seen.{Made, Closed, outside, spent, unread}
 
 module _ {E : Type 0} (T : Table E BspLeafContents) (p : Vector3) where

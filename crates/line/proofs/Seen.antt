@@ -17,7 +17,7 @@ use Rattle.math.specs.Plane as Pl
 use Rattle.math.specs.declared.Vector3.{Vector3}
 use Rattle.math.specs.declared.Hyperplane.{Hyperplane}
 use Rattle.math.specs.Vector.{zero32}
-use Rattle.records.specs.Plane.{planeAnswer}
+use Rattle.records.specs.Answers.{planeAnswer}
 use Rattle.records.specs.declared.plane.PlaneAnswer.{PlaneAnswer}
 use Rattle.records.specs.declared.plane.PlaneAnswer.the-variants as P
 use Rattle.walk.specs.Table.{Node, childOn}
@@ -37,7 +37,7 @@ use Rattle.nodes.specs.declared.walking.Onward.{Onward}
 use Rattle.nodes.specs.declared.walking.Onward.the-variants as O
 use Rattle.nodes.specs.Walks.{madeFrom, childByDistance, nodeAndDists, segmentAnswer, onwardAnswer}
 use Rattle.nodes.proofs.Entering.{planed, child-is, enter-not, enter-is, enter-no-plane}
-use Rattle.line.specs.Answers.{nodeFor}
+use Rattle.line.specs.Private.{nodeFor}
 
 -- ---- what the readers say of a node
 

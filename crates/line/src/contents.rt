@@ -4,7 +4,7 @@ ghost use mathlib.Core.Path.{_≡_};
 ghost use Rattle.nodes.specs.Fast as Fast;
 ghost use Rattle.nodes.specs.Walks as Walks;
 ghost use Rattle.line.specs.Line as Line;
-ghost use Rattle.line.specs.Answers as Answers;
+ghost use Rattle.line.specs.Private as Private;
 use format::refusal::Refusal;
 use math::Vector3;
 use nodes::read::Dists;
@@ -55,8 +55,8 @@ pub fn node_at(
     p: &[f32; 3],
     q: &[f32; 3],
 ) -> SegmentAt
-    requires { ⌜ Answers.Lent (now s) (now nodes) (now planes) g ⌝ }
-    ensures { λ r. ⌜ Walks.segmentAnswer (g .t .table) r ≡ Answers.nodeFor (Walks.nodeAndDists (Fast.pointOf (now (p .entry))) (Fast.pointOf (now (q .entry)))) (now (s .entry)) (g .t) index left ⌝ }
+    requires { ⌜ Private.Lent (now s) (now nodes) (now planes) g ⌝ }
+    ensures { λ r. ⌜ Walks.segmentAnswer (g .t .table) r ≡ Private.nodeFor (Walks.nodeAndDists (Fast.pointOf (now (p .entry))) (Fast.pointOf (now (q .entry)))) (now (s .entry)) (g .t) index left ⌝ }
 {
     let t = g.t;
     if (t.nodes.count as usize) <= index {
@@ -95,8 +95,8 @@ fn look_at(
     left: u32,
     point: &[f32; 3],
 ) -> Onward
-    requires { ⌜ Answers.Lent (now s) (now nodes) (now planes) g ⌝ }
-    ensures { λ r. ⌜ Walks.onwardAnswer (g .t .table) r ≡ Answers.nodeFor (Walks.childByDistance (Fast.pointOf (now (point .entry)))) (now (s .entry)) (g .t) index left ⌝ }
+    requires { ⌜ Private.Lent (now s) (now nodes) (now planes) g ⌝ }
+    ensures { λ r. ⌜ Walks.onwardAnswer (g .t .table) r ≡ Private.nodeFor (Walks.childByDistance (Fast.pointOf (now (point .entry)))) (now (s .entry)) (g .t) index left ⌝ }
 {
     let t = g.t;
     if (t.nodes.count as usize) <= index {
@@ -121,7 +121,7 @@ pub fn contents_from(
     top: usize,
     point: Vector3,
 ) -> EndContents
-    requires { ⌜ Answers.Lent (now s) (now nodes) (now planes) g ⌝ }
+    requires { ⌜ Private.Lent (now s) (now nodes) (now planes) g ⌝ }
     ensures { λ r. ⌜ Fast.endAnswer r ≡ Line.contentsFrom (Fast.table (now (s .entry)) (g .t)) 512 top point ⌝ }
 {
     let coordinates = [point.x, point.y, point.z];
@@ -151,8 +151,8 @@ pub fn contents_beside(
     front: bool,
     point: Vector3,
 ) -> EndContents
-    requires { ⌜ Answers.Lent (now s) (now nodes) (now planes) g ⌝ }
-    ensures { λ r. ⌜ Fast.endAnswer r ≡ Answers.contentsBeside (now (s .entry)) (g .t) w front point ⌝ }
+    requires { ⌜ Private.Lent (now s) (now nodes) (now planes) g ⌝ }
+    ensures { λ r. ⌜ Fast.endAnswer r ≡ Private.contentsBeside (now (s .entry)) (g .t) w front point ⌝ }
 {
     let word = w.on(front);
     if word < 32768 {

@@ -7,6 +7,7 @@ ghost use Rattle.nodes.specs.Fast as Fast;
 ghost use Rattle.hull.specs.Hull as Hull;
 ghost use Rattle.line.specs.Line as Line;
 ghost use Rattle.line.specs.Answers as Answers;
+ghost use Rattle.line.specs.Private as Private;
 use crate::contents::Ground;
 use crate::contents::contents_beside;
 use crate::contents::contents_from;
@@ -68,8 +69,8 @@ fn descend(
     calls: u32,
     part: Stretch,
 ) -> Descent
-    requires { ⌜ Answers.Lent (now s) (now nodes) (now planes) g ⌝ }
-    ensures { λ r. ⌜ Answers.Comes (now (s .entry)) (g .t) top calls part r ⌝ }
+    requires { ⌜ Private.Lent (now s) (now nodes) (now planes) g ⌝ }
+    ensures { λ r. ⌜ Private.Comes (now (s .entry)) (g .t) top calls part r ⌝ }
 {
     let start = part.start;
     let end = part.end;
@@ -109,8 +110,8 @@ fn back_off(
     k0: f32,
     line: LineTrace,
 ) -> Going
-    requires { ⌜ Answers.Lent (now s) (now nodes) (now planes) g ⌝ }
-    ensures { λ r. ⌜ Answers.wentOf r ≡ Line.backOff (Fast.table (now (s .entry)) (g .t)) 10 (g .root) part k0 line ⌝ }
+    requires { ⌜ Private.Lent (now s) (now nodes) (now planes) g ⌝ }
+    ensures { λ r. ⌜ Private.wentOf r ≡ Line.backOff (Fast.table (now (s .entry)) (g .t)) 10 (g .root) part k0 line ⌝ }
 {
     let mut k = k0;
     let mut left: u32 = 10;
@@ -146,8 +147,8 @@ fn blocked(
     k: f32,
     line: LineTrace,
 ) -> Going
-    requires { ⌜ Answers.Lent (now s) (now nodes) (now planes) g ⌝ }
-    ensures { λ r. ⌜ ((h : Hyperplane) → Fast.planeIn (now (s .entry)) (g .t) (w .plane) ≡ answer h → Answers.wentOf r ≡ Line.blocked (Fast.table (now (s .entry)) (g .t)) (g .root) h (Pl.sideIf front) part k line) ⌝ }
+    requires { ⌜ Private.Lent (now s) (now nodes) (now planes) g ⌝ }
+    ensures { λ r. ⌜ ((h : Hyperplane) → Fast.planeIn (now (s .entry)) (g .t) (w .plane) ≡ answer h → Private.wentOf r ≡ Line.blocked (Fast.table (now (s .entry)) (g .t)) (g .root) h (Pl.sideIf front) part k line) ⌝ }
 {
     if line.all_solid {
         return Going::Stopped(line);
@@ -178,8 +179,8 @@ fn beyond(
     k: f32,
     line: LineTrace,
 ) -> Far
-    requires { ⌜ Answers.Lent (now s) (now nodes) (now planes) g ⌝ }
-    ensures { λ r. ⌜ Answers.Beyond (now (s .entry)) g w front part k line r ⌝ }
+    requires { ⌜ Private.Lent (now s) (now nodes) (now planes) g ⌝ }
+    ensures { λ r. ⌜ Private.Beyond (now (s .entry)) g w front part k line r ⌝ }
 {
     match contents_beside(s, nodes, planes, g, w, !front, part.point_at(k)) {
         EndContents::Refused(e) => Far::Ended(Going::Refused(e)),
@@ -209,8 +210,8 @@ fn child(
     k: f32,
     line: LineTrace,
 ) -> Going
-    requires { ⌜ Answers.Lent (now s) (now nodes) (now planes) g ⌝ }
-    ensures { λ r. ⌜ Answers.wentOf r ≡ Answers.childWent (now (s .entry)) (g .t) (g .root) left w front (Line.nearPart part k) line ⌝ }
+    requires { ⌜ Private.Lent (now s) (now nodes) (now planes) g ⌝ }
+    ensures { λ r. ⌜ Private.wentOf r ≡ Private.childWent (now (s .entry)) (g .t) (g .root) left w front (Line.nearPart part k) line ⌝ }
 {
     let word = w.on(front);
     if word < 32768 {
@@ -234,8 +235,8 @@ fn line_from(
     all: Stretch,
     before: LineTrace,
 ) -> Going
-    requires { ⌜ Answers.Lent (now s) (now nodes) (now planes) g ⌝ }
-    ensures { λ r. ⌜ Answers.wentOf r ≡ Line.lineFrom (Fast.table (now (s .entry)) (g .t)) (g .root) calls top all before ⌝ }
+    requires { ⌜ Private.Lent (now s) (now nodes) (now planes) g ⌝ }
+    ensures { λ r. ⌜ Private.wentOf r ≡ Line.lineFrom (Fast.table (now (s .entry)) (g .t)) (g .root) calls top all before ⌝ }
 {
     let mut node = top;
     let mut left = calls;

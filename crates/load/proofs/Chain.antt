@@ -8,16 +8,14 @@ use Rattle.format.specs.Refusal.{numberOf}
 use Rattle.format.specs.declared.refusal.Refusal.{Refusal}
 use Rattle.format.proofs.Chain.{go, no}
 use Rattle.format.specs.Answer.{Answer, onRefusal}
-use Rattle.faces.specs.Extents.{surfaceAnswer}
-use Rattle.faces.specs.Face.{faceStep}
+use Rattle.faces.specs.Answers.{surfaceAnswer, faceStep}
 use Rattle.faces.specs.declared.extents.Surface.{Surface}
 use Rattle.faces.specs.declared.extents.SurfaceAnswer.{SurfaceAnswer}
 use Rattle.faces.specs.declared.extents.SurfaceAnswer.the-variants as Sur
 use Rattle.faces.specs.declared.face.BspFace.{BspFace}
 use Rattle.faces.specs.declared.face.ReadFace.{ReadFace}
 use Rattle.faces.specs.declared.face.ReadFace.the-variants as Fac
-use Rattle.records.specs.Node.{renderNodeStep}
-use Rattle.records.specs.Texinfo.{texinfoStep}
+use Rattle.records.specs.Answers.{renderNodeStep, texinfoStep}
 use Rattle.records.specs.declared.node.BspRenderNode.{BspRenderNode}
 use Rattle.records.specs.declared.node.ReadRenderNode.{ReadRenderNode}
 use Rattle.records.specs.declared.node.ReadRenderNode.the-variants as Ren

@@ -4,3 +4,4 @@ pub mod Tested
 pub mod Extents
 pub mod Load
 pub mod Private
+pub mod Answers

@@ -5,7 +5,6 @@ use mathlib.Core.List.{List}
 use Rattle.format.specs.Answer as Answer
 use Rattle.format.specs.Answer.{Answer}
 use Rattle.format.specs.Field.{u16At}
-use Rattle.format.specs.Refusal.{numberOf}
 use Rattle.format.specs.Step.{Step, ok, refused, andThen}
 use Rattle.format.specs.declared.section.BspData.{BspData}
 use Rattle.format.specs.declared.section.BspFileSectionId.the-variants.{Planes, Vertices, RenderNodes, CollisionNodes, Leaves, FaceList, Edges, EdgeList, Models}
@@ -21,8 +20,6 @@ use Rattle.textures.specs.Section as Section
 use Rattle.load.specs.Entities.{entities}
 use Rattle.load.specs.Extents.{faceExtents}
 use Rattle.load.specs.Tested.{texinfos, faces, leafReferences}
-use Rattle.load.specs.declared.Loaded.{Loaded}
-use Rattle.load.specs.declared.Loaded.the-variants as L
 
 -- the map record with its texture count
 abbrev pub counted : BspData → ℕ → BspData
@@ -77,11 +74,3 @@ outcome (refused n) = Answer.refused n
 
 abbrev pub loadOf : List ℕ → Answer BspData
 loadOf s = outcome (loadAt s)
-
--- what an answer stands for
-abbrev pub loadedStep : Loaded → Step BspData
-loadedStep (L.Map m) = ok m 0
-loadedStep (L.Refused e) = refused (numberOf e)
-
-abbrev pub loadedAnswer : Loaded → Answer BspData
-loadedAnswer r = outcome (loadedStep r)

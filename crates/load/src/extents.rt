@@ -1,6 +1,6 @@
 // The extents of the faces.
 ghost use mathlib.Core.Path.{_≡_};
-ghost use Rattle.sections.specs.Position.{positionStep};
+ghost use Rattle.sections.specs.Answers.{positionStep};
 ghost use Rattle.load.specs.Extents.{isBad, extentsAt, faceExtents};
 use faces::extents::SurfaceAnswer;
 use faces::extents::surface_of;

@@ -1,6 +1,7 @@
 // Loads a BSP29 map from the lent bytes of its file.
 ghost use mathlib.Core.Path.{_≡_};
-ghost use Rattle.load.specs.Load.{loadedStep, loadedAnswer, loadOf, counted};
+ghost use Rattle.load.specs.Load.{loadOf, counted};
+ghost use Rattle.load.specs.Answers.{loadedStep, loadedAnswer};
 ghost use Rattle.load.specs.Private.{fromHeader, fromPlanes, fromVertices, fromTexinfo, fromCollisionNodes, fromEdges, fromExtents};
 
 pub mod extents;

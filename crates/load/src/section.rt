@@ -5,7 +5,7 @@ ghost use Rattle.format.specs.declared.section.BspFileSectionId.the-variants as
 ghost use Rattle.records.specs.Edge.{edgeAt, edgeIndexAt};
 ghost use Rattle.records.specs.Plane.{planeAt};
 ghost use Rattle.records.specs.Triple.{vectorAt};
-ghost use Rattle.sections.specs.Position.{positionStep};
+ghost use Rattle.sections.specs.Answers.{positionStep};
 ghost use Rattle.sections.specs.Row as Row;
 ghost use Rattle.load.specs.Entities.{textOf, entities};
 use format::refusal::Refusal;

@@ -4,8 +4,8 @@ ghost use Rattle.format.specs.declared.section.BspFileSectionId.the-variants as
 ghost use Rattle.records.specs.Leaf.{leafAt};
 ghost use Rattle.models.specs.Model.{fileModelAt};
 ghost use Rattle.records.specs.Node.{renderNodeAt, collisionNodeAt};
-ghost use Rattle.records.specs.Texinfo.{texinfoStep};
-ghost use Rattle.sections.specs.Position.{positionStep};
+ghost use Rattle.records.specs.Answers.{texinfoStep};
+ghost use Rattle.sections.specs.Answers.{positionStep};
 ghost use Rattle.sections.specs.Row as Row;
 ghost use Rattle.load.specs.Tested.{textured, texinfos, faces, outside, referencesAt, leafReferences};
 use faces::face::ReadFace;

@@ -1,20 +1,13 @@
+-- For the contracts of functions that no other crate can name; a reader of the calls may leave this file out.
 -- What an answer of `made_up` stands for; and what its parts leave in the buffer, for private contracts.
 use Prim.Native.Nat.{ℕ, _+_}
 use mathlib.Core.List.{List, [], _∷_, _++_}
 use lib.ListN.{length, take, drop}
-use Rattle.format.specs.Answer.{Answer, answer, refused}
-use Rattle.format.specs.Refusal as Refusal
 use Rattle.written.specs.Bytes.{u32}
 use Rattle.made.specs.Map.{numberOf, Side, node, solid, empty}
 use Rattle.made.specs.File.{plane, renderNode, clipNode}
-use Rattle.made.specs.declared.MadeUp.{MadeUp}
-use Rattle.made.specs.declared.MadeUp.the-variants.{Length, Refused}
 use Rattle.made.specs.declared.Part.{Part}
 use Rattle.made.specs.declared.Part.the-variants.{Planes, RenderNodes, ClipNodes}
-
-abbrev pub lengthOf : MadeUp → Answer ℕ
-lengthOf (Length n) = answer n
-lengthOf (Refused e) = refused (Refusal.numberOf e)
 
 -- ---- for private contracts
 

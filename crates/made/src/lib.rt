@@ -9,7 +9,8 @@ ghost use Rattle.format.specs.Listed.{listed, into};
 ghost use Rattle.made.specs.Map.{distanceOf, frontOf, backOf};
 ghost use Rattle.made.specs.Map as Map;
 ghost use Rattle.made.specs.File.{isNodeCount, madeUp, fileOf, mapOf, header};
-ghost use Rattle.made.specs.Writing.{written, wordsOf, sideWord, sizeOf, recordOf, recordOfNode, lengthOf};
+ghost use Rattle.made.specs.Writing.{written, wordsOf, sideWord, sizeOf, recordOf, recordOfNode};
+ghost use Rattle.made.specs.Answers.{lengthOf};
 use format::refusal::Refusal;
 
 // How long the file is, or why none was written.

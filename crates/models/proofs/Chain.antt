@@ -10,7 +10,7 @@ use Rattle.format.specs.declared.refusal.Refusal.{Refusal}
 use Rattle.format.proofs.Chain.{go, no}
 use Rattle.records.specs.Access.{reading}
 use Rattle.records.proofs.Chain.{value, none}
-use Rattle.models.specs.Model.{fileModelStep, boundsStep, rootsStep}
+use Rattle.models.specs.Answers.{fileModelStep, boundsStep, rootsStep}
 use Rattle.models.specs.declared.model.BspFileModel.{BspFileModel}
 use Rattle.models.specs.declared.model.ModelBounds.{ModelBounds}
 use Rattle.models.specs.declared.model.PerHull.{PerHull}

@@ -5,10 +5,9 @@ use mathlib.Core.List.{List}
 use lib.Ieee.{binary32, ofBits}
 use Rattle.math.specs.Vector.{vector, sum, difference}
 use Rattle.math.specs.declared.Vector3.{Vector3}
-use Rattle.format.specs.Step.{Step, ok, refused, andThen}
+use Rattle.format.specs.Step.{Step, ok, andThen}
 use Rattle.format.specs.Answer as Answer
 use Rattle.format.specs.Answer.{Answer, thenAnswer}
-use Rattle.format.specs.Refusal.{numberOf}
 use Rattle.format.specs.Field.{i32At, indexAt}
 use Rattle.format.specs.Section.{recordCount}
 use Rattle.format.specs.declared.section.BspData.{BspData}
@@ -20,18 +19,6 @@ use Rattle.models.specs.declared.model.ModelBounds.{ModelBounds}
 use Rattle.models.specs.declared.model.BspFileModel.{BspFileModel}
 use Rattle.models.specs.declared.model.BspModel.{BspModel}
 use Rattle.models.specs.declared.model.LeafRange.{LeafRange}
-use Rattle.models.specs.declared.model.ReadBounds.{ReadBounds}
-use Rattle.models.specs.declared.model.ReadBounds.the-variants as Bou
-use Rattle.models.specs.declared.model.ReadHullRoots.{ReadHullRoots}
-use Rattle.models.specs.declared.model.ReadHullRoots.the-variants as Roo
-use Rattle.models.specs.declared.model.ReadFileModel.{ReadFileModel}
-use Rattle.models.specs.declared.model.ReadFileModel.the-variants as Mod
-use Rattle.models.specs.declared.model.FileModelAnswer.{FileModelAnswer}
-use Rattle.models.specs.declared.model.FileModelAnswer.the-variants as FileModelA
-use Rattle.models.specs.declared.model.LeafIdAnswer.{LeafIdAnswer}
-use Rattle.models.specs.declared.model.LeafIdAnswer.the-variants as LeafIdA
-use Rattle.models.specs.declared.model.ModelAnswer.{ModelAnswer}
-use Rattle.models.specs.declared.model.ModelAnswer.the-variants as ModelA
 
 abbrev pub ones : Vector3
 ones = vector (ofBits binary32 0x3f80_0000) (ofBits binary32 0x3f80_0000) (ofBits binary32 0x3f80_0000)
@@ -121,28 +108,3 @@ modelOf s m i =
 -- that `modelOf` answers it does not wrap (`Models.no-wrap`).
 abbrev pub leafRange : BspModel → LeafRange
 leafRange b = record { first = b .«leaf_id»; last = (b .«leaf_id» + b .«leaf_count») % 2 ^ 64 }
-
--- what the answers of the readers stand for
-abbrev pub boundsStep : ReadBounds → Step ModelBounds
-boundsStep (Bou.Value x p) = ok x p
-boundsStep Bou.EndOfFile = refused 1
-
-abbrev pub rootsStep : ReadHullRoots → Step PerHull
-rootsStep (Roo.Value x p) = ok x p
-rootsStep (Roo.Refused e) = refused (numberOf e)
-
-abbrev pub fileModelStep : ReadFileModel → Step BspFileModel
-fileModelStep (Mod.Value x p) = ok x p
-fileModelStep (Mod.Refused e) = refused (numberOf e)
-
-abbrev pub fileModelAnswer : FileModelAnswer → Answer BspFileModel
-fileModelAnswer (FileModelA.Value x) = Answer.answer x
-fileModelAnswer (FileModelA.Refused e) = Answer.refused (numberOf e)
-
-abbrev pub leafIdAnswer : LeafIdAnswer → Answer ℕ
-leafIdAnswer (LeafIdA.Value x) = Answer.answer x
-leafIdAnswer (LeafIdA.Refused e) = Answer.refused (numberOf e)
-
-abbrev pub modelAnswer : ModelAnswer → Answer BspModel
-modelAnswer (ModelA.Value x) = Answer.answer x
-modelAnswer (ModelA.Refused e) = Answer.refused (numberOf e)

@@ -5,10 +5,7 @@ use mathlib.Core.List.{List, [], _∷_}
 use lib.Dec.{eqb, leb}
 use lib.ListN.{length, take, drop}
 use Rattle.format.specs.Answer.{Answer, answer, refused}
-use Rattle.format.specs.Refusal.{numberOf}
 use Rattle.format.specs.declared.section.BspData.{BspData}
-use Rattle.models.specs.declared.text.EntitiesAnswer.{EntitiesAnswer}
-use Rattle.models.specs.declared.text.EntitiesAnswer.the-variants.{Value, Refused}
 
 -- how many bytes there are through the first zero, or in all (`read_until`)
 abbrev pub through : List ℕ → ℕ
@@ -42,8 +39,3 @@ partOf s (refused n) = []
 -- the entity text; empty where `entitiesOf` refuses
 abbrev pub entityText : List ℕ → BspData → List ℕ
 entityText s m = partOf s (entitiesOf s m)
-
--- what the answer of `entities` stands for
-abbrev pub entitiesAnswer : EntitiesAnswer → Answer Part
-entitiesAnswer (Value a n) = answer (record { offset = a; size = n })
-entitiesAnswer (Refused e) = refused (numberOf e)

@@ -1,6 +1,7 @@
 // Models.
 ghost use mathlib.Core.Path.{_≡_};
-ghost use Rattle.models.specs.Model.{paddedBounds, boundsAt, boundsStep, rootsAt, rootsStep, fileModelAt, fileModelEndAt, fileModelStep, fileModelOf, fileModelAnswer, leafIdOf, leafIdAnswer, nodeCounts, withRest, modelOf, modelAnswer, leafRange};
+ghost use Rattle.models.specs.Model.{paddedBounds, boundsAt, rootsAt, fileModelAt, fileModelEndAt, fileModelOf, leafIdOf, nodeCounts, withRest, modelOf, leafRange};
+ghost use Rattle.models.specs.Answers.{boundsStep, rootsStep, fileModelStep, fileModelAnswer, leafIdAnswer, modelAnswer};
 use format::field::ReadI32;
 use format::field::ReadIndex;
 use format::field::read_i32;

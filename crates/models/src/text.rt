@@ -1,6 +1,7 @@
 // The entity text, as a part of the lent file.
 ghost use mathlib.Core.Path.{_≡_};
-ghost use Rattle.models.specs.Text.{textEnd, entitiesOf, entitiesAnswer, entityText};
+ghost use Rattle.models.specs.Text.{textEnd, entitiesOf, entityText};
+ghost use Rattle.models.specs.Answers.{entitiesAnswer};
 use format::refusal::Refusal;
 use format::section::BspData;
 

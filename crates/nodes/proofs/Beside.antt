@@ -14,12 +14,14 @@ use Rattle.format.specs.Answer.{Answer, answer}
 use Rattle.format.specs.Refusal.{numberOf}
 use Rattle.format.specs.declared.refusal.Refusal.{Refusal}
 use Rattle.math.specs.declared.Vector3.{Vector3}
-use Rattle.walk.specs.Walk.{after, withVisits, walk, pointWalk}
+use Rattle.walk.specs.Walk.{withVisits, walk, pointWalk}
+use Rattle.walk.specs.Private.{after}
 use Rattle.walk.proofs.Steps.{walk-outside, walk-spent}
 use Rattle.nodes.specs.Tables.{End}
 use Rattle.nodes.specs.Fast.{endOf, table}
 use Rattle.nodes.specs.Walks.{ends, areWhole, madeFrom, childToward, onwardAnswer}
-use Rattle.nodes.specs.Lanes.{landed, both, walkTwo, laneEnd, twoAnswer, rest, counted, ended, Steps}
+use Rattle.nodes.specs.Lanes.{landed, both, walkTwo, laneEnd, rest, counted, ended, Steps}
+use Rattle.nodes.specs.Answers.{twoAnswer}
 use Rattle.nodes.specs.declared.table.Tables.{Tables}
 use Rattle.nodes.specs.declared.lanes.TwoEnds.the-variants as L
 use Rattle.nodes.specs.declared.walking.Onward.{Onward}

@@ -13,8 +13,8 @@ use Rattle.format.specs.Answer.{Answer, answer}
 use Rattle.math.specs.declared.Vector3.{Vector3}
 use Rattle.walk.specs.Table.{Node}
 use Rattle.walk.specs.Walk.{Entered}
-use Rattle.nodes.specs.Tables.{End}
-use Rattle.nodes.specs.Fast.{Within, isRender, fileTable, nodeSize}
+use Rattle.nodes.specs.Tables.{End, fileTable}
+use Rattle.nodes.specs.Fast.{Within, isRender, nodeSize}
 use Rattle.nodes.specs.Walks.{madeFrom, madeAt, madeOf, MadeIn, nodeAndDists, segmentAnswer, segmentFrom}
 use Rattle.nodes.specs.declared.table.HullTable.{HullTable}
 use Rattle.nodes.specs.declared.table.HullTable.the-variants.{Render, Clip, Box}

@@ -21,8 +21,8 @@ use Rattle.math.specs.declared.HyperplaneSide.{HyperplaneSide}
 use Rattle.math.specs.declared.HyperplaneSide.the-variants.{Positive, Negative}
 use Rattle.walk.specs.Table.{Node, childOn}
 use Rattle.walk.specs.Walk.{Entered, withNode, withPlane, enter}
-use Rattle.nodes.specs.Tables.{End}
-use Rattle.nodes.specs.Fast.{Within, isRender, isBox, fileTable, wordsAnswer, nodeOf, childOf, wordOn, nodeHere, nodeSize, ReadsNode, planeHere, planeFor, planeOfIndex, planeIn, sideFrom, sidedAnswer, twoDists, distsFrom, distsAnswer, table, placeIn, planeRead, renderNodeHere, clipNodeHere, nodeIn}
+use Rattle.nodes.specs.Tables.{End, isBox, fileTable}
+use Rattle.nodes.specs.Fast.{Within, isRender, wordsAnswer, nodeOf, childOf, wordOn, nodeHere, nodeSize, ReadsNode, planeHere, planeFor, planeOfIndex, planeIn, sideFrom, sidedAnswer, twoDists, distsFrom, distsAnswer, table, placeIn, planeRead, renderNodeHere, clipNodeHere, nodeIn}
 use Rattle.nodes.specs.Fast as Fast
 use Rattle.nodes.specs.Walks.{madeFrom, madeWith, madeAt, MadeIn, childToward, nodeAndDists, wordAt, areWhole, allBytes, Read}
 use Rattle.nodes.specs.declared.table.HullTable.{HullTable}

@@ -8,7 +8,7 @@ use native.Mathlib.Nat.{mul-le-mul}
 use borrow.Author.Tests.{le-leb, lt-leb, leb-true}
 use lib.Dec.{leb}
 use Rattle.format.specs.Answer.{answer, refused}
-use Rattle.format.specs.Section.{placeAnswer}
+use Rattle.format.specs.Answers.{placeAnswer}
 use Rattle.format.specs.declared.section.Place.{Place}
 use Rattle.format.specs.declared.section.Place.the-variants.{At}
 use Rattle.nodes.specs.Fast.{placeIn}

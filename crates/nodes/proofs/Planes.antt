@@ -21,11 +21,12 @@ use Rattle.math.specs.declared.Hyperplane.{Hyperplane}
 use Rattle.records.specs.Triple.{vectorAt}
 use Rattle.records.specs.Plane.{filePlane, planeAt}
 use Rattle.format.specs.Refusal.{numberOf}
-use Rattle.format.specs.Section.{placeAnswer}
+use Rattle.format.specs.Answers.{placeAnswer}
 use Rattle.format.specs.declared.refusal.Refusal.{Refusal}
 use Rattle.format.specs.declared.section.Place.{Place}
 use Rattle.format.specs.declared.section.Place.the-variants.{At, Refused}
-use Rattle.nodes.specs.Fast.{isBox, u32, f32, along, pointOf, normal, placeIn, planeWith, planeHere, planeRead, planeFor, planeOfIndex, planeIn, boxPlane, twoDists}
+use Rattle.nodes.specs.Fast.{u32, f32, along, pointOf, normal, placeIn, planeWith, planeHere, planeRead, planeFor, planeOfIndex, planeIn, boxPlane, twoDists}
+use Rattle.nodes.specs.Tables.{isBox}
 use Rattle.nodes.specs.declared.table.HullTable.{HullTable}
 use Rattle.nodes.specs.declared.table.HullTable.the-variants.{Render, Clip, Box}
 use Rattle.nodes.specs.declared.table.Tables.{Tables}

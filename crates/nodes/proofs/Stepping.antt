@@ -13,7 +13,8 @@ use Rattle.format.specs.Refusal.{numberOf}
 use Rattle.format.specs.declared.refusal.Refusal.{Refusal}
 use Rattle.math.specs.declared.Vector3.{Vector3}
 use Rattle.walk.specs.Table.{node, end, Table}
-use Rattle.walk.specs.Walk.{held, after, withVisits, Entered, enter, meet, walk}
+use Rattle.walk.specs.Walk.{held, withVisits, Entered, enter, meet, walk}
+use Rattle.walk.specs.Private.{after}
 use Rattle.walk.proofs.Steps.{after-none, walk-unread, walk-node, walk-end}
 use Rattle.nodes.specs.Tables.{End}
 use Rattle.nodes.specs.Fast.{childOf, endOf, table}

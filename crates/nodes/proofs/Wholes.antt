@@ -10,7 +10,8 @@ use borrow.Author.Tests.{lt-ltb, le-ltb, ltb-false, leb-true}
 use lib.Dec.{ltb, leb}
 use lib.ListN.{length, take, drop, length-drop}
 use lib.Seq.{length-take-le}
-use Rattle.nodes.specs.Fast.{Within, isRender, isBox, nodeSize}
+use Rattle.nodes.specs.Fast.{Within, isRender, nodeSize}
+use Rattle.nodes.specs.Tables.{isBox}
 use Rattle.nodes.specs.Walks.{isWhole, areWhole, allBytes, bytesOf}
 use Rattle.nodes.specs.declared.table.Part.{Part}
 use Rattle.nodes.specs.declared.table.Tables.{Tables}

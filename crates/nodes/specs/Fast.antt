@@ -1,3 +1,4 @@
+-- For the contracts of functions below the calls; a reader of the calls may leave this file out.
 -- The same tables as the readers of this crate go by: where the parts lie, and a node as its words in the file. No contract of a call
 -- outside walks and traces cites these; `table` is equal to `tableOf` of Tables.antt (proofs/Equal.antt).
 use Prim.Native.Nat.{ℕ, _+_, _-_, _*_, _/_, _%_, _<_, _≤_}
@@ -7,6 +8,11 @@ use mathlib.Core.List.{List}
 use lib.Dec.{ltb, leb, eqb}
 use lib.ListN.{length, getD}
 use lib.Ieee.{Float, binary32, ofBits, nan}
+use Rattle.math.specs.Vector as Vec
+use Rattle.math.specs.Plane as Pl
+use Rattle.math.specs.declared.Vector3.{Vector3}
+use Rattle.math.specs.declared.Hyperplane.{Hyperplane}
+use Rattle.math.specs.declared.HyperplaneSide.{HyperplaneSide}
 use Rattle.format.specs.Answer.{Answer, answer, refused, mapped, thenAnswer}
 use Rattle.format.specs.Refusal.{numberOf}
 use Rattle.format.specs.Code.{contentsOf}
@@ -15,18 +21,13 @@ use Rattle.format.specs.declared.code.CodedContents.{CodedContents}
 use Rattle.format.specs.declared.code.CodedContents.the-variants.{Contents, Invalid}
 use Rattle.format.specs.declared.section.BspData.{BspData}
 use Rattle.format.specs.declared.section.BspFileSection.{BspFileSection}
-use Rattle.math.specs.Vector as Vec
-use Rattle.math.specs.Plane as Pl
-use Rattle.math.specs.declared.Vector3.{Vector3}
-use Rattle.math.specs.declared.Hyperplane.{Hyperplane}
-use Rattle.math.specs.declared.HyperplaneSide.{HyperplaneSide}
-use Rattle.walk.specs.Table.{Child, node, end, Node, Nodes, Table}
-use Rattle.walk.specs.Walk.{meet}
 use Rattle.records.specs.Access.{reading}
 use Rattle.records.specs.Plane.{planeAt}
 use Rattle.records.specs.Node.{collisionNodeAt, renderNodeAt}
 use Rattle.records.specs.Leaf.{leafAt}
-use Rattle.nodes.specs.Tables.{End, contents, leaf, nothing, nodeWith, clipNode, renderNode, nth, boxNodes, boxPlanes, leafIn, leafContents, leafOfEnd}
+use Rattle.walk.specs.Table.{Child, node, end, Node, Nodes, Table}
+use Rattle.walk.specs.Walk.{meet}
+use Rattle.nodes.specs.Tables.{End, contents, leaf, nothing, nodeWith, clipNode, renderNode, nth, boxNodes, boxPlanes, leafIn, leafContents, leafOfEnd, fileTable}
 use Rattle.nodes.specs.declared.table.HullTable.{HullTable}
 use Rattle.nodes.specs.declared.table.HullTable.the-variants.{Render, Clip, Box}
 use Rattle.nodes.specs.declared.table.Part.{Part}
@@ -47,16 +48,6 @@ abbrev pub isRender : HullTable → Bool
 isRender Render = true
 isRender Clip = false
 isRender Box = false
-
-abbrev pub isBox : HullTable → Bool
-isBox Render = false
-isBox Clip = false
-isBox Box = true
-
--- the table of the file's nodes, render nodes or clip nodes
-abbrev pub fileTable : Bool → HullTable
-fileTable true = Render
-fileTable false = Clip
 
 -- ---- bytes
 

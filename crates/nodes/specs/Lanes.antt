@@ -7,15 +7,14 @@ use lib.Dec.{ltb, leb}
 use lib.ListN.{length}
 use Rattle.format.specs.Answer.{Answer, answer, refused}
 use Rattle.math.specs.declared.Vector3.{Vector3}
-use Rattle.walk.specs.Walk.{after, withVisits, walk, pointWalk}
+use Rattle.walk.specs.Walk.{withVisits, walk, pointWalk}
+use Rattle.walk.specs.Private.{after}
 use Rattle.nodes.specs.Tables.{End}
 use Rattle.nodes.specs.Fast.{isRender, endOf, table}
 use Rattle.nodes.specs.Walks.{ends, areWhole, Read}
 use Rattle.nodes.specs.declared.table.HullTable.{HullTable}
 use Rattle.nodes.specs.declared.table.Tables.{Tables}
 use Rattle.nodes.specs.declared.lanes.Lane.{Lane}
-use Rattle.nodes.specs.declared.lanes.TwoEnds.{TwoEnds}
-use Rattle.nodes.specs.declared.lanes.TwoEnds.the-variants as L
 
 -- the end that a point comes to from the child of a word, and its visits: none where the child is an end
 unfoldable pub landed : List ℕ → Tables → Vector3 → ℕ → Answer (End × ℕ)
@@ -33,10 +32,6 @@ walkTwo s t v w p q = cond (areWhole t (length s)) (both (landed s t p v) (lande
 
 abbrev pub laneEnd : HullTable → Lane → End × ℕ
 laneEnd t l = (endOf t (l .word), l .visits)
-
-abbrev pub twoAnswer : HullTable → TwoEnds → Answer ((End × ℕ) × (End × ℕ))
-twoAnswer t (L.Ends a b) = answer (laneEnd t a, laneEnd t b)
-twoAnswer t L.Nothing = refused 0
 
 -- ---- for private contracts
 

@@ -4,3 +4,4 @@ pub mod Fast
 pub mod Walks
 pub mod Numbered
 pub mod Lanes
+pub mod Answers

@@ -1,3 +1,4 @@
+-- For the contracts of functions below the calls; a reader of the calls may leave this file out.
 -- Planes by their number, as the readers of `numbered.rt` go by them: from the bytes of those that can be read. Contracts of `ordered` that
 -- another crate cannot name cite these; the planes are those of Tables.antt (`numbered-is` in proofs/Numbering.antt).
 use Prim.Native.Nat.{ℕ, _+_, _*_, _/_}

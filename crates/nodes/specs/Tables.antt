@@ -1,19 +1,18 @@
 -- The node tables that walks, traces and the tree check go down: render nodes, clip nodes, and the six nodes of a box.
 -- Records are read as the accessors read them: 23 where one cannot be read. (Their 20 does not show: an index is tested before, with 30.)
 use Prim.Native.Nat.{ℕ, zero, suc}
-use mathlib.Core.Bool.{Bool, true}
+use mathlib.Core.Bool.{Bool, true, false}
 use mathlib.Core.List.{List, [], _∷_}
 use lib.Dec.{ltb}
+use Rattle.math.specs.Plane.{axisX, axisY, axisZ}
+use Rattle.math.specs.declared.Vector3.{Vector3}
+use Rattle.math.specs.declared.Hyperplane.{Hyperplane}
 use Rattle.format.specs.Answer.{Answer, answer, refused, mapped}
 use Rattle.format.specs.Section.{recordCount}
 use Rattle.format.specs.declared.contents.BspLeafContents.{BspLeafContents}
 use Rattle.format.specs.declared.contents.BspLeafContents.the-variants.{Empty, Solid}
 use Rattle.format.specs.declared.section.BspData.{BspData}
 use Rattle.format.specs.declared.section.BspFileSectionId.the-variants.{Planes, RenderNodes, CollisionNodes, Leaves}
-use Rattle.math.specs.Plane.{axisX, axisY, axisZ}
-use Rattle.math.specs.declared.Vector3.{Vector3}
-use Rattle.math.specs.declared.Hyperplane.{Hyperplane}
-use Rattle.walk.specs.Table.{Child, node, end, Node, Nodes, Table}
 use Rattle.records.specs.Plane.{planeOf}
 use Rattle.records.specs.Node.{collisionNodeOf, renderNodeOf}
 use Rattle.records.specs.Leaf.{leafOf}
@@ -24,6 +23,7 @@ use Rattle.records.specs.declared.node.BspRenderNodeChild.{BspRenderNodeChild}
 use Rattle.records.specs.declared.node.BspRenderNodeChild.the-variants as R
 use Rattle.records.specs.declared.node.BspRenderNode.{BspRenderNode}
 use Rattle.records.specs.declared.leaf.BspLeaf.{BspLeaf}
+use Rattle.walk.specs.Table.{Child, node, end, Node, Nodes, Table}
 use Rattle.nodes.specs.declared.table.HullTable.{HullTable}
 use Rattle.nodes.specs.declared.table.HullTable.the-variants.{Render, Clip, Box}
 
@@ -142,3 +142,13 @@ leafOfEnd nothing = refused 30
 -- `find_leaf`
 unfoldable pub leafTable : List ℕ → BspData → Table End ℕ
 leafTable s m = record { nodes = nodesOf s m Render; planeAt = planeOf s m; leafAt = leafOfEnd }
+
+abbrev pub isBox : HullTable → Bool
+isBox Render = false
+isBox Clip = false
+isBox Box = true
+
+-- the table of the file's nodes, render nodes or clip nodes
+abbrev pub fileTable : Bool → HullTable
+fileTable true = Render
+fileTable false = Clip

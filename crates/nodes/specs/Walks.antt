@@ -1,3 +1,4 @@
+-- For the contracts of functions below the calls; a reader of the calls may leave this file out.
 -- The walk of a point to an end (`walk_to_end`), and what a trace sees at a node (`segment_from`): both make something of a node and its
 -- plane. Then the bytes of the nodes and the planes, where the file has all of them (`are_whole`, `node_bytes`, `plane_bytes`).
 use Prim.Native.Nat.{ℕ, _+_, _*_, _/_}
@@ -15,8 +16,8 @@ use Rattle.math.specs.declared.HyperplaneSide.{HyperplaneSide}
 use Rattle.math.specs.declared.HyperplaneSide.the-variants.{Positive, Negative}
 use Rattle.walk.specs.Table.{Child, Node, Table, childOn}
 use Rattle.walk.specs.Walk.{Entered, enter}
-use Rattle.nodes.specs.Tables.{End}
-use Rattle.nodes.specs.Fast.{Within, isRender, isBox, fileTable, childOf, endOf, nodeOf, wordOn, nodeHere, nodeSize, planeHere, twoDists, table}
+use Rattle.nodes.specs.Tables.{End, isBox, fileTable}
+use Rattle.nodes.specs.Fast.{Within, isRender, childOf, endOf, nodeOf, wordOn, nodeHere, nodeSize, planeHere, twoDists, table}
 use Rattle.nodes.specs.declared.table.HullTable.{HullTable}
 use Rattle.nodes.specs.declared.table.Part.{Part}
 use Rattle.nodes.specs.declared.table.Tables.{Tables}

@@ -7,8 +7,10 @@ ghost use lib.ListN.{length};
 ghost use Rattle.math.specs.Vector as Vec;
 ghost use Rattle.math.specs.Plane as Pl;
 ghost use Rattle.nodes.specs.Fast as Fast;
+ghost use Rattle.nodes.specs.Tables as Spec;
 ghost use Rattle.nodes.specs.Walks as Walks;
 ghost use Rattle.nodes.specs.Lanes as Lanes;
+ghost use Rattle.nodes.specs.Answers as Answers;
 use crate::bytes::f32_at;
 use crate::bytes::u32_at;
 use crate::here::clip_words;
@@ -66,7 +68,7 @@ fn words_beside(nodes: &[u8], render: bool, index: usize) -> ReadWords
 // The child's word that the point goes on to, from the bytes of the two sections.
 fn onward_beside(nodes: &[u8], planes: &[u8], render: bool, index: usize, point: Vector3) -> Onward
     requires { ⌜ index * Fast.nodeSize render + Fast.nodeSize render ≤ length (now nodes) ⌝ }
-    ensures { λ r. ⌜ Walks.MadeIn (Walks.childToward point) render (now (nodes .entry)) (now (planes .entry)) (index * Fast.nodeSize render) (Walks.onwardAnswer (Fast.fileTable render) r) ⌝ }
+    ensures { λ r. ⌜ Walks.MadeIn (Walks.childToward point) render (now (nodes .entry)) (now (planes .entry)) (index * Fast.nodeSize render) (Walks.onwardAnswer (Spec.fileTable render) r) ⌝ }
 {
     match words_beside(nodes, render, index) {
         ReadWords::Refused(e) => Onward::Refused(e),
@@ -130,7 +132,7 @@ fn ended(a: u32, b: u32) -> bool
 
 // Two walks, from the words of two children, to their ends.
 pub fn walk_two(s: &[u8], t: Tables, first: u16, second: u16, p: Vector3, q: Vector3) -> TwoEnds
-    ensures { λ r. ⌜ Lanes.twoAnswer (t .table) r ≡ Lanes.walkTwo (now (s .entry)) t first second p q ⌝ }
+    ensures { λ r. ⌜ Answers.twoAnswer (t .table) r ≡ Lanes.walkTwo (now (s .entry)) t first second p q ⌝ }
 {
     let whole = are_whole(t, s.len());
     if !whole {

@@ -3,7 +3,7 @@
 ghost use mathlib.Core.Path.{_≡_};
 ghost use mathlib.Core.Bool.{cond};
 ghost use Prim.Native.Nat.{_/_, min};
-ghost use Rattle.records.specs.Plane.{planeAnswer};
+ghost use Rattle.records.specs.Answers.{planeAnswer};
 ghost use Rattle.nodes.specs.Fast as Fast;
 ghost use Rattle.nodes.specs.Numbered as Numbered;
 use crate::bytes::f32_at;

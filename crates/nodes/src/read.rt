@@ -1,8 +1,9 @@
 // What a walk or a trace reads of a node, of its plane and of an end.
 ghost use mathlib.Core.Path.{_≡_};
 ghost use Rattle.math.specs.Plane as Pl;
-ghost use Rattle.records.specs.Plane.{planeAnswer};
+ghost use Rattle.records.specs.Answers.{planeAnswer};
 ghost use Rattle.nodes.specs.Fast as Fast;
+ghost use Rattle.nodes.specs.Tables as Spec;
 use crate::here::clip_words;
 use crate::here::leaf_contents;
 use crate::here::plane_here;
@@ -97,7 +98,7 @@ fn box_words(index: usize) -> ReadWords
 
 // The words of a node of the file: a render node or a clip node.
 fn file_words(s: &[u8], nodes: Part, render: bool, index: usize) -> ReadWords
-    ensures { λ r. ⌜ Fast.wordsAnswer (Fast.fileTable render) r ≡ Fast.nodeIn (Fast.fileTable render) (now (s .entry)) nodes index ⌝ }
+    ensures { λ r. ⌜ Fast.wordsAnswer (Spec.fileTable render) r ≡ Fast.nodeIn (Spec.fileTable render) (now (s .entry)) nodes index ⌝ }
 {
     if (nodes.count as usize) <= index {
         return ReadWords::Refused(Refusal::NoSuchRecord);

@@ -1,7 +1,8 @@
 // Which nodes a hull goes by, and where they lie in the file.
 ghost use mathlib.Core.Path.{_≡_};
 ghost use Rattle.nodes.specs.Fast as Fast;
-ghost use Rattle.format.specs.Section.{placeAnswer};
+ghost use Rattle.nodes.specs.Tables as Spec;
+ghost use Rattle.format.specs.Answers.{placeAnswer};
 use format::refusal::Refusal;
 use format::section::BspData;
 use format::section::BspFileSection;
@@ -27,7 +28,7 @@ impl HullTable {
     }
 
     pub fn is_box(self) -> bool
-        ensures { λ r. ⌜ r ≡ Fast.isBox self ⌝ }
+        ensures { λ r. ⌜ r ≡ Spec.isBox self ⌝ }
     {
         match self {
             HullTable::Render => false,

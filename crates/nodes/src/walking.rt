@@ -8,6 +8,7 @@ ghost use Rattle.math.specs.Vector as Vec;
 ghost use Rattle.math.specs.Plane as Pl;
 ghost use Rattle.walk.specs.Walk.{withVisits, pointWalk};
 ghost use Rattle.nodes.specs.Fast as Fast;
+ghost use Rattle.nodes.specs.Tables as Spec;
 ghost use Rattle.nodes.specs.Walks as Walks;
 use crate::bytes::f32_at;
 use crate::bytes::u32_at;
@@ -77,7 +78,7 @@ fn words_in(nodes: &[u8], render: bool, index: usize) -> ReadWords
 // The child's word that the point goes on to, from the bytes of the two sections.
 fn onward_in(nodes: &[u8], planes: &[u8], render: bool, index: usize, point: Vector3) -> Onward
     requires { ⌜ index * Fast.nodeSize render + Fast.nodeSize render ≤ length (now nodes) ⌝ }
-    ensures { λ r. ⌜ Walks.MadeIn (Walks.childToward point) render (now (nodes .entry)) (now (planes .entry)) (index * Fast.nodeSize render) (Walks.onwardAnswer (Fast.fileTable render) r) ⌝ }
+    ensures { λ r. ⌜ Walks.MadeIn (Walks.childToward point) render (now (nodes .entry)) (now (planes .entry)) (index * Fast.nodeSize render) (Walks.onwardAnswer (Spec.fileTable render) r) ⌝ }
 {
     match words_in(nodes, render, index) {
         ReadWords::Refused(e) => Onward::Refused(e),
@@ -204,7 +205,7 @@ fn segment_in(
     q: Vector3,
 ) -> SegmentAt
     requires { ⌜ index * Fast.nodeSize render + Fast.nodeSize render ≤ length (now nodes) ⌝ }
-    ensures { λ r. ⌜ Walks.MadeIn (Walks.nodeAndDists p q) render (now (nodes .entry)) (now (planes .entry)) (index * Fast.nodeSize render) (Walks.segmentAnswer (Fast.fileTable render) r) ⌝ }
+    ensures { λ r. ⌜ Walks.MadeIn (Walks.nodeAndDists p q) render (now (nodes .entry)) (now (planes .entry)) (index * Fast.nodeSize render) (Walks.segmentAnswer (Spec.fileTable render) r) ⌝ }
 {
     match words_in(nodes, render, index) {
         ReadWords::Refused(e) => SegmentAt::Refused(e),
@@ -279,7 +280,7 @@ fn ends_at(
     q: &[f32; 3],
 ) -> SegmentAt
     requires { ⌜ index * Fast.nodeSize render + Fast.nodeSize render ≤ length (now nodes) ⌝ }
-    ensures { λ r. ⌜ Walks.MadeIn (Walks.nodeAndDists (Fast.pointOf (now (p .entry))) (Fast.pointOf (now (q .entry)))) render (now (nodes .entry)) (now (planes .entry)) (index * Fast.nodeSize render) (Walks.segmentAnswer (Fast.fileTable render) r) ⌝ }
+    ensures { λ r. ⌜ Walks.MadeIn (Walks.nodeAndDists (Fast.pointOf (now (p .entry))) (Fast.pointOf (now (q .entry)))) render (now (nodes .entry)) (now (planes .entry)) (index * Fast.nodeSize render) (Walks.segmentAnswer (Spec.fileTable render) r) ⌝ }
 {
     match words_in(nodes, render, index) {
         ReadWords::Refused(e) => SegmentAt::Refused(e),
@@ -329,7 +330,7 @@ fn word_by_distance(planes: &[u8], at: usize, words: Words, point: &[f32; 3]) ->
 // That word at a node.
 fn look_at(nodes: &[u8], planes: &[u8], render: bool, index: usize, point: &[f32; 3]) -> Onward
     requires { ⌜ index * Fast.nodeSize render + Fast.nodeSize render ≤ length (now nodes) ⌝ }
-    ensures { λ r. ⌜ Walks.MadeIn (Walks.childByDistance (Fast.pointOf (now (point .entry)))) render (now (nodes .entry)) (now (planes .entry)) (index * Fast.nodeSize render) (Walks.onwardAnswer (Fast.fileTable render) r) ⌝ }
+    ensures { λ r. ⌜ Walks.MadeIn (Walks.childByDistance (Fast.pointOf (now (point .entry)))) render (now (nodes .entry)) (now (planes .entry)) (index * Fast.nodeSize render) (Walks.onwardAnswer (Spec.fileTable render) r) ⌝ }
 {
     match words_in(nodes, render, index) {
         ReadWords::Refused(e) => Onward::Refused(e),

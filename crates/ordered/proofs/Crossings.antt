@@ -20,15 +20,17 @@ use Rattle.math.specs.declared.PointIntersection.{PointIntersection as Crossing
 use Rattle.phys.specs.Trace as Tr
 use Rattle.phys.specs.declared.Trace.{Trace as TraceT}
 use Rattle.walk.specs.Table.{Child, Table, childOn}
-use Rattle.walk.specs.Walk.{Outcome, done, refused, held, after, meet, onto}
+use Rattle.walk.specs.Walk.{Outcome, done, refused, held, meet, onto}
+use Rattle.walk.specs.Private.{after}
 use Rattle.walk.specs.Trace.{joined, withFar, stops, nearOf, farOf, afterNear, withNear, recursiveTrace}
 use Rattle.walk.specs.Ordered.{Row}
 use Rattle.walk.proofs.Steps.{after-done, after-refused}
-use Rattle.records.specs.Plane.{planeAnswer}
+use Rattle.records.specs.Answers.{planeAnswer}
 use Rattle.records.specs.declared.plane.PlaneAnswer.{PlaneAnswer}
 use Rattle.records.specs.declared.plane.PlaneAnswer.the-variants as P
 use Rattle.nodes.specs.Numbered.{planeNumbered}
-use Rattle.hull.specs.Traces.{withinLeaf, outOfLeaf, stopsAt, joinedWith, joinFar, tracedAnswer, crossedAt}
+use Rattle.hull.specs.Traces.{withinLeaf, outOfLeaf, stopsAt, joinedWith, joinFar, crossedAt}
+use Rattle.hull.specs.Answers.{tracedAnswer}
 use Rattle.hull.specs.declared.tracing.Traced.{Traced}
 use Rattle.hull.specs.declared.tracing.Traced.the-variants as T
 use Rattle.ordered.specs.Rows.{rowOf, rows, metChild, resumed}

@@ -24,7 +24,8 @@ use Rattle.math.specs.declared.LinePlaneIntersect.{LinePlaneIntersect}
 use Rattle.math.specs.declared.LinePlaneIntersect.the-variants.{NoIntersection, PointIntersection}
 use Rattle.phys.specs.declared.Trace.{Trace as TraceT}
 use Rattle.walk.specs.Table.{Child, Table, childOn}
-use Rattle.walk.specs.Walk.{Outcome, held, after, Entered, enter, meet, onto}
+use Rattle.walk.specs.Walk.{Outcome, held, Entered, enter, meet, onto}
+use Rattle.walk.specs.Private.{after}
 use Rattle.walk.specs.Trace.{across, traceAt, recursiveTrace}
 use Rattle.walk.specs.Ordered.{Row}
 use Rattle.walk.proofs.Steps.{after-one, after-held, trace-unread}

@@ -1,2 +1,3 @@
 -- What the contracts of `phys` cite.
 pub mod Trace
+pub mod Answers

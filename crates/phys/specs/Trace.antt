@@ -6,7 +6,6 @@ use Rattle.math.specs.Vector as Vec
 use Rattle.math.specs.declared.Vector3.{Vector3}
 use Rattle.math.specs.declared.Hyperplane.{Hyperplane}
 use Rattle.format.specs.Answer.{Answer, answer, refused}
-use Rattle.format.specs.Refusal.{numberOf}
 use Rattle.format.specs.Contents as Contents
 use Rattle.format.specs.declared.contents.BspLeafContents.{BspLeafContents}
 use Rattle.format.specs.declared.contents.BspLeafContents.the-variants.{Empty, Solid}
@@ -15,8 +14,6 @@ use Rattle.phys.specs.declared.TraceEndKind.{TraceEndKind}
 use Rattle.phys.specs.declared.TraceEndKind.the-variants.{Terminal, Boundary}
 use Rattle.phys.specs.declared.TraceEnd.{TraceEnd}
 use Rattle.phys.specs.declared.Trace.{Trace as TraceT}
-use Rattle.phys.specs.declared.Joined.{Joined}
-use Rattle.phys.specs.declared.Joined.the-variants.{Trace, Refused}
 
 -- `TraceStart::new`
 abbrev pub start : Vector3 → Float → TraceStart
@@ -63,11 +60,6 @@ unfoldable pub join : TraceT → TraceT → Answer TraceT
 join t u =
     cond (isTerminal t) (refused 19)
     (cond (Vec.same (t .end .point) (u .start .point)) (answer (joinMet t u)) (refused 19))
-
--- what the call `join` says, in document 01's terms
-abbrev pub joinedOf : Joined → Answer TraceT
-joinedOf (Trace t) = answer t
-joinedOf (Refused e) = refused (numberOf e)
 
 -- `adjust`: start and end moved by an offset
 abbrev pub adjust : TraceT → Vector3 → TraceT

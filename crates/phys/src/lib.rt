@@ -2,6 +2,7 @@
 // value.
 ghost use mathlib.Core.Path.{_≡_};
 ghost use Rattle.phys.specs.Trace as Tr;
+ghost use Rattle.phys.specs.Answers as Answers;
 use format::contents::BspLeafContents;
 use format::refusal::Refusal;
 use math::Hyperplane;
@@ -89,7 +90,7 @@ impl Trace {
     // This trace with another that starts at its end. Refused (19) after a terminal trace, and where the points differ; a
     // NaN always differs.
     pub fn join(self, other: Trace) -> Joined
-        ensures { λ r. ⌜ Tr.joinedOf r ≡ Tr.join self other ⌝ }
+        ensures { λ r. ⌜ Answers.joinedOf r ≡ Tr.join self other ⌝ }
     {
         let end = self.end;
         let kind = end.kind;

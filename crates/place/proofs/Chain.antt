@@ -2,15 +2,14 @@
 -- Assumes nothing.
 use Prim.Native.Nat.{ℕ}
 use mathlib.Core.Path.{_≡_, sym, ap, _∙_}
-use Rattle.format.specs.Field.{indexStep}
+use Rattle.format.specs.Answers.{indexStep}
 use Rattle.format.specs.Refusal.{numberOf}
 use Rattle.format.specs.Step.{Step, ok, refused}
 use Rattle.format.specs.declared.field.ReadIndex.{ReadIndex}
 use Rattle.format.specs.declared.field.ReadIndex.the-variants as Idx
 use Rattle.format.specs.declared.refusal.Refusal.{Refusal}
 use Rattle.format.specs.declared.section.BspData.{BspData}
-use Rattle.sections.specs.Position.{positionStep}
-use Rattle.sections.specs.Table.{tableStep}
+use Rattle.sections.specs.Answers.{positionStep, tableStep}
 use Rattle.sections.specs.declared.position.Position.{Position}
 use Rattle.sections.specs.declared.position.Position.the-variants as Pos
 use Rattle.sections.specs.declared.table.ReadTable.{ReadTable}

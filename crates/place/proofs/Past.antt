@@ -9,7 +9,7 @@ use native.Mathlib.Omega.{arith}
 use borrow.Author.Tests.{lt-ltb, le-ltb}
 use lib.IntN.{ℤ}
 use lib.ListN.{length}
-use Rattle.format.specs.Field.{i32Step, indexStep}
+use Rattle.format.specs.Answers.{i32Step, indexStep}
 use Rattle.format.specs.Section.{recordCount, sectionOf}
 use Rattle.format.specs.Step.{Step, ok, refused}
 use Rattle.format.specs.declared.field.ReadI32.{ReadI32}
@@ -20,7 +20,8 @@ use Rattle.format.specs.declared.refusal.Refusal.{Refusal}
 use Rattle.format.specs.declared.section.BspData.{BspData}
 use Rattle.format.specs.declared.section.BspFileSection.{BspFileSection}
 use Rattle.format.specs.declared.section.BspFileSectionId.{BspFileSectionId}
-use Rattle.records.specs.Number.{offsetStep, offsetAt}
+use Rattle.records.specs.Number.{offsetAt}
+use Rattle.records.specs.Answers.{offsetStep}
 use Rattle.records.specs.declared.number.OptionalOffset.{OptionalOffset}
 use Rattle.records.specs.declared.number.OptionalOffset.the-variants.{None, Some}
 use Rattle.records.specs.declared.number.ReadOffset.{ReadOffset}

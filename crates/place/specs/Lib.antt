@@ -4,3 +4,4 @@ pub mod Part
 pub mod Place
 pub mod Private
 pub mod EveryFile
+pub mod Answers

@@ -9,7 +9,6 @@ use lib.Dec.{ltb}
 use lib.IntN.{ℤ}
 use lib.ListN.{length}
 use Rattle.format.specs.Field.{u16At, i32At}
-use Rattle.format.specs.Refusal.{numberOf}
 use Rattle.format.specs.Step.{Step, ok, refused}
 use Rattle.format.specs.declared.section.BspData.{BspData}
 use Rattle.format.specs.declared.section.BspFileSection.{BspFileSection}
@@ -34,8 +33,6 @@ use Rattle.place.specs.Part.{stopIn}
 use Rattle.place.specs.Stop.{stop, hereOr}
 use Rattle.place.specs.declared.part.Part.the-variants as Part
 use Rattle.place.specs.declared.part.Stop.{Stop}
-use Rattle.place.specs.declared.LoadPlace.{LoadPlace}
-use Rattle.place.specs.declared.LoadPlace.the-variants as L
 
 -- the file loads, or it is refused with a number, in a section, at a record and a byte
 pub data Located : Type 0 where
@@ -126,8 +123,3 @@ placeOf s =
     located (leafReferences s map) 5 (stopIn Part.References s map) (λ u.
     located (section fileModelAt Id.Models s (map .models)) 14 (stopIn Part.Models s map) (λ u.
     loads)))))))))))))))))))
-
--- what an answer stands for
-abbrev pub placeAnswer : LoadPlace → Located
-placeAnswer L.Loads = loads
-placeAnswer (L.Refused e z here) = refusedAt (numberOf e) z here

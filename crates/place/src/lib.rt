@@ -2,7 +2,7 @@
 ghost use mathlib.Core.Path.{_≡_};
 ghost use Rattle.place.specs.Place as Spec;
 ghost use Rattle.place.specs.Private as Parts;
-ghost use Rattle.place.specs.Place.{placeAnswer};
+ghost use Rattle.place.specs.Answers.{placeAnswer};
 
 pub mod part;
 mod read;

@@ -1,6 +1,6 @@
 // Where reading the records of a part of loading stops.
 ghost use mathlib.Core.Path.{_≡_};
-ghost use Rattle.sections.specs.Position.{positionStep};
+ghost use Rattle.sections.specs.Answers.{positionStep};
 ghost use Rattle.place.specs.Part as Spec;
 use crate::read::limit_of;
 use crate::read::past_clip_node;

@@ -6,7 +6,7 @@ ghost use Rattle.models.specs.Model.{fileModelAt};
 ghost use Rattle.records.specs.Leaf.{leafAt};
 ghost use Rattle.records.specs.Node.{renderNodeAt, collisionNodeAt};
 ghost use Rattle.records.specs.Number.{offsetAt};
-ghost use Rattle.sections.specs.Position.{positionStep};
+ghost use Rattle.sections.specs.Answers.{positionStep};
 ghost use Rattle.sections.specs.Table.{sectionAt};
 ghost use Rattle.place.specs.Part as Spec;
 ghost use Rattle.place.specs.declared.part.Part.the-variants as Of;

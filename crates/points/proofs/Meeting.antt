@@ -18,7 +18,7 @@ use Rattle.math.specs.declared.Hyperplane.{Hyperplane}
 use Rattle.math.specs.declared.HyperplaneSide.{HyperplaneSide}
 use Rattle.walk.specs.Table.{Child, node, end}
 use Rattle.walk.specs.Walk.{Entered, enter, meet}
-use Rattle.records.specs.Plane.{planeAnswer}
+use Rattle.records.specs.Answers.{planeAnswer}
 use Rattle.records.specs.declared.plane.PlaneAnswer.{PlaneAnswer}
 use Rattle.records.specs.declared.plane.PlaneAnswer.the-variants as PA
 use Rattle.nodes.specs.Tables.{End}

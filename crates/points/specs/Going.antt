@@ -1,3 +1,4 @@
+-- For the contracts of functions that no other crate can name; a reader of the calls may leave this file out.
 -- For private contracts: a group of points on its way down.
 use Prim.Native.Nat.{ℕ, zero, suc, _+_, _*_, _<_, _≤_, _-_, _/_}
 use mathlib.Core.Path.{_≡_}

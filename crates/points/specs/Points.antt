@@ -8,14 +8,11 @@ use lib.ListN.{length, drop}
 use Rattle.format.specs.Answer.{Answer, answer, refused, mapped}
 use Rattle.format.specs.Contents.{codeOf}
 use Rattle.format.specs.Listed.{Listed, listed}
-use Rattle.format.specs.Refusal.{numberOf}
 use Rattle.format.specs.declared.contents.BspLeafContents.{BspLeafContents}
 use Rattle.math.specs.Vector.{vector}
 use Rattle.math.specs.declared.Vector3.{Vector3}
 use Rattle.walk.specs.Table.{Table}
 use Rattle.ways.specs.Ways.{answers, reads}
-use Rattle.points.specs.declared.many.PointsAnswer.{PointsAnswer}
-use Rattle.points.specs.declared.many.PointsAnswer.the-variants as P
 
 -- the points of coordinates in threes
 abbrev pub pointsOf : List Float → List Vector3
@@ -47,7 +44,3 @@ contentsOfPoints T root cs lent =
     cond (notPoints cs) (listed (refused 24) lent)
     (cond (ltb (length lent) (length (pointsOf cs))) (listed (refused 22) lent)
     (answered T root cs lent))
-
-abbrev pub pointsAnswer : PointsAnswer → Answer ℕ
-pointsAnswer (P.Reads n) = answer n
-pointsAnswer (P.Refused e) = refused (numberOf e)

@@ -6,8 +6,9 @@ ghost use Rattle.format.specs.Listed.{listed};
 ghost use Rattle.walk.specs.Walk.{withVisits, pointWalk};
 ghost use Rattle.nodes.specs.Fast as Fast;
 ghost use Rattle.hull.specs.Hull.{hullTable};
-ghost use Rattle.hull.specs.Walks as Walks;
+ghost use Rattle.hull.specs.Answers as Answers;
 ghost use Rattle.points.specs.Points as Points;
+ghost use Rattle.points.specs.Answers as Spec;
 ghost use Rattle.points.specs.Going as Going;
 use crate::divide::point_at;
 use crate::group::Onto;
@@ -70,7 +71,7 @@ fn give(bytes: &[u8], list: &mut [u8])
 
 // What a point gets alone. It says what `contents_in` of `hull` says: a second caller of that would make it a call in `bsp_contents`.
 fn contents_alone(s: &[u8], t: Tables, root: usize, point: Vector3) -> PointContents
-    ensures { λ r. ⌜ Walks.contentsAnswer r ≡ withVisits (pointWalk (Fast.table (now (s .entry)) t) root point) ⌝ }
+    ensures { λ r. ⌜ Answers.contentsAnswer r ≡ withVisits (pointWalk (Fast.table (now (s .entry)) t) root point) ⌝ }
 {
     match walk_to_end(s, t, root, point.x, point.y, point.z) {
         WalkEnd::Refused(e) => PointContents::Refused(e),
@@ -93,7 +94,7 @@ fn answer_all(
     list: &mut [u8],
 ) -> PointsAnswer
     requires { ⌜ Going.Ready (now coords) (length (now ids)) (length (now aside)) (length (now out)) (length (now list)) ⌝ }
-    ensures { λ r. ⌜ listed (Points.pointsAnswer r) (now (list .exit)) ≡ Points.answered (hullTable (now (s .entry)) map hull) (hull .«node_id») (now (coords .entry)) (now (list .entry)) ⌝ }
+    ensures { λ r. ⌜ listed (Spec.pointsAnswer r) (now (list .exit)) ≡ Points.answered (hullTable (now (s .entry)) map hull) (hull .«node_id») (now (coords .entry)) (now (list .entry)) ⌝ }
 {
     let table = hull.table;
     let t = tables_of(map, table, hull.mins, hull.maxs);
@@ -131,7 +132,7 @@ fn answer_one(
     list: &mut [u8],
 ) -> PointsAnswer
     requires { ⌜ Going.Asked 1 (now coords) (length (now list)) ⌝ }
-    ensures { λ r. ⌜ listed (Points.pointsAnswer r) (now (list .exit)) ≡ Points.answered (hullTable (now (s .entry)) map hull) (hull .«node_id») (now (coords .entry)) (now (list .entry)) ⌝ }
+    ensures { λ r. ⌜ listed (Spec.pointsAnswer r) (now (list .exit)) ≡ Points.answered (hullTable (now (s .entry)) map hull) (hull .«node_id») (now (coords .entry)) (now (list .entry)) ⌝ }
 {
     let table = hull.table;
     let t = tables_of(map, table, hull.mins, hull.maxs);
@@ -157,7 +158,7 @@ fn answer_few(
     list: &mut [u8],
 ) -> PointsAnswer
     requires { ⌜ Going.Asked 32 (now coords) (length (now list)) ⌝ }
-    ensures { λ r. ⌜ listed (Points.pointsAnswer r) (now (list .exit)) ≡ Points.answered (hullTable (now (s .entry)) map hull) (hull .«node_id») (now (coords .entry)) (now (list .entry)) ⌝ }
+    ensures { λ r. ⌜ listed (Spec.pointsAnswer r) (now (list .exit)) ≡ Points.answered (hullTable (now (s .entry)) map hull) (hull .«node_id») (now (coords .entry)) (now (list .entry)) ⌝ }
 {
     let count = coords.len() / 3;
     let mut ids = [0u16; 32];
@@ -184,7 +185,7 @@ fn answer_many(
     list: &mut [u8],
 ) -> PointsAnswer
     requires { ⌜ Going.Asked 1024 (now coords) (length (now list)) ⌝ }
-    ensures { λ r. ⌜ listed (Points.pointsAnswer r) (now (list .exit)) ≡ Points.answered (hullTable (now (s .entry)) map hull) (hull .«node_id») (now (coords .entry)) (now (list .entry)) ⌝ }
+    ensures { λ r. ⌜ listed (Spec.pointsAnswer r) (now (list .exit)) ≡ Points.answered (hullTable (now (s .entry)) map hull) (hull .«node_id») (now (coords .entry)) (now (list .entry)) ⌝ }
 {
     let count = coords.len() / 3;
     let mut ids = [0u16; 1024];
@@ -211,7 +212,7 @@ pub fn contents_at_points(
     coords: &[f32],
     list: &mut [u8],
 ) -> PointsAnswer
-    ensures { λ r. ⌜ listed (Points.pointsAnswer r) (now (list .exit)) ≡ Points.contentsOfPoints (hullTable (now (s .entry)) map hull) (hull .«node_id») (now (coords .entry)) (now (list .entry)) ⌝ }
+    ensures { λ r. ⌜ listed (Spec.pointsAnswer r) (now (list .exit)) ≡ Points.contentsOfPoints (hullTable (now (s .entry)) map hull) (hull .«node_id») (now (coords .entry)) (now (list .entry)) ⌝ }
 {
     if 3072 < coords.len() {
         return PointsAnswer::Refused(Refusal::NotPoints);

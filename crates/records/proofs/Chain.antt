@@ -11,8 +11,7 @@ use Rattle.format.specs.Step.{Step, ok, refused, andThen}
 use Rattle.format.specs.Answer as Answer
 use Rattle.format.specs.Answer.{Answer}
 use Rattle.format.specs.Refusal.{numberOf}
-use Rattle.format.specs.Section.{placeAnswer}
-use Rattle.format.specs.Field.{u16Step}
+use Rattle.format.specs.Answers.{u16Step, placeAnswer}
 use Rattle.format.specs.declared.refusal.Refusal.{Refusal}
 use Rattle.format.specs.declared.code.CodedContents.{CodedContents}
 use Rattle.format.specs.declared.code.CodedContents.the-variants as Coded
@@ -23,13 +22,8 @@ use Rattle.format.specs.declared.field.ReadU16.the-variants as U16
 use Rattle.format.specs.Code.{negatedContents}
 use Rattle.format.proofs.Chain.{go, no, coded}
 use Rattle.records.specs.Access.{reading, readAt}
-use Rattle.records.specs.Triple.{vectorStep, pointStep}
-use Rattle.records.specs.Number.{offsetStep}
-use Rattle.records.specs.Plane.{planeStep}
-use Rattle.records.specs.Node.{renderChildStep, renderNodeStep, collisionChildStep, collisionNodeStep, withContents}
-use Rattle.records.specs.Texinfo.{flagStep, texinfoStep}
-use Rattle.records.specs.Leaf.{contentsStep, leafStep}
-use Rattle.records.specs.Edge.{edgeStep, edgeIndexStep}
+use Rattle.records.specs.Node.{withContents}
+use Rattle.records.specs.Answers.{edgeStep, edgeIndexStep, contentsStep, leafStep, renderChildStep, renderNodeStep, collisionChildStep, collisionNodeStep, offsetStep, planeStep, flagStep, texinfoStep, vectorStep, pointStep}
 use Rattle.math.specs.declared.Vector3.{Vector3}
 use Rattle.records.specs.declared.triple.Point.{Point}
 use Rattle.records.specs.declared.number.OptionalOffset.{OptionalOffset}

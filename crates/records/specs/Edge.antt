@@ -6,28 +6,16 @@ use lib.IntN.{ℤ, pos, natAbs}
 use lib.Signed.{ltZ}
 use mir.Syntax.{w32, w64}
 use mir.Val.{ofZ}
-use Rattle.format.specs.Step.{Step, ok, refused, andThen}
-use Rattle.format.specs.Answer as Answer
+use Rattle.format.specs.Step.{Step, ok, andThen}
 use Rattle.format.specs.Answer.{Answer}
-use Rattle.format.specs.Refusal.{numberOf}
 use Rattle.format.specs.Field.{u16At, i32At}
 use Rattle.format.specs.Code.{negated}
 use Rattle.format.specs.declared.section.BspData.{BspData}
 use Rattle.format.specs.declared.section.BspFileSectionId.the-variants.{FaceList, Edges, EdgeList}
 use Rattle.records.specs.Access.{recordOf}
 use Rattle.records.specs.declared.edge.BspEdge.{BspEdge}
-use Rattle.records.specs.declared.edge.ReadEdge.{ReadEdge}
-use Rattle.records.specs.declared.edge.ReadEdge.the-variants as Edg
-use Rattle.records.specs.declared.edge.EdgeAnswer.{EdgeAnswer}
-use Rattle.records.specs.declared.edge.EdgeAnswer.the-variants as EdgeA
 use Rattle.records.specs.declared.edge.BspEdgeDirection.the-variants.{Forward, Backward}
 use Rattle.records.specs.declared.edge.BspEdgeIndex.{BspEdgeIndex}
-use Rattle.records.specs.declared.edge.ReadEdgeIndex.{ReadEdgeIndex}
-use Rattle.records.specs.declared.edge.ReadEdgeIndex.the-variants as Ind
-use Rattle.records.specs.declared.edge.EdgeIndexAnswer.{EdgeIndexAnswer}
-use Rattle.records.specs.declared.edge.EdgeIndexAnswer.the-variants as IndexA
-use Rattle.records.specs.declared.edge.FaceIndexAnswer.{FaceIndexAnswer}
-use Rattle.records.specs.declared.edge.FaceIndexAnswer.the-variants as FaceIndexA
 
 unfoldable pub edgeAt : List ℕ → ℕ → Step BspEdge
 edgeAt s at =
@@ -54,24 +42,3 @@ edgelistOf s m i = recordOf EdgeList edgeIndexAt s m i
 
 abbrev pub facelistOf : List ℕ → BspData → ℕ → Answer ℕ
 facelistOf s m i = recordOf FaceList u16At s m i
-
--- what the answers of the readers stand for
-abbrev pub edgeStep : ReadEdge → Step BspEdge
-edgeStep (Edg.Value x p) = ok x p
-edgeStep Edg.EndOfFile = refused 1
-
-abbrev pub edgeAnswer : EdgeAnswer → Answer BspEdge
-edgeAnswer (EdgeA.Value x) = Answer.answer x
-edgeAnswer (EdgeA.Refused e) = Answer.refused (numberOf e)
-
-abbrev pub edgeIndexStep : ReadEdgeIndex → Step BspEdgeIndex
-edgeIndexStep (Ind.Value x p) = ok x p
-edgeIndexStep Ind.EndOfFile = refused 1
-
-abbrev pub edgeIndexAnswer : EdgeIndexAnswer → Answer BspEdgeIndex
-edgeIndexAnswer (IndexA.Value x) = Answer.answer x
-edgeIndexAnswer (IndexA.Refused e) = Answer.refused (numberOf e)
-
-abbrev pub faceIndexAnswer : FaceIndexAnswer → Answer ℕ
-faceIndexAnswer (FaceIndexA.Value x) = Answer.answer x
-faceIndexAnswer (FaceIndexA.Refused e) = Answer.refused (numberOf e)

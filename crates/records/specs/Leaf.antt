@@ -4,10 +4,8 @@ use mathlib.Core.List.{List}
 use lib.IntN.{ℤ}
 use lib.ListN.{length, getD}
 use mir.Syntax.{w32}
-use Rattle.format.specs.Step.{Step, ok, refused, andThen}
-use Rattle.format.specs.Answer as Answer
+use Rattle.format.specs.Step.{Step, ok, andThen}
 use Rattle.format.specs.Answer.{Answer}
-use Rattle.format.specs.Refusal.{numberOf}
 use Rattle.format.specs.Field.{i32At, u16At}
 use Rattle.format.specs.Code.{negatedContents}
 use Rattle.format.specs.declared.contents.BspLeafContents.{BspLeafContents}
@@ -20,12 +18,6 @@ use Rattle.records.specs.Triple.{pointAt}
 use Rattle.records.specs.declared.number.OptionalOffset.{OptionalOffset}
 use Rattle.records.specs.declared.leaf.Sounds.{Sounds}
 use Rattle.records.specs.declared.leaf.BspLeaf.{BspLeaf}
-use Rattle.records.specs.declared.leaf.ReadContents.{ReadContents}
-use Rattle.records.specs.declared.leaf.ReadContents.the-variants as Con
-use Rattle.records.specs.declared.leaf.ReadLeaf.{ReadLeaf}
-use Rattle.records.specs.declared.leaf.ReadLeaf.the-variants as Lea
-use Rattle.records.specs.declared.leaf.LeafAnswer.{LeafAnswer}
-use Rattle.records.specs.declared.leaf.LeafAnswer.the-variants as LeafA
 
 -- the contents of the code -x of an i32 x
 abbrev pub contents : ℤ → ℕ → Step BspLeafContents
@@ -68,16 +60,3 @@ leafAt s at =
 -- by index
 abbrev pub leafOf : List ℕ → BspData → ℕ → Answer BspLeaf
 leafOf s m i = recordOf Leaves leafAt s m i
-
--- what the answers of the readers stand for
-abbrev pub contentsStep : ReadContents → Step BspLeafContents
-contentsStep (Con.Value x p) = ok x p
-contentsStep (Con.Refused e) = refused (numberOf e)
-
-abbrev pub leafStep : ReadLeaf → Step BspLeaf
-leafStep (Lea.Value x p) = ok x p
-leafStep (Lea.Refused e) = refused (numberOf e)
-
-abbrev pub leafAnswer : LeafAnswer → Answer BspLeaf
-leafAnswer (LeafA.Value x) = Answer.answer x
-leafAnswer (LeafA.Refused e) = Answer.refused (numberOf e)

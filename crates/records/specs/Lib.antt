@@ -7,3 +7,4 @@ pub mod Node
 pub mod Texinfo
 pub mod Leaf
 pub mod Edge
+pub mod Answers

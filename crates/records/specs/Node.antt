@@ -6,9 +6,7 @@ use lib.IntN.{ℤ, pos, negsuc, natAbs, _-ℤ_}
 use lib.Signed.{ltZ}
 use mir.Syntax.{w16}
 use Rattle.format.specs.Step.{Step, ok, refused, andThen}
-use Rattle.format.specs.Answer as Answer
 use Rattle.format.specs.Answer.{Answer}
-use Rattle.format.specs.Refusal.{numberOf}
 use Rattle.format.specs.Field.{i16At, u16At, indexAt}
 use Rattle.format.specs.Code.{negatedContents}
 use Rattle.format.specs.declared.contents.BspLeafContents.{BspLeafContents}
@@ -22,21 +20,9 @@ use Rattle.records.specs.Triple.{pointAt}
 use Rattle.records.specs.declared.node.BspRenderNodeChild.{BspRenderNodeChild}
 use Rattle.records.specs.declared.node.BspRenderNodeChild.the-variants as RenderChild
 use Rattle.records.specs.declared.node.BspRenderNode.{BspRenderNode}
-use Rattle.records.specs.declared.node.ReadRenderChild.{ReadRenderChild}
-use Rattle.records.specs.declared.node.ReadRenderChild.the-variants as Rch
-use Rattle.records.specs.declared.node.ReadRenderNode.{ReadRenderNode}
-use Rattle.records.specs.declared.node.ReadRenderNode.the-variants as Ren
-use Rattle.records.specs.declared.node.RenderNodeAnswer.{RenderNodeAnswer}
-use Rattle.records.specs.declared.node.RenderNodeAnswer.the-variants as RenderA
 use Rattle.records.specs.declared.node.BspCollisionNodeChild.{BspCollisionNodeChild}
 use Rattle.records.specs.declared.node.BspCollisionNodeChild.the-variants as CollisionChild
 use Rattle.records.specs.declared.node.BspCollisionNode.{BspCollisionNode}
-use Rattle.records.specs.declared.node.ReadCollisionChild.{ReadCollisionChild}
-use Rattle.records.specs.declared.node.ReadCollisionChild.the-variants as Cch
-use Rattle.records.specs.declared.node.ReadCollisionNode.{ReadCollisionNode}
-use Rattle.records.specs.declared.node.ReadCollisionNode.the-variants as Col
-use Rattle.records.specs.declared.node.CollisionNodeAnswer.{CollisionNodeAnswer}
-use Rattle.records.specs.declared.node.CollisionNodeAnswer.the-variants as CollisionA
 
 -- a child f: a node, or if it is negative the leaf -1 - f
 unfoldable pub renderChild : ℤ → BspRenderNodeChild
@@ -97,28 +83,3 @@ renderNodeOf s m i = recordOf RenderNodes renderNodeAt s m i
 
 abbrev pub collisionNodeOf : List ℕ → BspData → ℕ → Answer BspCollisionNode
 collisionNodeOf s m i = recordOf CollisionNodes collisionNodeAt s m i
-
--- what the answers of the readers stand for
-abbrev pub renderChildStep : ReadRenderChild → Step BspRenderNodeChild
-renderChildStep (Rch.Value x p) = ok x p
-renderChildStep Rch.EndOfFile = refused 1
-
-abbrev pub renderNodeStep : ReadRenderNode → Step BspRenderNode
-renderNodeStep (Ren.Value x p) = ok x p
-renderNodeStep (Ren.Refused e) = refused (numberOf e)
-
-abbrev pub renderNodeAnswer : RenderNodeAnswer → Answer BspRenderNode
-renderNodeAnswer (RenderA.Value x) = Answer.answer x
-renderNodeAnswer (RenderA.Refused e) = Answer.refused (numberOf e)
-
-abbrev pub collisionChildStep : ReadCollisionChild → Step BspCollisionNodeChild
-collisionChildStep (Cch.Value x p) = ok x p
-collisionChildStep (Cch.Refused e) = refused (numberOf e)
-
-abbrev pub collisionNodeStep : ReadCollisionNode → Step BspCollisionNode
-collisionNodeStep (Col.Value x p) = ok x p
-collisionNodeStep (Col.Refused e) = refused (numberOf e)
-
-abbrev pub collisionNodeAnswer : CollisionNodeAnswer → Answer BspCollisionNode
-collisionNodeAnswer (CollisionA.Value x) = Answer.answer x
-collisionNodeAnswer (CollisionA.Refused e) = Answer.refused (numberOf e)

@@ -7,11 +7,8 @@ use lib.IntN.{ℤ, pos, negsuc, natAbs}
 use lib.Signed.{ltZ}
 use Rattle.format.specs.Step.{Step, ok, refused, andThen}
 use Rattle.format.specs.Field.{i16At, i32At, indexAt, notNegative}
-use Rattle.format.specs.Refusal.{numberOf}
 use Rattle.records.specs.declared.number.OptionalOffset.{OptionalOffset}
 use Rattle.records.specs.declared.number.OptionalOffset.the-variants.{None, Some}
-use Rattle.records.specs.declared.number.ReadOffset.{ReadOffset}
-use Rattle.records.specs.declared.number.ReadOffset.the-variants as Off
 
 -- an i16 that is not negative
 unfoldable pub index16At : List ℕ → ℕ → Step ℕ
@@ -47,8 +44,3 @@ offset x p = cond (ltZ x (negsuc 0)) (refused 10) (ok (offsetOf x) p)
 
 unfoldable pub offsetAt : List ℕ → ℕ → Step OptionalOffset
 offsetAt s at = andThen (i32At s at) (λ x p. offset x p)
-
--- what the answer of the reader stands for
-abbrev pub offsetStep : ReadOffset → Step OptionalOffset
-offsetStep (Off.Value x p) = ok x p
-offsetStep (Off.Refused e) = refused (numberOf e)

@@ -8,21 +8,13 @@ use lib.Ieee.{Float}
 use Rattle.math.specs.Plane.{axisX, axisY, axisZ, newPlane}
 use Rattle.math.specs.declared.Vector3.{Vector3}
 use Rattle.math.specs.declared.Hyperplane.{Hyperplane}
-use Rattle.format.specs.Step.{Step, ok, refused, andThen}
-use Rattle.format.specs.Answer as Answer
+use Rattle.format.specs.Step.{Step, ok, andThen}
 use Rattle.format.specs.Answer.{Answer}
-use Rattle.format.specs.Refusal.{numberOf}
 use Rattle.format.specs.Field.{f32At, i32At}
 use Rattle.format.specs.declared.section.BspData.{BspData}
 use Rattle.format.specs.declared.section.BspFileSectionId.the-variants.{Planes, Vertices}
 use Rattle.records.specs.Access.{recordOf}
 use Rattle.records.specs.Triple.{vectorAt}
-use Rattle.records.specs.declared.plane.ReadPlane.{ReadPlane}
-use Rattle.records.specs.declared.plane.ReadPlane.the-variants as Pla
-use Rattle.records.specs.declared.plane.PlaneAnswer.{PlaneAnswer}
-use Rattle.records.specs.declared.plane.PlaneAnswer.the-variants as PlaneA
-use Rattle.records.specs.declared.plane.VertexAnswer.{VertexAnswer}
-use Rattle.records.specs.declared.plane.VertexAnswer.the-variants as VertexA
 
 -- a plane of type 0, 1 or 2 is an axis' and ignores its normal; any other goes through `Hyperplane::new`
 unfoldable pub filePlane : ℤ → Vector3 → Float → Hyperplane
@@ -46,16 +38,3 @@ planeOf s m i = recordOf Planes planeAt s m i
 
 abbrev pub vertexOf : List ℕ → BspData → ℕ → Answer Vector3
 vertexOf s m i = recordOf Vertices vectorAt s m i
-
--- what the answers of the readers stand for
-abbrev pub planeStep : ReadPlane → Step Hyperplane
-planeStep (Pla.Value x p) = ok x p
-planeStep Pla.EndOfFile = refused 1
-
-abbrev pub planeAnswer : PlaneAnswer → Answer Hyperplane
-planeAnswer (PlaneA.Value x) = Answer.answer x
-planeAnswer (PlaneA.Refused e) = Answer.refused (numberOf e)
-
-abbrev pub vertexAnswer : VertexAnswer → Answer Vector3
-vertexAnswer (VertexA.Value x) = Answer.answer x
-vertexAnswer (VertexA.Refused e) = Answer.refused (numberOf e)

@@ -6,9 +6,7 @@ use lib.Dec.{eqb}
 use lib.Ieee.{Float}
 use Rattle.math.specs.declared.Vector3.{Vector3}
 use Rattle.format.specs.Step.{Step, ok, refused, andThen}
-use Rattle.format.specs.Answer as Answer
 use Rattle.format.specs.Answer.{Answer}
-use Rattle.format.specs.Refusal.{numberOf}
 use Rattle.format.specs.Field.{f32At, indexAt}
 use Rattle.format.specs.declared.section.BspData.{BspData}
 use Rattle.format.specs.declared.section.BspFileSectionId.the-variants.{TextureInfo}
@@ -16,12 +14,6 @@ use Rattle.records.specs.Access.{recordOf}
 use Rattle.records.specs.Number.{numberAt}
 use Rattle.records.specs.Triple.{vectorAt}
 use Rattle.records.specs.declared.texinfo.BspTexInfo.{BspTexInfo}
-use Rattle.records.specs.declared.texinfo.ReadFlag.{ReadFlag}
-use Rattle.records.specs.declared.texinfo.ReadFlag.the-variants as Fla
-use Rattle.records.specs.declared.texinfo.ReadTexInfo.{ReadTexInfo}
-use Rattle.records.specs.declared.texinfo.ReadTexInfo.the-variants as Tex
-use Rattle.records.specs.declared.texinfo.TexInfoAnswer.{TexInfoAnswer}
-use Rattle.records.specs.declared.texinfo.TexInfoAnswer.the-variants as TexA
 
 -- 0 or 1
 abbrev pub flag : ℕ → ℕ → Step Bool
@@ -55,16 +47,3 @@ texinfoAt textures s at =
 -- by index
 abbrev pub texinfoOf : List ℕ → BspData → ℕ → Answer BspTexInfo
 texinfoOf s m i = recordOf TextureInfo (texinfoAt (m .«texture_count»)) s m i
-
--- what the answers of the readers stand for
-abbrev pub flagStep : ReadFlag → Step Bool
-flagStep (Fla.Value x p) = ok x p
-flagStep (Fla.Refused e) = refused (numberOf e)
-
-abbrev pub texinfoStep : ReadTexInfo → Step BspTexInfo
-texinfoStep (Tex.Value x p) = ok x p
-texinfoStep (Tex.Refused e) = refused (numberOf e)
-
-abbrev pub texinfoAnswer : TexInfoAnswer → Answer BspTexInfo
-texinfoAnswer (TexA.Value x) = Answer.answer x
-texinfoAnswer (TexA.Refused e) = Answer.refused (numberOf e)

@@ -1,6 +1,7 @@
 // Edges, the list of edges and the list of faces.
 ghost use mathlib.Core.Path.{_≡_};
-ghost use Rattle.records.specs.Edge.{edgeAt, edgeStep, edgeOf, edgeAnswer, edgeIndex, edgeIndexAt, edgeIndexStep, edgelistOf, edgeIndexAnswer, facelistOf, faceIndexAnswer};
+ghost use Rattle.records.specs.Edge.{edgeAt, edgeOf, edgeIndex, edgeIndexAt, edgelistOf, facelistOf};
+ghost use Rattle.records.specs.Answers.{edgeStep, edgeAnswer, edgeIndexStep, edgeIndexAnswer, faceIndexAnswer};
 use format::field::ReadI32;
 use format::field::ReadU16;
 use format::field::read_i32;

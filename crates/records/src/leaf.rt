@@ -1,7 +1,8 @@
 // Leaves.
 ghost use mathlib.Core.Path.{_≡_};
 ghost use lib.ListN.{getD};
-ghost use Rattle.records.specs.Leaf.{contentsAt, contentsStep, soundsAt, upTo, leafAt, leafEndAt, leafStep, leafOf, leafAnswer};
+ghost use Rattle.records.specs.Leaf.{contentsAt, soundsAt, upTo, leafAt, leafEndAt, leafOf};
+ghost use Rattle.records.specs.Answers.{contentsStep, leafStep, leafAnswer};
 use crate::number::OptionalOffset;
 use crate::number::ReadOffset;
 use crate::number::read_offset;

@@ -1,6 +1,7 @@
 // Render nodes and collision nodes.
 ghost use mathlib.Core.Path.{_≡_};
-ghost use Rattle.records.specs.Node.{renderChild, renderChildAt, renderChildStep, renderNodeAt, renderNodeEndAt, renderNodeStep, renderNodeOf, renderNodeAnswer, collisionChildAt, collisionChildStep, collisionNodeAt, collisionNodeStep, collisionNodeOf, collisionNodeAnswer};
+ghost use Rattle.records.specs.Node.{renderChild, renderChildAt, renderNodeAt, renderNodeEndAt, renderNodeOf, collisionChildAt, collisionNodeAt, collisionNodeOf};
+ghost use Rattle.records.specs.Answers.{renderChildStep, renderNodeStep, renderNodeAnswer, collisionChildStep, collisionNodeStep, collisionNodeAnswer};
 use crate::number::read_index16;
 use crate::point::read_point;
 use crate::triple::Point;

@@ -1,7 +1,8 @@
 // Fields that are numbers and are tested as they are read.
 ghost use mathlib.Core.Path.{_≡_};
-ghost use Rattle.format.specs.Field.{indexStep};
-ghost use Rattle.records.specs.Number.{index16At, numberAt, number16At, countAt, offsetOf, offsetAt, offsetStep};
+ghost use Rattle.format.specs.Answers.{indexStep};
+ghost use Rattle.records.specs.Number.{index16At, numberAt, number16At, countAt, offsetOf, offsetAt};
+ghost use Rattle.records.specs.Answers.{offsetStep};
 use format::field::ReadI16;
 use format::field::ReadI32;
 use format::field::ReadIndex;

@@ -1,6 +1,7 @@
 // Planes and vertices.
 ghost use mathlib.Core.Path.{_≡_};
-ghost use Rattle.records.specs.Plane.{filePlane, planeAt, planeStep, planeOf, planeAnswer, vertexOf, vertexAnswer};
+ghost use Rattle.records.specs.Plane.{filePlane, planeAt, planeOf, vertexOf};
+ghost use Rattle.records.specs.Answers.{planeStep, planeAnswer, vertexAnswer};
 use crate::triple::ReadVector;
 use crate::triple::read_vector;
 use format::field::ReadF32;

@@ -1,6 +1,7 @@
 // The reader of a point, for the boxes of leaves and render nodes.
 ghost use mathlib.Core.Path.{_≡_};
-ghost use Rattle.records.specs.Triple.{pointAt, pointStep};
+ghost use Rattle.records.specs.Triple.{pointAt};
+ghost use Rattle.records.specs.Answers.{pointStep};
 use crate::triple::Point;
 use crate::triple::ReadPoint;
 use format::field::ReadI16;

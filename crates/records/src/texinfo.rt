@@ -1,6 +1,7 @@
 // Texture infos.
 ghost use mathlib.Core.Path.{_≡_};
-ghost use Rattle.records.specs.Texinfo.{flagAt, flagStep, texinfoAt, texinfoEndAt, texinfoStep, texinfoOf, texinfoAnswer};
+ghost use Rattle.records.specs.Texinfo.{flagAt, texinfoAt, texinfoEndAt, texinfoOf};
+ghost use Rattle.records.specs.Answers.{flagStep, texinfoStep, texinfoAnswer};
 use crate::number::read_number;
 use crate::triple::ReadVector;
 use crate::triple::read_vector;

@@ -1,6 +1,7 @@
 // Three fields in a row: a vector of floats, and a point of whole numbers.
 ghost use mathlib.Core.Path.{_≡_};
-ghost use Rattle.records.specs.Triple.{vectorAt, vectorStep};
+ghost use Rattle.records.specs.Triple.{vectorAt};
+ghost use Rattle.records.specs.Answers.{vectorStep};
 use format::field::ReadF32;
 use format::field::read_f32;
 use math::Vector3;

@@ -1,3 +1,4 @@
+-- For the contracts of functions that no other crate can name; a reader of the calls may leave this file out.
 -- What the steps of writing a report leave: pieces of text put one after the other. Only the contracts of private functions cite this.
 use Prim.Native.Nat.{ℕ, _+_, _≤_}
 use mathlib.Core.Path.{_≡_}

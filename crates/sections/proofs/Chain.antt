@@ -8,8 +8,7 @@ use Rattle.format.specs.declared.refusal.Refusal.{Refusal}
 use Rattle.format.specs.declared.section.BspFileSection.{BspFileSection}
 use Rattle.format.specs.declared.section.BspData.{BspData}
 use Rattle.format.proofs.Chain.{go, no}
-use Rattle.sections.specs.Position.{positionStep}
-use Rattle.sections.specs.Table.{sectionStep, threeSectionsStep, tableStep}
+use Rattle.sections.specs.Answers.{positionStep, sectionStep, threeSectionsStep, tableStep}
 use Rattle.sections.specs.declared.position.Position.{Position}
 use Rattle.sections.specs.declared.position.Position.the-variants as Pos
 use Rattle.sections.specs.declared.table.Three.{Three}

@@ -2,3 +2,4 @@
 pub mod Position
 pub mod Table
 pub mod Row
+pub mod Answers

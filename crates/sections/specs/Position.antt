@@ -3,16 +3,8 @@ use Prim.Native.Nat.{ℕ, _+_}
 use mathlib.Core.Bool.{cond}
 use lib.Dec.{eqb}
 use Rattle.format.specs.Step.{Step, ok, refused}
-use Rattle.format.specs.Refusal.{numberOf}
 use Rattle.format.specs.declared.section.BspFileSection.{BspFileSection}
-use Rattle.sections.specs.declared.position.Position.{Position}
-use Rattle.sections.specs.declared.position.Position.the-variants.{At, Refused}
 
 -- the position after what was read is the section's end, else 7
 abbrev pub checkEndPosition : BspFileSection → ℕ → Step (Unit {0})
 checkEndPosition z p = cond (eqb p (z .offset + z .size)) (ok tt p) (refused 7)
-
--- what an answer stands for
-abbrev pub positionStep : Position → Step (Unit {0})
-positionStep (At p) = ok tt p
-positionStep (Refused e) = refused (numberOf e)

@@ -7,19 +7,12 @@ use lib.Dec.{eqb}
 use lib.IntN.{ℤ, pos, negsuc}
 use Rattle.format.specs.Step.{Step, ok, refused, andThen}
 use Rattle.format.specs.Field.{i32At, indexAt}
-use Rattle.format.specs.Refusal.{numberOf}
 use Rattle.format.specs.Section.{elementSize, withinLimit, recordCount, sectionOf}
 use Rattle.format.specs.declared.section.BspFileSection.{BspFileSection}
 use Rattle.format.specs.declared.section.BspData.{BspData}
 use Rattle.format.specs.declared.section.BspFileSectionId.{BspFileSectionId}
 use Rattle.format.specs.declared.section.BspFileSectionId.the-variants.{Entities, Planes, Textures, Vertices, Visibility, RenderNodes, TextureInfo, Faces, Lightmaps, CollisionNodes, Leaves, FaceList, Edges, EdgeList, Models}
 use Rattle.sections.specs.declared.table.Three.{Three}
-use Rattle.sections.specs.declared.table.ReadSection.{ReadSection}
-use Rattle.sections.specs.declared.table.ReadSection.the-variants as S
-use Rattle.sections.specs.declared.table.ReadThreeSections.{ReadThreeSections}
-use Rattle.sections.specs.declared.table.ReadThreeSections.the-variants as H
-use Rattle.sections.specs.declared.table.ReadTable.{ReadTable}
-use Rattle.sections.specs.declared.table.ReadTable.the-variants as T
 
 -- a size of whole elements only
 unfoldable pub isMultiple : BspFileSectionId → ℕ → Bool
@@ -107,16 +100,3 @@ limits m =
     (cond (exceeds RenderNodes m) (refused 6)
     (cond (exceeds CollisionNodes m) (refused 6)
     (limitsFromLeaves m)))))
-
--- what the answers of the readers stand for
-abbrev pub sectionStep : ReadSection → Step BspFileSection
-sectionStep (S.Value x p) = ok x p
-sectionStep (S.Refused e) = refused (numberOf e)
-
-abbrev pub threeSectionsStep : ReadThreeSections → Step Three
-threeSectionsStep (H.Value x p) = ok x p
-threeSectionsStep (H.Refused e) = refused (numberOf e)
-
-abbrev pub tableStep : ReadTable → Step BspData
-tableStep (T.Value x p) = ok x p
-tableStep (T.Refused e) = refused (numberOf e)

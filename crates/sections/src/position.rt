@@ -1,7 +1,8 @@
 // How far a section was read, and the test of its end.
 ghost use mathlib.Core.Path.{_≡_};
 ghost use Rattle.format.specs.Step.{andThen};
-ghost use Rattle.sections.specs.Position.{positionStep, checkEndPosition};
+ghost use Rattle.sections.specs.Position.{checkEndPosition};
+ghost use Rattle.sections.specs.Answers.{positionStep};
 use format::refusal::Refusal;
 use format::section::BspFileSection;
 

@@ -1,7 +1,8 @@
 // The version, the table of sections and the limits.
 ghost use mathlib.Core.Path.{_≡_};
-ghost use Rattle.sections.specs.Position.{positionStep};
+ghost use Rattle.sections.specs.Answers.{positionStep};
 ghost use Rattle.sections.specs.Table as Table;
+ghost use Rattle.sections.specs.Answers as Answers;
 use crate::position::Position;
 use format::field::ReadI32;
 use format::field::ReadIndex;
@@ -34,7 +35,7 @@ pub enum ReadTable {
 }
 
 pub fn read_section(s: &[u8], at: usize, id: BspFileSectionId) -> ReadSection
-    ensures { λ r. ⌜ Table.sectionStep r ≡ Table.sectionAt id (now (s .entry)) at ⌝ }
+    ensures { λ r. ⌜ Answers.sectionStep r ≡ Table.sectionAt id (now (s .entry)) at ⌝ }
 {
     match format::field::read_index(s, at, Refusal::NegativeSectionOffset) {
         ReadIndex::Refused(e) => ReadSection::Refused(e),
@@ -66,7 +67,7 @@ fn read_three_sections(
     j: BspFileSectionId,
     k: BspFileSectionId,
 ) -> ReadThreeSections
-    ensures { λ r. ⌜ Table.threeSectionsStep r ≡ Table.threeSectionsAt i j k (now (s .entry)) at ⌝ }
+    ensures { λ r. ⌜ Answers.threeSectionsStep r ≡ Table.threeSectionsAt i j k (now (s .entry)) at ⌝ }
 {
     match read_section(s, at, i) {
         ReadSection::Refused(e) => ReadThreeSections::Refused(e),
@@ -81,7 +82,7 @@ fn read_three_sections(
 }
 
 fn read_table(s: &[u8], at: usize) -> ReadTable
-    ensures { λ r. ⌜ Table.tableStep r ≡ Table.tableAt (now (s .entry)) at ⌝ }
+    ensures { λ r. ⌜ Answers.tableStep r ≡ Table.tableAt (now (s .entry)) at ⌝ }
 {
     match read_three_sections(
         s,
@@ -115,7 +116,7 @@ fn read_table(s: &[u8], at: usize) -> ReadTable
 
 // The table from the collision nodes on.
 fn read_table_end(s: &[u8], at: usize, a: Three, b: Three, c: Three) -> ReadTable
-    ensures { λ r. ⌜ Table.tableStep r ≡ Table.tableEndAt a b c (now (s .entry)) at ⌝ }
+    ensures { λ r. ⌜ Answers.tableStep r ≡ Table.tableEndAt a b c (now (s .entry)) at ⌝ }
 {
     match read_three_sections(
         s,
@@ -178,7 +179,7 @@ fn table_of(a: Three, b: Three, c: Three, d: Three, e: Three) -> BspData
 
 // The version, and then the table.
 pub fn read_header(s: &[u8]) -> ReadTable
-    ensures { λ r. ⌜ Table.tableStep r ≡ Table.headerAt (now (s .entry)) ⌝ }
+    ensures { λ r. ⌜ Answers.tableStep r ≡ Table.headerAt (now (s .entry)) ⌝ }
 {
     match format::field::read_i32(s, 0) {
         ReadI32::EndOfFile => ReadTable::Refused(Refusal::EndOfFile),

@@ -18,8 +18,7 @@ use Rattle.walk.specs.Trace as Tracing
 use Rattle.models.specs.Model.{fileModelOf}
 use Rattle.models.specs.declared.model.BspFileModel.{BspFileModel}
 use Rattle.models.specs.declared.model.PerHull.{PerHull}
-use Rattle.nodes.specs.Tables.{End, nodesOf, tableOf, leafTable}
-use Rattle.nodes.specs.Fast.{isBox}
+use Rattle.nodes.specs.Tables.{End, nodesOf, tableOf, leafTable, isBox}
 use Rattle.sizes.specs.declared.Bounds.{Bounds}
 use Rattle.sizes.specs.declared.BodySizes.{BodySizes}
 use Rattle.hull.specs.Hull as Hull

@@ -9,7 +9,7 @@ use Rattle.format.specs.declared.refusal.Refusal.{Refusal}
 use Rattle.format.specs.declared.section.BspData.{BspData}
 use Rattle.sizes.specs.declared.BodySizes.{BodySizes}
 use Rattle.hull.specs.Hull as Hull
-use Rattle.hull.specs.Hull.{hullAnswer}
+use Rattle.hull.specs.Answers.{hullAnswer}
 use Rattle.hull.specs.declared.collision.BspCollisionHull.{BspCollisionHull}
 use Rattle.hull.specs.declared.collision.HullAnswer.{HullAnswer}
 use Rattle.hull.specs.declared.collision.HullAnswer.the-variants as H

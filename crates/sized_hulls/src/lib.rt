@@ -1,6 +1,6 @@
 // Hulls with the body sizes that a hall brings in place of the built-in ones.
 ghost use mathlib.Core.Path.{_≡_};
-ghost use Rattle.hull.specs.Hull.{hullAnswer};
+ghost use Rattle.hull.specs.Answers.{hullAnswer};
 ghost use Rattle.sized_hulls.specs.Sized as Sized;
 use format::section::BspData;
 use hull::collision::BspCollisionHull;

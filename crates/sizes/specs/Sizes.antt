@@ -9,13 +9,10 @@ use lib.Ieee as Ieee
 use lib.Ieee.{Float, binary32, ofBits}
 use lib.Ieee.Scale.{finite}
 use Rattle.format.specs.Answer.{Answer, answer, refused}
-use Rattle.format.specs.Refusal.{numberOf}
 use Rattle.math.specs.Vector.{vector}
 use Rattle.math.specs.declared.Vector3.{Vector3}
 use Rattle.sizes.specs.declared.Bounds.{Bounds}
 use Rattle.sizes.specs.declared.BodySizes.{BodySizes}
-use Rattle.sizes.specs.declared.SizesAnswer.{SizesAnswer}
-use Rattle.sizes.specs.declared.SizesAnswer.the-variants as A
 
 -- ---- the row of fields
 
@@ -122,10 +119,6 @@ judgedRow s cutShort = refused 26
 
 unfoldable pub sizesOf : List ℕ → Answer BodySizes
 sizesOf s = judgedRow s (rowFrom (length s) s 0)
-
-abbrev pub sizesAnswer : SizesAnswer → Answer BodySizes
-sizesAnswer (A.Sizes z) = answer z
-sizesAnswer (A.Refused e) = refused (numberOf e)
 
 -- ---- for private contracts
 

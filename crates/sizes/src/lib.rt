@@ -3,6 +3,7 @@ ghost use mathlib.Core.Path.{_≡_};
 ghost use Prim.Native.Nat.{_+_, _*_, _≤_};
 ghost use lib.ListN.{length};
 ghost use Rattle.sizes.specs.Sizes as Sizes;
+ghost use Rattle.sizes.specs.Answers as Answers;
 use format::refusal::Refusal;
 use math::Vector3;
 
@@ -99,7 +100,7 @@ fn is_body(bounds: Bounds) -> bool
 
 // The sizes, if both are bodies.
 fn judge(sizes: BodySizes) -> SizesAnswer
-    ensures { λ r. ⌜ Sizes.sizesAnswer r ≡ Sizes.judged sizes ⌝ }
+    ensures { λ r. ⌜ Answers.sizesAnswer r ≡ Sizes.judged sizes ⌝ }
 {
     if is_body(sizes.hull_1) {
         if is_body(sizes.hull_2) {
@@ -112,7 +113,7 @@ fn judge(sizes: BodySizes) -> SizesAnswer
 // The sizes with hull 1's value at one place and hull 2's at another.
 fn sizes_in(s: &[u8], one: usize, two: usize) -> SizesAnswer
     requires { ⌜ (one + 24 ≤ length (now s)) × (two + 24 ≤ length (now s)) ⌝ }
-    ensures { λ r. ⌜ Sizes.sizesAnswer r ≡ Sizes.judged (Sizes.sizesIn (now (s .entry)) one two) ⌝ }
+    ensures { λ r. ⌜ Answers.sizesAnswer r ≡ Sizes.judged (Sizes.sizesIn (now (s .entry)) one two) ⌝ }
 {
     judge(BodySizes {
         hull_1: bounds_in(s, one),
@@ -123,7 +124,7 @@ fn sizes_in(s: &[u8], one: usize, two: usize) -> SizesAnswer
 // The sizes of a file. 26: a field cut short, a wrong length, an unknown, missing or repeated tag; then 27: a bound not finite or a
 // minimum at or above its maximum. Only two layouts of 54 bytes have no 26.
 pub fn parse(s: &[u8]) -> SizesAnswer
-    ensures { λ r. ⌜ Sizes.sizesAnswer r ≡ Sizes.sizesOf (now (s .entry)) ⌝ }
+    ensures { λ r. ⌜ Answers.sizesAnswer r ≡ Sizes.sizesOf (now (s .entry)) ⌝ }
 {
     if s.len() != 54 {
         return SizesAnswer::Refused(Refusal::InvalidSizesFile);

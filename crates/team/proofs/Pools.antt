@@ -12,7 +12,8 @@ use lib.Dec.{leb}
 use lib.ListN.{length, take, drop, length-append}
 use lib.Seq.{length-take-le, take-all}
 use Rattle.format.specs.Answer.{Answer, answer, refused}
-use Rattle.vis.specs.Row.{bits, visible, byteLeaves, inByte, rowFrom}
+use Rattle.vis.specs.Row.{bits, visible, inByte, rowFrom}
+use Rattle.vis.specs.Private.{byteLeaves}
 use Rattle.vis.proofs.SetBits.{length-bits, length-visible, ones-in}
 use Rattle.vis.proofs.Rows.{kept-leaves}
 use Rattle.vis.proofs.Passes.{kept-small}

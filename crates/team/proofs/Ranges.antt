@@ -14,7 +14,8 @@ use Rattle.records.specs.Leaf.{leafOf}
 use Rattle.records.specs.declared.leaf.BspLeaf.{BspLeaf}
 use Rattle.records.specs.declared.number.OptionalOffset.{OptionalOffset}
 use Rattle.records.specs.declared.number.OptionalOffset.the-variants.{None, Some}
-use Rattle.vis.specs.Row.{bits, before, inByte, visible, byteLeaves, rowFrom, rowAt}
+use Rattle.vis.specs.Row.{bits, before, inByte, visible, rowFrom, rowAt}
+use Rattle.vis.specs.Private.{byteLeaves}
 use Rattle.vis.specs.Pvs.{visibilityOf, sectionRow, rowOf, pvsOf}
 use Rattle.vis.proofs.SetBits.{length-bits}
 use Rattle.vis.proofs.Rows.{done, none-left, zero-left, zero-byte, bit-byte, kept-leaves}

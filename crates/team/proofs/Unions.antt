@@ -11,7 +11,8 @@ use lib.Dec.{eqb, ltb, leb}
 use lib.ListN.{length, drop, getD, set, length-set}
 use lib.Seq.{getD-set-same, getD-set-other}
 use Rattle.format.specs.Answer.{Answer, answer, refused}
-use Rattle.vis.specs.Row.{bits, before, visible, byteLeaves, inByte, rowFrom}
+use Rattle.vis.specs.Row.{bits, before, visible, inByte, rowFrom}
+use Rattle.vis.specs.Private.{byteLeaves}
 use Rattle.team.specs.Team.{holds, seen}
 use Rattle.team.specs.Starts.{orNone}
 use Rattle.team.specs.Walk.{keptBits, restOf, restsOf, Whole, Cursors, Together}

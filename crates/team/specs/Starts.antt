@@ -1,3 +1,4 @@
+-- For the contracts of functions that no other crate can name; a reader of the calls may leave this file out.
 -- Where the players' rows start, and whether all their lists are answered.
 use Prim.Native.Nat.{ℕ}
 use mathlib.Core.Bool.{cond}

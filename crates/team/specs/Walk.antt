@@ -1,3 +1,4 @@
+-- For the contracts of functions that no other crate can name; a reader of the calls may leave this file out.
 -- The rows of a team side by side: what is left of each from its cursor on, eight leaves at a time.
 use mathlib.Core.Path.{_≡_}
 use Prim.Native.Nat.{ℕ, _+_, _*_, _%_, _^_, _<_, _≤_}
@@ -5,7 +6,8 @@ use mathlib.Core.Bool.{true, cond}
 use mathlib.Core.List.{List, [], _∷_}
 use lib.ListN.{length, drop, getD}
 use Rattle.format.specs.Answer.{refused}
-use Rattle.vis.specs.Row.{inByte, byteLeaves, rowFrom}
+use Rattle.vis.specs.Row.{inByte, rowFrom}
+use Rattle.vis.specs.Private.{byteLeaves}
 use Rattle.team.specs.Team.{holds, seen}
 use Rattle.team.specs.Starts.{orNone}
 

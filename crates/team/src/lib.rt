@@ -1,7 +1,7 @@
 // What a team can see: the leaves that one of its players sees.
 ghost use mathlib.Core.Path.{_≡_};
 ghost use Rattle.format.specs.Listed.{listed, into};
-ghost use Rattle.vis.specs.Pvs.{lengthOf};
+ghost use Rattle.vis.specs.Answers.{lengthOf};
 ghost use Rattle.team.specs.Team.{teamOf};
 use format::refusal::Refusal;
 use format::section::BspData;

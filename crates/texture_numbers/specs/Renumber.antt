@@ -1,3 +1,4 @@
+-- For the contracts of functions that no other crate can name; a reader of the calls may leave this file out.
 -- How the code numbers textures: a list l has for each texture the first one with its stem, and 2^32 - 1 for a static one.
 use Prim.Native.Nat.{ℕ, _+_, _<_, _≤_}
 use mathlib.Core.Path.{_≡_}

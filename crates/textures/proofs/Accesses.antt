@@ -11,7 +11,8 @@ use lib.Dec.{eqb, ltb, leb}
 use lib.ListN.{getD, take, drop}
 use Rattle.format.specs.Answer as Answer
 use Rattle.format.specs.Answer.{Answer, answer, refused, thenAnswer}
-use Rattle.format.specs.Field.{u32At, u32Step}
+use Rattle.format.specs.Field.{u32At}
+use Rattle.format.specs.Answers.{u32Step}
 use Rattle.format.specs.Refusal.{numberOf}
 use Rattle.format.specs.Step.{Step, ok, andThen}
 use Rattle.format.specs.declared.field.ReadU32.{ReadU32}
@@ -19,8 +20,9 @@ use Rattle.format.specs.declared.field.ReadU32.the-variants as U32
 use Rattle.format.specs.declared.refusal.Refusal.{Refusal}
 use Rattle.format.specs.declared.section.BspData.{BspData}
 use Rattle.records.specs.Access.{reading}
-use Rattle.records.specs.Number.{offsetAt, offsetStep}
-use Rattle.records.specs.Texinfo.{texinfoOf, texinfoAnswer}
+use Rattle.records.specs.Number.{offsetAt}
+use Rattle.records.specs.Answers.{offsetStep, texinfoAnswer}
+use Rattle.records.specs.Texinfo.{texinfoOf}
 use Rattle.records.specs.declared.number.OptionalOffset.{OptionalOffset}
 use Rattle.records.specs.declared.number.OptionalOffset.the-variants.{None, Some}
 use Rattle.records.specs.declared.number.ReadOffset.{ReadOffset}
@@ -28,7 +30,7 @@ use Rattle.records.specs.declared.number.ReadOffset.the-variants as Off
 use Rattle.records.specs.declared.texinfo.BspTexInfo.{BspTexInfo}
 use Rattle.records.specs.declared.texinfo.TexInfoAnswer.{TexInfoAnswer}
 use Rattle.records.specs.declared.texinfo.TexInfoAnswer.the-variants as Inf
-use Rattle.sections.specs.Position.{positionStep}
+use Rattle.sections.specs.Answers.{positionStep}
 use Rattle.sections.specs.declared.position.Position.{Position}
 use Rattle.sections.specs.declared.position.Position.the-variants as Pos
 use Rattle.textures.specs.Name.{charAt, chars, nameAt, isPrimary, isAlternate}

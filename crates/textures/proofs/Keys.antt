@@ -11,7 +11,8 @@ use lib.Dec.{eqb, ltb, leb}
 use lib.ListN.{length, getD, drop, replicate}
 use Rattle.format.specs.Step.{Step, ok, refused}
 use Rattle.format.specs.declared.refusal.Refusal.{Refusal}
-use Rattle.records.specs.Number.{offsetAt, offsetStep}
+use Rattle.records.specs.Number.{offsetAt}
+use Rattle.records.specs.Answers.{offsetStep}
 use Rattle.records.specs.declared.number.ReadOffset.{ReadOffset}
 use Rattle.records.specs.declared.number.ReadOffset.the-variants as Off
 use Rattle.records.specs.declared.number.OptionalOffset.{OptionalOffset}

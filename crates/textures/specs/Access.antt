@@ -10,7 +10,6 @@ use Rattle.format.specs.Answer.{Answer, answer, refused, thenAnswer}
 use Rattle.format.specs.Step as Step
 use Rattle.format.specs.Step.{Step, ok, andThen}
 use Rattle.format.specs.Field.{u32At}
-use Rattle.format.specs.Refusal.{numberOf}
 use Rattle.format.specs.declared.section.BspData.{BspData}
 use Rattle.records.specs.Access.{reading}
 use Rattle.records.specs.Number.{offsetAt}
@@ -22,8 +21,6 @@ use Rattle.textures.specs.Name.{nameAt, isPrimary, isAlternate}
 use Rattle.textures.specs.Group.{sequenced, numberedBy, staticBy, frameBy}
 use Rattle.textures.specs.Section.{textureAt, texturesAt, namesOf}
 use Rattle.textures.specs.declared.answer.BspTexture.{BspTexture}
-use Rattle.textures.specs.declared.answer.TextureAnswer.{TextureAnswer}
-use Rattle.textures.specs.declared.answer.TextureAnswer.the-variants as Tex
 
 -- the names of the map record's textures, by their numbers in the file
 abbrev pub namesIn : List ℕ → BspData → ℕ → List ℕ
@@ -120,7 +117,3 @@ listedTexture s base n i =
 
 abbrev pub textureOf : List ℕ → BspData → ℕ → Answer BspTexture
 textureOf s m i = listedTexture s (m .textures .offset) (m .«texture_count») i
-
-abbrev pub textureAnswer : TextureAnswer → Answer BspTexture
-textureAnswer (Tex.Value x) = answer x
-textureAnswer (Tex.Refused e) = refused (numberOf e)

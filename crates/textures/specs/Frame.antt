@@ -1,3 +1,4 @@
+-- For the contracts of functions below the calls; a reader of the calls may leave this file out.
 -- What the accessors of texture numbers answer: a number in the file, or how many textures were listed, or a refusal.
 use Prim.Native.Nat.{ℕ}
 use Rattle.format.specs.Answer.{Answer, answer, refused}

@@ -10,3 +10,4 @@ pub mod Sieve
 pub mod Frame
 pub mod Access
 pub mod Private
+pub mod Answers

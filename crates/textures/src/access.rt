@@ -2,9 +2,10 @@
 ghost use mathlib.Core.Path.{_≡_};
 ghost use Prim.Native.Nat.{_≤_};
 ghost use Rattle.records.specs.Access.{reading};
-ghost use Rattle.records.specs.Texinfo.{texinfoAnswer};
+ghost use Rattle.records.specs.Answers.{texinfoAnswer};
 ghost use Rattle.textures.specs.Frame.{fileNumber};
 ghost use Rattle.textures.specs.Access as Access;
+ghost use Rattle.textures.specs.Answers as Answers;
 ghost use Rattle.textures.specs.Group.{frameBy};
 ghost use Rattle.textures.specs.Kind.{lettered};
 ghost use Rattle.textures.specs.Section.{namesOf};
@@ -125,7 +126,7 @@ pub fn texture_info(file: &[u8], map: BspData, index: usize) -> TexInfoAnswer
 // A header that reads as on loading: the texture's name, width and height. Any refusal stands for 23.
 fn read_header(s: &[u8], at: usize) -> TextureAnswer
     requires { ⌜ at ≤ 17179869184 ⌝ }
-    ensures { λ r. ⌜ Access.textureAnswer r ≡ reading (Access.headerAt (now (s .entry)) at) ⌝ }
+    ensures { λ r. ⌜ Answers.textureAnswer r ≡ reading (Access.headerAt (now (s .entry)) at) ⌝ }
 {
     let Position::At(_) = read_texture(s, at) else {
         return TextureAnswer::Refused(Refusal::Unreadable);
@@ -149,7 +150,7 @@ fn read_header(s: &[u8], at: usize) -> TextureAnswer
 
 // A texture of a section of so many, by its number in the file.
 fn listed_texture(s: &[u8], base: u32, count: u32, index: u64) -> TextureAnswer
-    ensures { λ r. ⌜ Access.textureAnswer r ≡ Access.listedTexture (now (s .entry)) base count index ⌝ }
+    ensures { λ r. ⌜ Answers.textureAnswer r ≡ Access.listedTexture (now (s .entry)) base count index ⌝ }
 {
     if (count as u64) <= index {
         return TextureAnswer::Refused(Refusal::NoSuchRecord);
@@ -174,7 +175,7 @@ fn listed_texture(s: &[u8], base: u32, count: u32, index: u64) -> TextureAnswer
 
 // The texture of a number in the file.
 pub fn texture(file: &[u8], map: BspData, index: u64) -> TextureAnswer
-    ensures { λ r. ⌜ Access.textureAnswer r ≡ Access.textureOf (now (file .entry)) map index ⌝ }
+    ensures { λ r. ⌜ Answers.textureAnswer r ≡ Access.textureOf (now (file .entry)) map index ⌝ }
 {
     listed_texture(file, map.textures.offset, map.texture_count, index)
 }

@@ -5,7 +5,7 @@ ghost use Prim.Native.Nat.{_≤_, _<_, _+_, _*_};
 ghost use lib.ListN.{length, replicate};
 ghost use mathlib.Core.Bool.{true};
 ghost use Rattle.textures.specs.Count.{any};
-ghost use Rattle.sections.specs.Position.{positionStep};
+ghost use Rattle.sections.specs.Answers.{positionStep};
 ghost use Rattle.textures.specs.Group.{sequenced};
 ghost use Rattle.textures.specs.Kind.{passing, starts, ends, keyOf, isWrongKey};
 ghost use Rattle.textures.specs.Section.{namesOf};

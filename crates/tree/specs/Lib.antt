@@ -2,3 +2,4 @@
 pub mod Check
 pub mod Readable
 pub mod Size
+pub mod Answers

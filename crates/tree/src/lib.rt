@@ -4,9 +4,11 @@ ghost use Prim.Native.Nat.{_≤_};
 ghost use lib.ListN.{length, replicate};
 ghost use Rattle.walk.specs.TreeCheck as Walk;
 ghost use Rattle.walk.specs.Order as Order;
+ghost use Rattle.walk.specs.Private as Private;
 ghost use Rattle.nodes.specs.Tables.{leafIn, nodesOf};
 ghost use Rattle.nodes.specs.Fast as Fast;
 ghost use Rattle.tree.specs.Check as Check;
+ghost use Rattle.tree.specs.Answers as Answers;
 use format::refusal::Refusal;
 use format::section::BspData;
 use math::Vector3;
@@ -44,7 +46,7 @@ fn end_in_range(t: Tables, word: u16) -> bool
 // number (30), then the front child and then the back child.
 fn check_node(file: &[u8], t: Tables, node: usize, levels: u32, marks: &mut [u8]) -> TreeChecked
     requires { ⌜ t .nodes .count ≤ length (now marks) ⌝ }
-    ensures { λ r. ⌜ Walk.checked (Check.heightAnswer r) (now (marks .exit)) ≡ Walk.checkNode (Fast.nodes (now (file .entry)) t) levels node (now (marks .entry)) ⌝ }
+    ensures { λ r. ⌜ Walk.checked (Answers.heightAnswer r) (now (marks .exit)) ≡ Walk.checkNode (Fast.nodes (now (file .entry)) t) levels node (now (marks .entry)) ⌝ }
 {
     let nodes = t.nodes;
     let planes = t.planes;
@@ -84,7 +86,7 @@ fn check_node(file: &[u8], t: Tables, node: usize, levels: u32, marks: &mut [u8]
 // A child, by its word, with so many levels left below its parent. An end has no height; a leaf's number is tested (30).
 fn check_child(file: &[u8], t: Tables, word: u16, levels: u32, marks: &mut [u8]) -> TreeChecked
     requires { ⌜ t .nodes .count ≤ length (now marks) ⌝ }
-    ensures { λ r. ⌜ Walk.checked (Check.heightAnswer r) (now (marks .exit)) ≡ Check.checkWord (Fast.nodes (now (file .entry)) t) (t .table) levels word (now (marks .entry)) ⌝ }
+    ensures { λ r. ⌜ Walk.checked (Answers.heightAnswer r) (now (marks .exit)) ≡ Check.checkWord (Fast.nodes (now (file .entry)) t) (t .table) levels word (now (marks .entry)) ⌝ }
 {
     if word < 32768 {
         return check_node(file, t, word as usize, levels, marks);
@@ -109,7 +111,7 @@ pub fn clear(marks: &mut [u8])
 
 // How many marks are set.
 fn marks_set(marks: &[u8]) -> usize
-    ensures { λ r. ⌜ r ≡ Order.marked (now (marks .entry)) ⌝ }
+    ensures { λ r. ⌜ r ≡ Private.marked (now (marks .entry)) ⌝ }
 {
     let mut n = 0;
     let mut i: usize = 0;
@@ -125,7 +127,7 @@ fn marks_set(marks: &[u8]) -> usize
 // The check with exactly one mark for each node. Where it passes, the marks set are as many as the tree has nodes.
 fn check_cleared(file: &[u8], t: Tables, root: usize, marks: &mut [u8]) -> TreeSized
     requires { ⌜ length (now marks) ≡ t .nodes .count ⌝ }
-    ensures { λ r. ⌜ Order.sized (Check.sizeAnswer r) (now (marks .exit)) ≡ Check.sizedCleared (Fast.nodes (now (file .entry)) t) root ⌝ }
+    ensures { λ r. ⌜ Order.sized (Answers.sizeAnswer r) (now (marks .exit)) ≡ Check.sizedCleared (Fast.nodes (now (file .entry)) t) root ⌝ }
 {
     clear(marks);
     let r = check_node(file, t, root, 512, marks);
@@ -147,7 +149,7 @@ pub fn tree_size(
     root: usize,
     marks: &mut [u8],
 ) -> TreeSized
-    ensures { λ r. ⌜ Order.sized (Check.sizeAnswer r) (now (marks .exit)) ≡ Order.sizedCheck (nodesOf (now (file .entry)) map table) (now (marks .entry)) root ⌝ }
+    ensures { λ r. ⌜ Order.sized (Answers.sizeAnswer r) (now (marks .exit)) ≡ Order.sizedCheck (nodesOf (now (file .entry)) map table) (now (marks .entry)) root ⌝ }
 {
     let none = Vector3::new(0.0, 0.0, 0.0);
     let t = tables_of(map, table, none, none);
@@ -167,7 +169,7 @@ pub fn tree_check(
     root: usize,
     marks: &mut [u8],
 ) -> TreeChecked
-    ensures { λ r. ⌜ Walk.checked (Check.heightAnswer r) (now (marks .exit)) ≡ Walk.treeCheck (nodesOf (now (file .entry)) map table) (now (marks .entry)) root ⌝ }
+    ensures { λ r. ⌜ Walk.checked (Answers.heightAnswer r) (now (marks .exit)) ≡ Walk.treeCheck (nodesOf (now (file .entry)) map table) (now (marks .entry)) root ⌝ }
 {
     match tree_size(file, map, table, root, marks) {
         TreeSized::Size(_, h) => TreeChecked::Height(h),

@@ -1,3 +1,4 @@
+-- For the contracts of functions that no other crate can name; a reader of the calls may leave this file out.
 -- Where the parts of a stored case lie among the words of a sample.
 use Prim.Native.Nat.{ℕ, _+_, _≤_}
 use Rattle.trials.specs.declared.replay.CaseAt.{CaseAt}

@@ -11,7 +11,8 @@ use lib.Dec.{leb}
 use lib.ListN.{length, take, drop, getD, length-append}
 use lib.Seq.{length-take-le, take-all}
 use Rattle.format.specs.Answer.{Answer, answer, refused, mapped}
-use Rattle.vis.specs.Row.{before, inByte, byteLeaves, rowFrom}
+use Rattle.vis.specs.Row.{before, inByte, rowFrom}
+use Rattle.vis.specs.Private.{byteLeaves}
 use Rattle.vis.proofs.SetBits.{length-visible, ones-in}
 use Rattle.vis.proofs.Rows.{keptBits, before-none, before-before, done, ended, cut, skipped, byte}
 

@@ -11,7 +11,8 @@ use lib.Dec.{leb}
 use lib.ListN.{length, drop, getD, replicate, length-replicate, drop-of-length-le}
 use lib.Seq.{drop-cons}
 use Rattle.format.specs.Answer.{Answer, answer, refused, mapped}
-use Rattle.vis.specs.Row.{bits, before, inByte, rowBits, visible, byteLeaves, rowFrom}
+use Rattle.vis.specs.Row.{bits, before, inByte, rowBits, visible, rowFrom}
+use Rattle.vis.specs.Private.{byteLeaves}
 use Rattle.vis.proofs.SetBits.{length-bits, low-bits}
 
 visible-append : (leaf n : ℕ) (xs ys : List Bool) → length xs ≡ n → visible leaf (xs ++ ys) ≡ visible leaf xs ++ visible (leaf + n) ys

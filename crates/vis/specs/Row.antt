@@ -36,10 +36,6 @@ visible leaf [] = []
 visible leaf (true ∷ more) = leaf ∷ visible (leaf + 1) more
 visible leaf (false ∷ more) = visible (leaf + 1) more
 
--- the leaves that a byte lists, its lowest bit being that of `leaf`
-abbrev pub byteLeaves : ℕ → ℕ → List ℕ
-byteLeaves leaf byte = visible leaf (bits 8 byte)
-
 -- the leaves that the bytes of a row list, from `leaf` on
 abbrev pub rowFrom : ℕ → ℕ → List ℕ → Answer (List ℕ)
 rowFrom count leaf bytes = mapped (visible leaf) (rowBits count leaf bytes)

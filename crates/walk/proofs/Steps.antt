@@ -13,7 +13,8 @@ use Rattle.math.specs.declared.Hyperplane.{Hyperplane}
 use Rattle.math.specs.declared.Vector3.{Vector3}
 use Rattle.phys.specs.declared.Trace.{Trace as TraceT}
 use Rattle.walk.specs.Table.{Child, node, end, Node, Table, childOn}
-use Rattle.walk.specs.Walk.{Outcome, done, refused, entered, held, withVisits, after, enter, meet, ended, onto, walkAt, walk}
+use Rattle.walk.specs.Walk.{Outcome, done, refused, entered, held, withVisits, enter, meet, ended, onto, walkAt, walk}
+use Rattle.walk.specs.Private.{after}
 use Rattle.walk.specs.Trace.{traceAt, recursiveTrace}
 
 -- ---- visits

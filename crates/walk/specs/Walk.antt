@@ -1,7 +1,7 @@
 -- The walk of a point down a node table: `contents_at_point_node` and `find_leaf` of bsp/mod.rs, which differ only in what an end says.
 -- Refusals come in document 01's order: at each node its index (30), then 31, then its record (23), its plane's number (30) and its plane (23);
 -- an end is tested (30) and read (23) when it is met. The looks of a whole-line trace (`line`) are the same descent, by another side test and limit.
-use Prim.Native.Nat.{ℕ, zero, suc, _+_, _-_, _^_, min}
+use Prim.Native.Nat.{ℕ, zero, suc, _-_, _^_, min}
 use mathlib.Core.Bool.{cond}
 use mathlib.Core.List.{List, [], _∷_}
 use lib.Dec.{ltb}
@@ -32,11 +32,6 @@ held n = min n (2 ^ 64 - 1)
 abbrev pub withVisits : {A : Type 0} → Outcome A → Answer (A × ℕ)
 withVisits (done a ns) = answer (a, held (length ns))
 withVisits (refused n) = Ans.refused n
-
--- the same where v nodes were entered before
-abbrev pub after : {A : Type 0} → ℕ → Outcome A → Answer (A × ℕ)
-after v (done a ns) = answer (a, held (v + length ns))
-after v (refused n) = Ans.refused n
 
 -- a node as it is entered: its record and its plane
 pub record Entered (E : Type 0) : Type 0 where

@@ -11,11 +11,12 @@ use borrow.Fn.Kinds.{In}
 use borrow.Fn.PlainCycle.{Measures, is, falls, and}
 use Rattle.format.specs.Answer.{Answer, answer}
 use Rattle.math.specs.declared.Hyperplane.{Hyperplane}
-use Rattle.records.specs.Plane.{planeAnswer}
+use Rattle.records.specs.Answers.{planeAnswer}
 use Rattle.walk.specs.BoxWalk.{union, boxWalk}
 use Rattle.nodes.specs.Fast as Fast
 use Rattle.nodes.specs.declared.read.Words.{Words}
-use Rattle.boxes.specs.Sets.{setAnswer, boxWord}
+use Rattle.boxes.specs.Sets.{boxWord}
+use Rattle.boxes.specs.Answers.{setAnswer}
 use Rattle.boxes.proofs.Laws.{box-outside, box-spent, box-unread, box-unplaned, box-on-one, box-on-both, ends-front, ends-back, joins, word-node, word-end, word-refused}
 use Rattle.boxes.proofs.box_child.Reads as box-child
 use Rattle.boxes.proofs.box_child.Kinds as box-child-kinds

@@ -1,7 +1,7 @@
 -- `acceptance_number` meets its contract, case by case. Assumes nothing.
 use borrow.Author.Needs.{needs}
 use mathlib.Core.Path.{sym, ap, _∙_}
-use Rattle.accept.specs.Accept.{acceptanceAnswer}
+use Rattle.accept.specs.Answers.{acceptanceAnswer}
 use Rattle.accept.specs.declared.Acceptance.{Acceptance}
 use Rattle.ffi_accept.specs.Calls.{statusOf}
 use Rattle.ffi_accept.proofs.acceptance_number.Statement.{statement}

@@ -4,7 +4,7 @@ use mathlib.Core.Path.{refl}
 use native.Mathlib.Omega.{arith}
 use Rattle.words.specs.Words.{numberWords}
 use Rattle.words.proofs.Giving.{refuses, gives}
-use Rattle.boxes.specs.Sets.{setAnswer}
+use Rattle.boxes.specs.Answers.{setAnswer}
 use Rattle.ffi_boxes.proofs.give_set.Statement.{statement}
 use Rattle.ffi_boxes.proofs.give_set.Tie as tie
 

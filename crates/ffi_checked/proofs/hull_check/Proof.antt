@@ -3,7 +3,7 @@ use borrow.Author.Needs.{needs}
 use borrow.Author.Tests.{lt-ltb, le-ltb}
 use mathlib.Core.Path.{_≡_}
 use Rattle.words.specs.Words.{Left}
-use Rattle.hull.specs.Hull.{hullAnswer}
+use Rattle.hull.specs.Answers.{hullAnswer}
 use Rattle.ffi_checked.specs.Calls.{hullCheckOf, bspHullCheck}
 use Rattle.ffi_checked.proofs.Laws.{check-refused, check-passed, of-hull, of-none}
 use Rattle.ffi_checked.proofs.hull_check.Statement.{statement}

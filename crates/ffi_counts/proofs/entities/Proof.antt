@@ -6,7 +6,8 @@ use borrow.Author.Tests.{lt-ltb, le-ltb}
 use Rattle.format.specs.Answer.{mapped}
 use Rattle.words.specs.Words.{Written, given}
 use Rattle.words.proofs.Giving.{refuses, gives}
-use Rattle.models.specs.Text.{entitiesOf, entitiesAnswer}
+use Rattle.models.specs.Text.{entitiesOf}
+use Rattle.models.specs.Answers.{entitiesAnswer}
 use Rattle.ffi_counts.specs.Calls.{partWords, bspEntities}
 use Rattle.ffi_counts.proofs.entities.Statement.{statement}
 use Rattle.ffi_counts.proofs.entities.Tie as tie

@@ -13,7 +13,8 @@ use Rattle.walk.specs.Table.{Table}
 use Rattle.walk.specs.Walk.{pointWalk}
 use Rattle.nodes.specs.Tables.{End}
 use Rattle.hull.specs.Hull.{hullTable}
-use Rattle.entered.specs.Lists.{nodesEntered, enteredAnswer}
+use Rattle.entered.specs.Lists.{nodesEntered}
+use Rattle.entered.specs.Answers.{enteredAnswer}
 use Rattle.ffi_hull.specs.Layout.{pointAt, hullFrom}
 use Rattle.ffi_hull.proofs.Walked.{no-hull, the-hull}
 use Rattle.ffi_entered.specs.Calls.{bspContentsNodes}

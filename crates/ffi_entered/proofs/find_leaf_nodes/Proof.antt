@@ -7,7 +7,8 @@ use Rattle.words.proofs.Giving.{counts}
 use Rattle.walk.specs.Table.{Table}
 use Rattle.walk.specs.Walk.{pointWalk}
 use Rattle.nodes.specs.Tables.{End, leafTable}
-use Rattle.entered.specs.Lists.{nodesEntered, enteredAnswer}
+use Rattle.entered.specs.Lists.{nodesEntered}
+use Rattle.entered.specs.Answers.{enteredAnswer}
 use Rattle.ffi_hull.specs.Layout.{pointAt}
 use Rattle.ffi_hull.proofs.Walked.{same-leaf-table}
 use Rattle.ffi_entered.specs.Calls.{bspFindLeafNodes}

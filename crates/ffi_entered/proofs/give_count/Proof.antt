@@ -3,7 +3,7 @@ use mathlib.Core.Path.{refl}
 use native.Mathlib.Omega.{arith}
 use Rattle.words.specs.Words.{numberWords}
 use Rattle.words.proofs.Giving.{refuses, gives}
-use Rattle.entered.specs.Lists.{enteredAnswer}
+use Rattle.entered.specs.Answers.{enteredAnswer}
 use borrow.Author.Needs.{needs}
 use Rattle.ffi_entered.proofs.give_count.Statement.{statement}
 use Rattle.ffi_entered.proofs.give_count.Tie as tie

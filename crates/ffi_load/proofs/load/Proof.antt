@@ -4,7 +4,7 @@ use mathlib.Core.Path.{refl}
 use borrow.Author.Tests.{lt-ltb, le-ltb}
 use Rattle.words.specs.Words.{mapWords}
 use Rattle.words.proofs.Giving.{refuses, gives}
-use Rattle.load.specs.Load.{loadedAnswer}
+use Rattle.load.specs.Answers.{loadedAnswer}
 use Rattle.ffi_load.specs.Calls.{bspLoad}
 use Rattle.ffi_load.proofs.load.Statement.{statement}
 use Rattle.ffi_load.proofs.load.Tie as tie

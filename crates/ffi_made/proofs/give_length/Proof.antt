@@ -4,7 +4,7 @@ use mathlib.Core.Path.{refl}
 use native.Mathlib.Omega.{arith}
 use Rattle.words.specs.Words.{numberWords}
 use Rattle.words.proofs.Giving.{refuses, gives}
-use Rattle.made.specs.Writing.{lengthOf}
+use Rattle.made.specs.Answers.{lengthOf}
 use Rattle.ffi_made.proofs.give_length.Statement.{statement}
 use Rattle.ffi_made.proofs.give_length.Tie as tie
 

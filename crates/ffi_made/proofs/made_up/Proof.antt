@@ -3,7 +3,7 @@ use borrow.Author.Needs.{needs}
 use mathlib.Core.Path.{sym, _∙_}
 use borrow.Author.Tests.{lt-ltb, le-ltb, not-true, not-false}
 use Rattle.words.proofs.Giving.{counts}
-use Rattle.made.specs.Writing.{lengthOf}
+use Rattle.made.specs.Answers.{lengthOf}
 use Rattle.ffi_made.specs.Calls.{bspMadeUp}
 use Rattle.ffi_made.proofs.made_up.Statement.{statement}
 use Rattle.ffi_made.proofs.made_up.Tie as tie

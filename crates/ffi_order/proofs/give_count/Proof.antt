@@ -3,7 +3,7 @@ use mathlib.Core.Path.{refl}
 use native.Mathlib.Omega.{arith}
 use Rattle.words.specs.Words.{numberWords}
 use Rattle.words.proofs.Giving.{refuses, gives}
-use Rattle.order.specs.Order.{orderedAnswer}
+use Rattle.order.specs.Answers.{orderedAnswer}
 use borrow.Author.Needs.{needs}
 use Rattle.ffi_order.proofs.give_count.Statement.{statement}
 use Rattle.ffi_order.proofs.give_count.Tie as tie

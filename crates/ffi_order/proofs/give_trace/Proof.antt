@@ -5,7 +5,7 @@ use Prim.Native.Nat.{ℕ, _≤_}
 use lib.ListN.{length}
 use Rattle.words.proofs.Giving.{refuses, gives}
 use Rattle.phys.specs.declared.Trace.{Trace}
-use Rattle.hull.specs.Traces.{tracedAnswer}
+use Rattle.hull.specs.Answers.{tracedAnswer}
 use Rattle.ffi_traces.specs.Layout.{traceWords}
 use Rattle.ffi_order.proofs.Laws.{long}
 use borrow.Author.Needs.{needs}

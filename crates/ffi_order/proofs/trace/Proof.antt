@@ -15,7 +15,8 @@ use Rattle.phys.specs.declared.Trace.{Trace}
 use Rattle.walk.specs.Walk.{withVisits}
 use Rattle.walk.specs.Trace as Tracing
 use Rattle.ffi_traces.specs.Layout.{traceWords}
-use Rattle.ffi_order.specs.Calls.{planesMap, bspOrderTrace}
+use Rattle.ffi_order.specs.Calls.{bspOrderTrace}
+use Rattle.ffi_order.specs.Private.{planesMap}
 use borrow.Author.Needs.{needs}
 use Rattle.ffi_order.proofs.trace.Statement.{statement}
 use Rattle.ffi_order.proofs.trace.Tie as tie

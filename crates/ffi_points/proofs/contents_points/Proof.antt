@@ -4,7 +4,8 @@ use mathlib.Core.Path.{_∙_}
 use Rattle.format.specs.Answer.{refused}
 use Rattle.words.proofs.Giving.{counts}
 use Rattle.hull.specs.Hull.{hullTable}
-use Rattle.points.specs.Points.{pointsOf, codesAndReads, pointsAnswer}
+use Rattle.points.specs.Points.{pointsOf, codesAndReads}
+use Rattle.points.specs.Answers.{pointsAnswer}
 use Rattle.points.proofs.Opening.{all-right}
 use Rattle.ffi_hull.proofs.Walked.{no-hull, the-hull}
 use Rattle.ffi_points.proofs.Calling.{too-many, not-in-threes, short-map, short-hull, short-out, short-list, at-hull}

@@ -4,7 +4,7 @@ use mathlib.Core.Path.{refl}
 use native.Mathlib.Omega.{arith}
 use Rattle.words.specs.Words.{numberWords}
 use Rattle.words.proofs.Giving.{refuses, gives}
-use Rattle.points.specs.Points.{pointsAnswer}
+use Rattle.points.specs.Answers.{pointsAnswer}
 use borrow.Author.Needs.{needs}
 use Rattle.ffi_points.proofs.give_reads.Statement.{statement}
 use Rattle.ffi_points.proofs.give_reads.Tie as tie

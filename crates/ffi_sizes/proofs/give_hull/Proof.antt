@@ -3,7 +3,7 @@ use borrow.Author.Needs.{needs}
 use mathlib.Core.Path.{refl}
 use native.Mathlib.Omega.{arith}
 use Rattle.words.proofs.Giving.{refuses, gives}
-use Rattle.hull.specs.Hull.{hullAnswer}
+use Rattle.hull.specs.Answers.{hullAnswer}
 use Rattle.ffi_hull.specs.Layout.{hullWords}
 use Rattle.ffi_sizes.proofs.give_hull.Statement.{statement}
 use Rattle.ffi_sizes.proofs.give_hull.Tie as tie

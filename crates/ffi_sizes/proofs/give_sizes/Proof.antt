@@ -3,7 +3,7 @@ use borrow.Author.Needs.{needs}
 use mathlib.Core.Path.{refl}
 use native.Mathlib.Omega.{arith}
 use Rattle.words.proofs.Giving.{refuses, gives}
-use Rattle.sizes.specs.Sizes.{sizesAnswer}
+use Rattle.sizes.specs.Answers.{sizesAnswer}
 use Rattle.ffi_sizes.specs.Layout.{sizesWords}
 use Rattle.ffi_sizes.proofs.give_sizes.Statement.{statement}
 use Rattle.ffi_sizes.proofs.give_sizes.Tie as tie

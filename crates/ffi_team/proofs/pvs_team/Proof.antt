@@ -4,7 +4,7 @@ use mathlib.Core.Path.{ap, _∙_}
 use borrow.Author.Tests.{lt-ltb, le-ltb}
 use Rattle.format.specs.Listed.{into}
 use Rattle.words.proofs.Giving.{counts}
-use Rattle.vis.specs.Pvs.{lengthOf}
+use Rattle.vis.specs.Answers.{lengthOf}
 use Rattle.team.specs.Team.{teamOf}
 use Rattle.ffi_team.specs.Calls.{bspPvsTeam}
 use Rattle.ffi_team.proofs.pvs_team.Statement.{statement}

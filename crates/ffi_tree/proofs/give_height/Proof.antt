@@ -4,7 +4,7 @@ use mathlib.Core.Path.{refl}
 use native.Mathlib.Omega.{arith}
 use Rattle.words.specs.Words.{numberWords}
 use Rattle.words.proofs.Giving.{refuses, gives}
-use Rattle.tree.specs.Check.{heightAnswer}
+use Rattle.tree.specs.Answers.{heightAnswer}
 use Rattle.ffi_tree.proofs.give_height.Statement.{statement}
 use Rattle.ffi_tree.proofs.give_height.Tie as tie
 

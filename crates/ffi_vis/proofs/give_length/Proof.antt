@@ -4,7 +4,7 @@ use mathlib.Core.Path.{refl}
 use native.Mathlib.Omega.{arith}
 use Rattle.words.specs.Words.{numberWords}
 use Rattle.words.proofs.Giving.{refuses, gives}
-use Rattle.vis.specs.Pvs.{lengthOf}
+use Rattle.vis.specs.Answers.{lengthOf}
 use Rattle.ffi_vis.proofs.give_length.Statement.{statement}
 use Rattle.ffi_vis.proofs.give_length.Tie as tie
 

@@ -4,7 +4,8 @@ use mathlib.Core.Path.{ap, _∙_}
 use borrow.Author.Tests.{lt-ltb, le-ltb}
 use Rattle.format.specs.Listed.{into}
 use Rattle.words.proofs.Giving.{counts}
-use Rattle.vis.specs.Pvs.{lengthOf, pvsOf}
+use Rattle.vis.specs.Pvs.{pvsOf}
+use Rattle.vis.specs.Answers.{lengthOf}
 use Rattle.ffi_vis.specs.Calls.{bspPvs}
 use Rattle.ffi_vis.proofs.pvs.Statement.{statement}
 use Rattle.ffi_vis.proofs.pvs.Tie as tie

@@ -3,7 +3,7 @@ use borrow.Author.Needs.{needs}
 use mathlib.Core.Path.{refl}
 use native.Mathlib.Omega.{arith}
 use Rattle.words.proofs.Giving.{refuses, gives}
-use Rattle.hull.specs.Walks.{leafAnswer}
+use Rattle.hull.specs.Answers.{leafAnswer}
 use Rattle.ffi_walks.specs.Calls.{leafWords}
 use Rattle.ffi_walks.proofs.give_leaf.Statement.{statement}
 use Rattle.ffi_walks.proofs.give_leaf.Tie as tie

@@ -3,7 +3,7 @@ use borrow.Author.Needs.{needs}
 use mathlib.Core.Path.{sym, ap, _∙_}
 use native.Mathlib.Omega.{arith}
 use Rattle.format.specs.Answer.{refused}
-use Rattle.load.specs.Load.{loadedAnswer}
+use Rattle.load.specs.Answers.{loadedAnswer}
 use Rattle.report.proofs.Counting.{too-long, refuses, counts}
 use Rattle.report.proofs.report.Statement.{statement}
 use Rattle.report.proofs.report.Tie as tie

@@ -7,7 +7,7 @@ use native.Mathlib.Omega.{arith}
 use Rattle.format.proofs.Listing.{into-none}
 use Rattle.format.specs.Answer.{Answer, answer}
 use Rattle.format.specs.Listed.{into}
-use Rattle.vis.specs.Pvs.{lengthOf}
+use Rattle.vis.specs.Answers.{lengthOf}
 use Rattle.team.specs.Team.{pooled}
 use Rattle.team.specs.Starts.{dataOf}
 use Rattle.team.specs.Walk.{rowsAt, Starts}

@@ -17,7 +17,8 @@ use Rattle.walk.proofs.CheckSteps.{check-outside, check-twice, check-deep, reco
 use Rattle.nodes.specs.Tables.{End}
 use Rattle.nodes.specs.Fast as Fast
 use Rattle.nodes.specs.declared.read.Words.{Words}
-use Rattle.tree.specs.Check.{heightAnswer, checkWord}
+use Rattle.tree.specs.Check.{checkWord}
+use Rattle.tree.specs.Answers.{heightAnswer}
 use Rattle.tree.specs.declared.TreeChecked.the-variants.{Height}
 use Rattle.tree.proofs.Laws.{ends-front, goes-back, ends-back, higher-back, higher-front, opens, low, word-node, word-end, word-outside}
 use Rattle.tree.proofs.check_child.Reads as check-child

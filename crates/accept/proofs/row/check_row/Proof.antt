@@ -1,7 +1,7 @@
 -- `check_row` meets its contract: the leaf, then its offset, then the row there. Assumes nothing.
 use borrow.Author.Needs.{needs}
 use Rattle.format.proofs.Fields.{found}
-use Rattle.records.specs.Leaf.{leafAnswer}
+use Rattle.records.specs.Answers.{leafAnswer}
 use Rattle.accept.proofs.Rows.{no-record, no-row, its-row}
 use Rattle.accept.proofs.row.check_row.Statement.{statement}
 use Rattle.accept.proofs.row.check_row.Tie as tie

@@ -1,7 +1,7 @@
 -- `check_root` meets its contract: a root that is remembered has passed, and one that passes is remembered. Assumes nothing.
 use borrow.Author.Needs.{needs}
 use mathlib.Core.Path.{sym, ap, _∙_}
-use Rattle.accept.specs.Accept.{acceptanceAnswer}
+use Rattle.accept.specs.Answers.{acceptanceAnswer}
 use Rattle.accept.proofs.Ways.{one-more}
 use Rattle.accept.proofs.trees.check_root.Statement.{statement}
 use Rattle.accept.proofs.trees.check_root.Tie as tie

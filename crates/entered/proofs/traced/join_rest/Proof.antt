@@ -1,8 +1,9 @@
 -- `join_rest` meets its contract.
 -- Assumes nothing.
 use mathlib.Core.Path.{sym, ap, _∙_}
-use Rattle.phys.specs.Trace.{joinedOf}
-use Rattle.hull.specs.Traces.{tracedAnswer, joinedWith, joinFar}
+use Rattle.phys.specs.Answers.{joinedOf}
+use Rattle.hull.specs.Traces.{joinedWith, joinFar}
+use Rattle.hull.specs.Answers.{tracedAnswer}
 use borrow.Author.Needs.{needs}
 use Rattle.entered.proofs.traced.join_rest.Statement.{statement}
 use Rattle.entered.proofs.traced.join_rest.Tie as tie

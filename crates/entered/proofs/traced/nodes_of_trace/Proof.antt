@@ -9,7 +9,7 @@ use Rattle.phys.specs.declared.Trace.{Trace}
 use Rattle.walk.specs.Walk.{Outcome}
 use Rattle.walk.specs.Trace as Tracing
 use Rattle.hull.specs.Hull.{hullTable}
-use Rattle.hull.specs.Traces.{tracedAnswer}
+use Rattle.hull.specs.Answers.{tracedAnswer}
 use Rattle.entered.proofs.Listing.{declined, too-short, traced-list}
 use Rattle.entered.proofs.Parts.{in-hull}
 use borrow.Author.Needs.{needs}

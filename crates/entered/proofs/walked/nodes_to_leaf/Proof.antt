@@ -7,7 +7,7 @@ use lib.ListN.{length}
 use mathlib.Core.Path.{sym, ap, _∙_}
 use Rattle.walk.specs.Walk.{Outcome, pointWalk}
 use Rattle.nodes.specs.Tables.{leafTable}
-use Rattle.hull.specs.Walks.{leafAnswer}
+use Rattle.hull.specs.Answers.{leafAnswer}
 use Rattle.entered.proofs.Listing.{declined}
 use Rattle.entered.proofs.Trails.{leaf-listed}
 use borrow.Author.Needs.{needs}

@@ -8,7 +8,7 @@ use mathlib.Core.Path.{sym, ap, _∙_}
 use Rattle.format.specs.declared.contents.BspLeafContents.{BspLeafContents}
 use Rattle.walk.specs.Walk.{Outcome, pointWalk}
 use Rattle.hull.specs.Hull.{hullTable}
-use Rattle.hull.specs.Walks.{contentsAnswer}
+use Rattle.hull.specs.Answers.{contentsAnswer}
 use Rattle.entered.proofs.Listing.{declined}
 use Rattle.entered.proofs.Trails.{point-listed}
 use borrow.Author.Needs.{needs}

@@ -7,7 +7,7 @@ use mathlib.Core.Path.{_≡_, refl}
 use mathlib.Core.List.{_++_}
 use lib.ListN.{length, take, length-set}
 use Rattle.nodes.specs.Fast as Fast
-use Rattle.entered.specs.Lists.{trail}
+use Rattle.entered.specs.Private.{trail}
 use Rattle.entered.proofs.Trails.{starts, goes-on, ends}
 use borrow.Author.Needs.{needs}
 use Rattle.entered.proofs.walked.write_walk.Statement.{statement}

@@ -2,8 +2,7 @@
 -- Assumes nothing.
 use borrow.Author.Needs.{needs}
 use Rattle.format.proofs.Fields.{found}
-use Rattle.records.specs.Plane.{vertexAnswer}
-use Rattle.records.specs.Edge.{edgeIndexAnswer, edgeAnswer}
+use Rattle.records.specs.Answers.{edgeIndexAnswer, edgeAnswer, vertexAnswer}
 use Rattle.faces.specs.Extents.{cornerOf}
 use Rattle.faces.proofs.extents.corner.Statement.{statement}
 use Rattle.faces.proofs.extents.corner.Tie as tie

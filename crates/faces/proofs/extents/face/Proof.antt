@@ -2,8 +2,8 @@
 -- Assumes nothing.
 use borrow.Author.Needs.{needs}
 use Rattle.format.proofs.Fields.{found}
-use Rattle.faces.specs.Face.{faceAnswer}
-use Rattle.faces.specs.Extents.{surfaceAnswer, faceOf}
+use Rattle.faces.specs.Extents.{faceOf}
+use Rattle.faces.specs.Answers.{surfaceAnswer, faceAnswer}
 use Rattle.faces.proofs.extents.face.Statement.{statement}
 use Rattle.faces.proofs.extents.face.Tie as tie
 

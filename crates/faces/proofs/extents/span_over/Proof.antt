@@ -6,7 +6,7 @@ use native.Mathlib.Omega.{arith}
 use borrow.Author.Needs.{needs}
 use denote.Ref.{now}
 use Rattle.format.proofs.Fields.{found}
-use Rattle.records.specs.Plane.{vertexAnswer}
+use Rattle.records.specs.Answers.{vertexAnswer}
 use Rattle.faces.specs.Extents.{unbounded, spanOver}
 use Rattle.faces.specs.declared.extents.Span.{Span}
 use Rattle.faces.proofs.Spans.{done, more, stop}

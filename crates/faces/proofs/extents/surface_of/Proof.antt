@@ -2,8 +2,9 @@
 -- Assumes nothing.
 use borrow.Author.Needs.{needs}
 use Rattle.format.proofs.Fields.{found}
-use Rattle.records.specs.Texinfo.{texinfoAnswer}
-use Rattle.faces.specs.Extents.{spanAnswer, surfaceOf}
+use Rattle.records.specs.Answers.{texinfoAnswer}
+use Rattle.faces.specs.Extents.{surfaceOf}
+use Rattle.faces.specs.Answers.{spanAnswer}
 use Rattle.faces.proofs.extents.surface_of.Statement.{statement}
 use Rattle.faces.proofs.extents.surface_of.Tie as tie
 

@@ -7,7 +7,8 @@ use mathlib.Core.List.{List}
 use Rattle.format.specs.Answer as Answer
 use Rattle.format.specs.declared.refusal.Refusal.{Refusal}
 use Rattle.records.specs.Access.{reading, recordOf}
-use Rattle.faces.specs.Face.{faceAt, faceStep}
+use Rattle.faces.specs.Face.{faceAt}
+use Rattle.faces.specs.Answers.{faceStep}
 use Rattle.faces.specs.declared.face.BspFace.{BspFace}
 use Rattle.faces.specs.declared.face.ReadFace.{ReadFace}
 use Rattle.faces.specs.declared.face.ReadFace.the-variants as Fac

@@ -3,7 +3,7 @@ use borrow.Author.Needs.{needs}
 use mathlib.Core.Path.{refl}
 use native.Mathlib.Omega.{arith}
 use Rattle.words.proofs.Giving.{refuses, gives}
-use Rattle.records.specs.Node.{collisionNodeAnswer}
+use Rattle.records.specs.Answers.{collisionNodeAnswer}
 use Rattle.record_words.specs.Layout.{collisionNodeWords}
 use Rattle.ffi_records.proofs.answer.give_collision_node.Statement.{statement}
 use Rattle.ffi_records.proofs.answer.give_collision_node.Tie as tie

@@ -3,7 +3,7 @@ use borrow.Author.Needs.{needs}
 use mathlib.Core.Path.{refl}
 use native.Mathlib.Omega.{arith}
 use Rattle.words.proofs.Giving.{refuses, gives}
-use Rattle.records.specs.Edge.{edgeAnswer}
+use Rattle.records.specs.Answers.{edgeAnswer}
 use Rattle.record_words.specs.Layout.{edgeWords}
 use Rattle.ffi_records.proofs.answer.give_edge.Statement.{statement}
 use Rattle.ffi_records.proofs.answer.give_edge.Tie as tie

@@ -3,7 +3,7 @@ use borrow.Author.Needs.{needs}
 use mathlib.Core.Path.{refl}
 use native.Mathlib.Omega.{arith}
 use Rattle.words.proofs.Giving.{refuses, gives}
-use Rattle.records.specs.Edge.{edgeIndexAnswer}
+use Rattle.records.specs.Answers.{edgeIndexAnswer}
 use Rattle.record_words.specs.Layout.{edgeIndexWords}
 use Rattle.ffi_records.proofs.answer.give_edge_index.Statement.{statement}
 use Rattle.ffi_records.proofs.answer.give_edge_index.Tie as tie

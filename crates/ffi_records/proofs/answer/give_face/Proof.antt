@@ -3,7 +3,7 @@ use borrow.Author.Needs.{needs}
 use mathlib.Core.Path.{refl}
 use native.Mathlib.Omega.{arith}
 use Rattle.words.proofs.Giving.{refuses, gives}
-use Rattle.faces.specs.Face.{faceAnswer}
+use Rattle.faces.specs.Answers.{faceAnswer}
 use Rattle.record_words.specs.Layout.{faceWords}
 use Rattle.ffi_records.proofs.answer.give_face.Statement.{statement}
 use Rattle.ffi_records.proofs.answer.give_face.Tie as tie

@@ -3,7 +3,7 @@ use borrow.Author.Needs.{needs}
 use mathlib.Core.Path.{refl}
 use native.Mathlib.Omega.{arith}
 use Rattle.words.proofs.Giving.{refuses, gives}
-use Rattle.records.specs.Edge.{faceIndexAnswer}
+use Rattle.records.specs.Answers.{faceIndexAnswer}
 use Rattle.record_words.specs.Layout.{numberWords}
 use Rattle.ffi_records.proofs.answer.give_face_index.Statement.{statement}
 use Rattle.ffi_records.proofs.answer.give_face_index.Tie as tie

@@ -3,7 +3,7 @@ use borrow.Author.Needs.{needs}
 use mathlib.Core.Path.{refl}
 use native.Mathlib.Omega.{arith}
 use Rattle.words.proofs.Giving.{refuses, gives}
-use Rattle.records.specs.Leaf.{leafAnswer}
+use Rattle.records.specs.Answers.{leafAnswer}
 use Rattle.record_words.specs.Layout.{leafWords}
 use Rattle.ffi_records.proofs.answer.give_leaf.Statement.{statement}
 use Rattle.ffi_records.proofs.answer.give_leaf.Tie as tie

@@ -3,7 +3,7 @@ use borrow.Author.Needs.{needs}
 use mathlib.Core.Path.{refl}
 use native.Mathlib.Omega.{arith}
 use Rattle.words.proofs.Giving.{refuses, gives}
-use Rattle.models.specs.Model.{modelAnswer}
+use Rattle.models.specs.Answers.{modelAnswer}
 use Rattle.record_words.specs.Layout.{modelWords}
 use Rattle.ffi_records.proofs.answer.give_model.Statement.{statement}
 use Rattle.ffi_records.proofs.answer.give_model.Tie as tie

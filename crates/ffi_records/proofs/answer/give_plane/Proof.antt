@@ -3,7 +3,7 @@ use borrow.Author.Needs.{needs}
 use mathlib.Core.Path.{refl}
 use native.Mathlib.Omega.{arith}
 use Rattle.words.proofs.Giving.{refuses, gives}
-use Rattle.records.specs.Plane.{planeAnswer}
+use Rattle.records.specs.Answers.{planeAnswer}
 use Rattle.record_words.specs.Layout.{planeWords}
 use Rattle.ffi_records.proofs.answer.give_plane.Statement.{statement}
 use Rattle.ffi_records.proofs.answer.give_plane.Tie as tie

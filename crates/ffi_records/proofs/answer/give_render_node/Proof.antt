@@ -3,7 +3,7 @@ use borrow.Author.Needs.{needs}
 use mathlib.Core.Path.{refl}
 use native.Mathlib.Omega.{arith}
 use Rattle.words.proofs.Giving.{refuses, gives}
-use Rattle.records.specs.Node.{renderNodeAnswer}
+use Rattle.records.specs.Answers.{renderNodeAnswer}
 use Rattle.record_words.specs.Layout.{renderNodeWords}
 use Rattle.ffi_records.proofs.answer.give_render_node.Statement.{statement}
 use Rattle.ffi_records.proofs.answer.give_render_node.Tie as tie

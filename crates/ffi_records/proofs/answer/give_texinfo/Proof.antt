@@ -3,7 +3,7 @@ use borrow.Author.Needs.{needs}
 use mathlib.Core.Path.{refl}
 use native.Mathlib.Omega.{arith}
 use Rattle.words.proofs.Giving.{refuses, gives}
-use Rattle.records.specs.Texinfo.{texinfoAnswer}
+use Rattle.records.specs.Answers.{texinfoAnswer}
 use Rattle.record_words.specs.Layout.{texinfoWords}
 use Rattle.ffi_records.proofs.answer.give_texinfo.Statement.{statement}
 use Rattle.ffi_records.proofs.answer.give_texinfo.Tie as tie

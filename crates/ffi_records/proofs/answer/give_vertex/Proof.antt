@@ -3,7 +3,7 @@ use borrow.Author.Needs.{needs}
 use mathlib.Core.Path.{refl}
 use native.Mathlib.Omega.{arith}
 use Rattle.words.proofs.Giving.{refuses, gives}
-use Rattle.records.specs.Plane.{vertexAnswer}
+use Rattle.records.specs.Answers.{vertexAnswer}
 use Rattle.record_words.specs.Layout.{vectorWords}
 use Rattle.ffi_records.proofs.answer.give_vertex.Statement.{statement}
 use Rattle.ffi_records.proofs.answer.give_vertex.Tie as tie

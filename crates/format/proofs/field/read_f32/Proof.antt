@@ -4,7 +4,8 @@ use borrow.Author.Needs.{needs}
 use mathlib.Core.Path.{ap}
 use lib.Ieee.{Float}
 use Rattle.format.specs.Step.{ok}
-use Rattle.format.specs.Field.{f32At, u32Step}
+use Rattle.format.specs.Field.{f32At}
+use Rattle.format.specs.Answers.{u32Step}
 use Rattle.format.proofs.Fields.{found}
 use Rattle.format.proofs.field.read_f32.Statement.{statement}
 use Rattle.format.proofs.field.read_f32.Tie as tie

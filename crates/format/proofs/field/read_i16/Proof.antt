@@ -6,7 +6,8 @@ use lib.IntN.{ℤ}
 use mir.Syntax.{w16}
 use mir.Facts.{toZ-ofZ}
 use Rattle.format.specs.Step.{ok}
-use Rattle.format.specs.Field.{i16At, u16Step}
+use Rattle.format.specs.Field.{i16At}
+use Rattle.format.specs.Answers.{u16Step}
 use Rattle.format.proofs.Fields.{found}
 use Rattle.format.proofs.field.read_i16.Statement.{statement}
 use Rattle.format.proofs.field.read_i16.Tie as tie

@@ -6,7 +6,8 @@ use lib.IntN.{ℤ}
 use mir.Syntax.{w32}
 use mir.Facts.{toZ-ofZ}
 use Rattle.format.specs.Step.{ok}
-use Rattle.format.specs.Field.{i32At, u32Step}
+use Rattle.format.specs.Field.{i32At}
+use Rattle.format.specs.Answers.{u32Step}
 use Rattle.format.proofs.Fields.{found}
 use Rattle.format.proofs.field.read_i32.Statement.{statement}
 use Rattle.format.proofs.field.read_i32.Tie as tie

@@ -11,13 +11,13 @@ use Rattle.math.specs.Plane as Pl
 use Rattle.math.specs.Plane.{axisX}
 use Rattle.math.specs.declared.Vector3.{Vector3}
 use Rattle.math.specs.declared.Hyperplane.{Hyperplane}
-use Rattle.walk.specs.Walk.{after}
+use Rattle.walk.specs.Private.{after}
 use Rattle.nodes.specs.declared.table.Tables.{Tables}
 use Rattle.nodes.specs.declared.read.Words.{Words}
 use Rattle.math.specs.Vector.{zero32}
 use Rattle.phys.specs.Trace as Tr
 use Rattle.format.specs.Answer.{answer}
-use Rattle.records.specs.Plane.{planeAnswer}
+use Rattle.records.specs.Answers.{planeAnswer}
 use Rattle.nodes.specs.Fast.{planeIn}
 use Rattle.hull.specs.Traces.{atStart, wayAnswer, wentTrace, withOneMore, resumed}
 use Rattle.hull.proofs.Ways.{visits-small, ends-stops, joins-way}

@@ -1,8 +1,9 @@
 -- `join_far` meets its contract.
 -- Assumes nothing.
 use mathlib.Core.Path.{sym, ap, _∙_}
-use Rattle.phys.specs.Trace.{joinedOf}
-use Rattle.hull.specs.Traces.{tracedAnswer, joinedWith, joinFar}
+use Rattle.phys.specs.Answers.{joinedOf}
+use Rattle.hull.specs.Traces.{joinedWith, joinFar}
+use Rattle.hull.specs.Answers.{tracedAnswer}
 use borrow.Author.Needs.{needs}
 use Rattle.hull.proofs.tracing.join_far.Statement.{statement}
 use Rattle.hull.proofs.tracing.join_far.Tie as tie

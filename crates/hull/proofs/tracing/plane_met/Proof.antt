@@ -1,7 +1,7 @@
 -- `plane_met` meets its contract.
 -- Assumes nothing.
 use mathlib.Core.Path.{sym, ap, _∙_}
-use Rattle.records.specs.Plane.{planeAnswer}
+use Rattle.records.specs.Answers.{planeAnswer}
 use Rattle.hull.specs.Traces.{planeOr}
 use borrow.Author.Needs.{needs}
 use Rattle.hull.proofs.tracing.plane_met.Statement.{statement}

@@ -1,7 +1,8 @@
 -- `trace` meets its contract.
 -- Assumes nothing.
 use mathlib.Core.Path.{sym, ap, _∙_}
-use Rattle.hull.specs.Traces.{tracedAnswer, wayAnswer}
+use Rattle.hull.specs.Traces.{wayAnswer}
+use Rattle.hull.specs.Answers.{tracedAnswer}
 use Rattle.hull.proofs.Founds.{trace-is}
 use borrow.Author.Needs.{needs}
 use Rattle.hull.proofs.tracing.trace.Statement.{statement}

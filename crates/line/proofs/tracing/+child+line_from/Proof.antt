@@ -9,7 +9,7 @@ use denote.Enum.Declared.{tagOf}
 use borrow.Author.Needs.{needs}
 use Rattle.nodes.specs.Fast as Fast
 use Rattle.line.specs.Line.{onward, lineFrom}
-use Rattle.line.specs.Answers.{Crossed}
+use Rattle.line.specs.Private.{Crossed}
 use Rattle.line.specs.declared.state.Stretch.{Stretch}
 use Rattle.line.specs.declared.state.LineTrace.{LineTrace}
 use Rattle.line.specs.declared.tracing.Going.{Going as GoingT}

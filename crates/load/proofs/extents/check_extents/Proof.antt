@@ -4,7 +4,7 @@ use borrow.Author.Needs.{needs}
 use native.Mathlib.Omega.{arith}
 use Rattle.format.specs.declared.section.BspFileSectionId.the-variants.{Faces}
 use Rattle.format.proofs.Fields.{found}
-use Rattle.sections.specs.Position.{positionStep}
+use Rattle.sections.specs.Answers.{positionStep}
 use Rattle.sections.proofs.Loops.{Left, starts, goes-on, breaks-off, ends}
 use Rattle.load.specs.Extents.{extentsAt, faceExtents}
 use Rattle.load.proofs.extents.check_extents.Statement.{statement}

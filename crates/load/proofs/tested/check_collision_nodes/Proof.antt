@@ -5,7 +5,8 @@ use mathlib.Core.Path.{_∙_}
 use native.Mathlib.Omega.{arith}
 use Rattle.format.specs.declared.section.BspFileSectionId.the-variants.{CollisionNodes}
 use Rattle.format.proofs.Fields.{found}
-use Rattle.records.specs.Node.{collisionNodeAt, collisionNodeStep}
+use Rattle.records.specs.Node.{collisionNodeAt}
+use Rattle.records.specs.Answers.{collisionNodeStep}
 use Rattle.sections.proofs.Loops.{Left, starts, goes-on, refuses, finishes}
 use Rattle.load.proofs.tested.check_collision_nodes.Statement.{statement}
 use Rattle.load.proofs.tested.check_collision_nodes.Tie as tie

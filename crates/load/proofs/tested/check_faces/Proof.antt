@@ -5,7 +5,8 @@ use mathlib.Core.Path.{_∙_}
 use native.Mathlib.Omega.{arith}
 use Rattle.format.specs.declared.section.BspFileSectionId.the-variants.{Faces}
 use Rattle.format.proofs.Fields.{found}
-use Rattle.faces.specs.Face.{faceAt, faceStep}
+use Rattle.faces.specs.Face.{faceAt}
+use Rattle.faces.specs.Answers.{faceStep}
 use Rattle.load.specs.Tested.{faces}
 use Rattle.sections.proofs.Loops.{Left, starts, goes-on, refuses, finishes}
 use Rattle.load.proofs.tested.check_faces.Statement.{statement}

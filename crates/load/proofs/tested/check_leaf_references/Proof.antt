@@ -5,7 +5,7 @@ use mathlib.Core.Path.{_≡_, refl, sym, _∙_}
 use native.Mathlib.Omega.{arith}
 use Rattle.format.specs.declared.section.BspFileSectionId.the-variants.{RenderNodes}
 use Rattle.format.proofs.Fields.{found}
-use Rattle.sections.specs.Position.{positionStep}
+use Rattle.sections.specs.Answers.{positionStep}
 use Rattle.sections.specs.Row.{records}
 use Rattle.sections.proofs.Loops.{starts, more, breaks-off, ends}
 use Rattle.load.specs.Tested.{referencesAt, leafReferences}

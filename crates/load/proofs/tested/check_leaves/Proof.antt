@@ -5,7 +5,8 @@ use mathlib.Core.Path.{_∙_}
 use native.Mathlib.Omega.{arith}
 use Rattle.format.specs.declared.section.BspFileSectionId.the-variants.{Leaves}
 use Rattle.format.proofs.Fields.{found}
-use Rattle.records.specs.Leaf.{leafAt, leafStep}
+use Rattle.records.specs.Leaf.{leafAt}
+use Rattle.records.specs.Answers.{leafStep}
 use Rattle.sections.proofs.Loops.{Left, starts, goes-on, refuses, finishes}
 use Rattle.load.proofs.tested.check_leaves.Statement.{statement}
 use Rattle.load.proofs.tested.check_leaves.Tie as tie

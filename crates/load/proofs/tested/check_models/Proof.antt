@@ -5,7 +5,8 @@ use mathlib.Core.Path.{_∙_}
 use native.Mathlib.Omega.{arith}
 use Rattle.format.specs.declared.section.BspFileSectionId.the-variants.{Models}
 use Rattle.format.proofs.Fields.{found}
-use Rattle.models.specs.Model.{fileModelAt, fileModelStep}
+use Rattle.models.specs.Model.{fileModelAt}
+use Rattle.models.specs.Answers.{fileModelStep}
 use Rattle.sections.proofs.Loops.{Left, starts, goes-on, refuses, finishes}
 use Rattle.load.proofs.tested.check_models.Statement.{statement}
 use Rattle.load.proofs.tested.check_models.Tie as tie

@@ -5,7 +5,8 @@ use mathlib.Core.Path.{_∙_}
 use native.Mathlib.Omega.{arith}
 use Rattle.format.specs.declared.section.BspFileSectionId.the-variants.{RenderNodes}
 use Rattle.format.proofs.Fields.{found}
-use Rattle.records.specs.Node.{renderNodeAt, renderNodeStep}
+use Rattle.records.specs.Node.{renderNodeAt}
+use Rattle.records.specs.Answers.{renderNodeStep}
 use Rattle.sections.proofs.Loops.{Left, starts, goes-on, refuses, finishes}
 use Rattle.load.proofs.tested.check_render_nodes.Statement.{statement}
 use Rattle.load.proofs.tested.check_render_nodes.Tie as tie

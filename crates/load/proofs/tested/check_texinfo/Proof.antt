@@ -5,7 +5,7 @@ use mathlib.Core.Path.{_∙_}
 use native.Mathlib.Omega.{arith}
 use Rattle.format.specs.declared.section.BspFileSectionId.the-variants.{TextureInfo}
 use Rattle.format.proofs.Fields.{found}
-use Rattle.records.specs.Texinfo.{texinfoStep}
+use Rattle.records.specs.Answers.{texinfoStep}
 use Rattle.load.specs.Tested.{textured, texinfos}
 use Rattle.sections.proofs.Loops.{Left, starts, goes-on, refuses, finishes}
 use Rattle.load.proofs.tested.check_texinfo.Statement.{statement}

@@ -7,7 +7,8 @@ use borrow.Author.Needs.{needs}
 use denote.Ref.{now}
 use Rattle.format.specs.Answer.{answer}
 use Rattle.format.proofs.Fields.{found}
-use Rattle.models.specs.Model.{leafIdOf, fileModelAnswer}
+use Rattle.models.specs.Model.{leafIdOf}
+use Rattle.models.specs.Answers.{fileModelAnswer}
 use Rattle.models.proofs.Models.{few, step, stop}
 use Rattle.models.proofs.model.leaf_id.Statement.{statement}
 use Rattle.models.proofs.model.leaf_id.Tie as tie

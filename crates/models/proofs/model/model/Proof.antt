@@ -2,7 +2,8 @@
 -- Assumes nothing.
 use borrow.Author.Needs.{needs}
 use Rattle.format.proofs.Fields.{found}
-use Rattle.models.specs.Model.{modelOf, fileModelAnswer, leafIdAnswer}
+use Rattle.models.specs.Model.{modelOf}
+use Rattle.models.specs.Answers.{fileModelAnswer, leafIdAnswer}
 use Rattle.models.proofs.model.model.Statement.{statement}
 use Rattle.models.proofs.model.model.Tie as tie
 

@@ -3,7 +3,7 @@
 use borrow.Author.Needs.{needs}
 use native.Mathlib.Omega.{arith}
 use Rattle.format.proofs.Fields.{found}
-use Rattle.models.specs.Text.{entitiesAnswer}
+use Rattle.models.specs.Answers.{entitiesAnswer}
 use Rattle.models.proofs.Texts.{within, none-of, part-of}
 use Rattle.models.proofs.text.entity_text.Statement.{statement}
 use Rattle.models.proofs.text.entity_text.Tie as tie

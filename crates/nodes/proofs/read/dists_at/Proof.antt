@@ -2,7 +2,7 @@
 -- Assumes nothing.
 use mathlib.Core.Path.{sym, ap, _∙_}
 use Rattle.format.specs.Answer.{answer}
-use Rattle.records.specs.Plane.{planeAnswer}
+use Rattle.records.specs.Answers.{planeAnswer}
 use Rattle.nodes.specs.Fast.{distsFrom}
 use Rattle.nodes.proofs.Planes.{with-two}
 use borrow.Author.Needs.{needs}

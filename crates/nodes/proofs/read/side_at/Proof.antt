@@ -3,7 +3,7 @@
 use mathlib.Core.Path.{sym, ap, _∙_}
 use Rattle.nodes.specs.Fast.{sideFrom}
 use Rattle.format.specs.Answer.{answer}
-use Rattle.records.specs.Plane.{planeAnswer}
+use Rattle.records.specs.Answers.{planeAnswer}
 use borrow.Author.Needs.{needs}
 use Rattle.nodes.proofs.read.side_at.Statement.{statement}
 use Rattle.nodes.proofs.read.side_at.Tie as tie

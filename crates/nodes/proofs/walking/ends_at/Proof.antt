@@ -2,7 +2,8 @@
 -- Assumes nothing.
 use Prim.Native.Nat.{_*_}
 use denote.Ref.{now}
-use Rattle.nodes.specs.Fast.{fileTable, nodeOf, nodeSize, planeHere, pointOf}
+use Rattle.nodes.specs.Fast.{nodeOf, nodeSize, planeHere, pointOf}
+use Rattle.nodes.specs.Tables.{fileTable}
 use Rattle.nodes.specs.Walks.{nodeAndDists}
 use Rattle.nodes.proofs.Making.{in-unread, in-outside, in-made, here-dists, here-always, with-dists}
 use borrow.Author.Needs.{needs}

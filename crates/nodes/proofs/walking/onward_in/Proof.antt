@@ -3,7 +3,8 @@
 use Prim.Native.Nat.{_*_}
 use denote.Ref.{now}
 use Rattle.math.specs.Plane.{pointSide}
-use Rattle.nodes.specs.Fast.{fileTable, nodeSize, planeHere}
+use Rattle.nodes.specs.Fast.{nodeSize, planeHere}
+use Rattle.nodes.specs.Tables.{fileTable}
 use Rattle.nodes.specs.Walks.{childToward}
 use Rattle.nodes.proofs.Making.{in-unread, in-outside, in-made, at-side}
 use borrow.Author.Needs.{needs}

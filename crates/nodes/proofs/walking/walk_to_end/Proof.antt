@@ -5,7 +5,8 @@ use Prim.Native.Nat.{ℕ, suc, _+_, _-_, _≤_, _<_}
 use native.Mathlib.Omega.{arith}
 use denote.Ref.{now}
 use mathlib.Core.Path.{_≡_, sym, ap, _∙_}
-use Rattle.walk.specs.Walk.{after, withVisits, walk, pointWalk}
+use Rattle.walk.specs.Walk.{withVisits, walk, pointWalk}
+use Rattle.walk.specs.Private.{after}
 use Rattle.walk.proofs.Steps.{walk-outside, walk-spent}
 use Rattle.nodes.specs.Fast as Fast
 use Rattle.nodes.specs.Walks.{ends}

@@ -1,7 +1,8 @@
 -- `join_rest` meets its contract. Assumes nothing.
 use mathlib.Core.Path.{sym, ap, _∙_}
-use Rattle.phys.specs.Trace.{joinedOf}
-use Rattle.hull.specs.Traces.{tracedAnswer, joinedWith, joinFar}
+use Rattle.phys.specs.Answers.{joinedOf}
+use Rattle.hull.specs.Traces.{joinedWith, joinFar}
+use Rattle.hull.specs.Answers.{tracedAnswer}
 use borrow.Author.Needs.{needs}
 use Rattle.ordered.proofs.tracing.join_rest.Statement.{statement}
 use Rattle.ordered.proofs.tracing.join_rest.Tie as tie

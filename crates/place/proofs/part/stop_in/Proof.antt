@@ -3,7 +3,7 @@ use borrow.Author.Needs.{needs}
 use Prim.Native.Nat.{_-_}
 use native.Mathlib.Omega.{arith}
 use Rattle.format.proofs.Fields.{found}
-use Rattle.sections.specs.Position.{positionStep}
+use Rattle.sections.specs.Answers.{positionStep}
 use Rattle.place.proofs.Stops.{Left, starts, goes-on, stops-here, ends}
 use Rattle.place.proofs.part.stop_in.Statement.{statement}
 use Rattle.place.proofs.part.stop_in.Tie as tie

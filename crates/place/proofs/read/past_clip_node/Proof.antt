@@ -1,7 +1,7 @@
 -- `place::read::past_clip_node` meets its contract. Assumes nothing.
 use borrow.Author.Needs.{needs}
 use mathlib.Core.Path.{refl}
-use Rattle.records.specs.Node.{collisionNodeStep}
+use Rattle.records.specs.Answers.{collisionNodeStep}
 use Rattle.place.proofs.Past.{past}
 use Rattle.place.proofs.read.past_clip_node.Statement.{statement}
 use Rattle.place.proofs.read.past_clip_node.Tie as tie

@@ -1,7 +1,7 @@
 -- `place::read::past_entry` meets its contract. Assumes nothing.
 use borrow.Author.Needs.{needs}
 use mathlib.Core.Path.{refl}
-use Rattle.sections.specs.Table.{sectionStep}
+use Rattle.sections.specs.Answers.{sectionStep}
 use Rattle.place.proofs.Past.{past}
 use Rattle.place.proofs.read.past_entry.Statement.{statement}
 use Rattle.place.proofs.read.past_entry.Tie as tie

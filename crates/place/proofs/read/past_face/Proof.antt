@@ -1,7 +1,7 @@
 -- `place::read::past_face` meets its contract. Assumes nothing.
 use borrow.Author.Needs.{needs}
 use mathlib.Core.Path.{refl}
-use Rattle.faces.specs.Face.{faceStep}
+use Rattle.faces.specs.Answers.{faceStep}
 use Rattle.place.proofs.Past.{past}
 use Rattle.place.proofs.read.past_face.Statement.{statement}
 use Rattle.place.proofs.read.past_face.Tie as tie

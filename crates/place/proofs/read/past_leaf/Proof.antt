@@ -1,7 +1,7 @@
 -- `place::read::past_leaf` meets its contract. Assumes nothing.
 use borrow.Author.Needs.{needs}
 use mathlib.Core.Path.{refl}
-use Rattle.records.specs.Leaf.{leafStep}
+use Rattle.records.specs.Answers.{leafStep}
 use Rattle.place.proofs.Past.{past}
 use Rattle.place.proofs.read.past_leaf.Statement.{statement}
 use Rattle.place.proofs.read.past_leaf.Tie as tie

@@ -1,7 +1,7 @@
 -- `place::read::past_model` meets its contract. Assumes nothing.
 use borrow.Author.Needs.{needs}
 use mathlib.Core.Path.{refl}
-use Rattle.models.specs.Model.{fileModelStep}
+use Rattle.models.specs.Answers.{fileModelStep}
 use Rattle.place.proofs.Past.{past}
 use Rattle.place.proofs.read.past_model.Statement.{statement}
 use Rattle.place.proofs.read.past_model.Tie as tie

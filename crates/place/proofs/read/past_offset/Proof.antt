@@ -1,7 +1,7 @@
 -- `place::read::past_offset` meets its contract. Assumes nothing.
 use borrow.Author.Needs.{needs}
 use mathlib.Core.Path.{refl}
-use Rattle.records.specs.Number.{offsetStep}
+use Rattle.records.specs.Answers.{offsetStep}
 use Rattle.place.proofs.Past.{past}
 use Rattle.place.proofs.read.past_offset.Statement.{statement}
 use Rattle.place.proofs.read.past_offset.Tie as tie

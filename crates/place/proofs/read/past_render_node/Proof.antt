@@ -1,7 +1,7 @@
 -- `place::read::past_render_node` meets its contract. Assumes nothing.
 use borrow.Author.Needs.{needs}
 use mathlib.Core.Path.{refl}
-use Rattle.records.specs.Node.{renderNodeStep}
+use Rattle.records.specs.Answers.{renderNodeStep}
 use Rattle.place.proofs.Past.{past}
 use Rattle.place.proofs.read.past_render_node.Statement.{statement}
 use Rattle.place.proofs.read.past_render_node.Tie as tie

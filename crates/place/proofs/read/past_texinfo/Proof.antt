@@ -1,7 +1,7 @@
 -- `place::read::past_texinfo` meets its contract. Assumes nothing.
 use borrow.Author.Needs.{needs}
 use mathlib.Core.Path.{refl}
-use Rattle.records.specs.Texinfo.{texinfoStep}
+use Rattle.records.specs.Answers.{texinfoStep}
 use Rattle.place.proofs.Past.{past}
 use Rattle.place.proofs.read.past_texinfo.Statement.{statement}
 use Rattle.place.proofs.read.past_texinfo.Tie as tie

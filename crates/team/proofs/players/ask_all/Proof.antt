@@ -4,7 +4,7 @@ use mathlib.Core.Path.{refl, sym, ap, _∙_}
 use Prim.Native.Nat.{_-_}
 use native.Mathlib.Omega.{arith}
 use lib.ListN.{length}
-use Rattle.vis.specs.Pvs.{lengthOf}
+use Rattle.vis.specs.Answers.{lengthOf}
 use Rattle.team.proofs.Asked.{Asking, ask-ends, ask-refused, ask-next}
 use Rattle.team.proofs.players.ask_all.Statement.{statement}
 use Rattle.team.proofs.players.ask_all.Tie as tie

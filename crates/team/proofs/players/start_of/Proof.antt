@@ -1,7 +1,7 @@
 -- `start_of` meets its contract: the law of the way taken. Assumes nothing.
 use borrow.Author.Needs.{needs}
 use mathlib.Core.Path.{sym, ap, _∙_}
-use Rattle.records.specs.Leaf.{leafAnswer}
+use Rattle.records.specs.Answers.{leafAnswer}
 use Rattle.team.proofs.Found.{zero-start, no-leaf-start, no-offset-start, offset-start}
 use Rattle.team.proofs.players.start_of.Statement.{statement}
 use Rattle.team.proofs.players.start_of.Tie as tie

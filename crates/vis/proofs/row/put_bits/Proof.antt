@@ -5,7 +5,7 @@ use mathlib.Core.Path.{_≡_}
 use mathlib.Core.List.{List, _++_}
 use Prim.Native.Nat.{ℕ, _+_, _≤_}
 use lib.ListN.{length, take}
-use Rattle.vis.specs.Row.{byteLeaves}
+use Rattle.vis.specs.Private.{byteLeaves}
 use Rattle.vis.proofs.SetBits.{all-kept}
 use Rattle.vis.proofs.row.put_bits.Statement.{statement}
 use Rattle.vis.proofs.row.put_bits.Tie as tie
