@@ -9,7 +9,7 @@ use Rattle.records.specs.Number.{numberAt, index16At, offsetOf, offsetAt}
 use Rattle.records.specs.Triple.{vectorAt, pointAt}
 use Rattle.models.specs.Model.{boundsAt, rootsAt, fileModelEndAt, fileModelAt}
 use Rattle.models.specs.Text.{textEnd}
-use Rattle.sections.specs.Row.{records, section, blob}
+use Rattle.sections.specs.Records.{records, section, blob}
 use Rattle.sections.specs.Table.{isMultiple, sectionAt, threeSectionsAt, tableEndAt, tableAt, isVersion, headerAt, exceeds, limits, limitsFromLeaves}
 use Rattle.utf8.specs.Unicode.{lead, next, run, whole, isUtf8}
 use Rattle.textures.specs.Count.{any}

@@ -2,7 +2,7 @@
 use mathlib.Core.Path.{_≡_, refl}
 use Rattle.format.specs.Field.{u32At, i32At, indexAt}
 use Rattle.records.specs.Number.{numberAt, offsetAt, offsetOf}
-use Rattle.sections.specs.Row.{records}
+use Rattle.sections.specs.Records.{records}
 use Rattle.textures.specs.Name.{lowered, charAt, chars, isAscii, same}
 use Rattle.textures.specs.Count.{any}
 use Rattle.textures.specs.Group.{sequenced}

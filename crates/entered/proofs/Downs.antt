@@ -25,7 +25,7 @@ use Rattle.phys.specs.Trace as Tr
 use Rattle.phys.specs.declared.Trace.{Trace as TraceT}
 use Rattle.walk.specs.Table.{Child, Node, Table}
 use Rattle.walk.specs.Walk.{Outcome, entered, held, Entered, enter, ended, onto}
-use Rattle.walk.specs.Trace.{across, traceAt, recursiveTrace}
+use Rattle.walk.specs.Tracing.{across, traceAt, recursiveTrace}
 use Rattle.walk.proofs.Steps.{trace-outside, trace-spent, trace-unread}
 use Rattle.nodes.specs.Tables.{End}
 use Rattle.nodes.specs.Fast.{wordsAnswer, nodeOf, planeIn, twoDists, distsAnswer, distsFrom, contentsMet, wordOn}
@@ -41,7 +41,7 @@ use Rattle.nodes.specs.declared.walking.SegmentAt.the-variants as G
 use Rattle.nodes.specs.Walks.{madeFrom, nodeAndDists, segmentAnswer}
 use Rattle.nodes.proofs.Entering.{planed, enter-not, enter-is, enter-no-plane}
 use Rattle.hull.specs.Traces.{crossedAt}
-use Rattle.entered.specs.Onward.{childOf, wordOnward, written}
+use Rattle.entered.specs.Onward.{childOf, wordOnward, tracedList}
 use Rattle.entered.specs.declared.traced.Onward.{Onward}
 use Rattle.entered.specs.declared.traced.Onward.the-variants as O
 use Rattle.entered.proofs.Steps.{child-goes}
@@ -68,14 +68,14 @@ module _ (f : List ℕ) (t : Tables) (s e : Vector3) (v k i : ℕ) (l : List ℕ
   T = Fast.table f t
 
   abbrev all : Answer ((TraceT × ℕ) × List ℕ)
-  all = written v l (recursiveTrace T k i s e)
+  all = tracedList v l (recursiveTrace T k i s e)
 
   pub outside : t .nodes .count ≤ i → Ans.refused 30 ≡ all
-  outside h = sym (ap (written v l) (trace-outside T s e k i h))
+  outside h = sym (ap (tracedList v l) (trace-outside T s e k i h))
 
   module _ (h : i < t .nodes .count) where
     pub spent : k ≡ 0 → Ans.refused 32 ≡ all
-    spent z = sym (ap (written v l) (trace-spent T s e k i z h))
+    spent z = sym (ap (tracedList v l) (trace-spent T s e k i z h))
 
     module _ (left : k ≡ 0 → ⊥) (r : SegmentAt) (is-r : segmentAnswer (t .table) r ≡ madeFrom (nodeAndDists s e) f t i) where
       abbrev go : ℕ → Vector3 → Vector3 → Outcome TraceT
@@ -86,7 +86,7 @@ module _ (f : List ℕ) (t : Tables) (s e : Vector3) (v k i : ℕ) (l : List ℕ
 
       pub unread : (x : Refusal) → r ≡ G.Refused x → Ans.refused (numberOf x) ≡ all
       unread x q =
-          sym (ap (written v l) (trace-unread T s e k (k - 1) i more h (numberOf x) (mapped-refused (nodeAndDists s e) (enter T i) (numberOf x) (sym is-r ∙ ap (segmentAnswer (t .table)) q))))
+          sym (ap (tracedList v l) (trace-unread T s e k (k - 1) i more h (numberOf x) (mapped-refused (nodeAndDists s e) (enter T i) (numberOf x) (sym is-r ∙ ap (segmentAnswer (t .table)) q))))
 
       module _ (w : WordsT) (a b : Float) (q2 : r ≡ G.Dists w a b) (short : length l < 2 ^ 63) (l1 : List ℕ) (is-l1 : l1 ≡ set l v i) (u : ℕ) (is-u : u ≡ held (v + 1)) where
         abbrev nd : Node End
@@ -128,29 +128,29 @@ module _ (f : List ℕ) (t : Tables) (s e : Vector3) (v k i : ℕ) (l : List ℕ
             by-left j p = rw p (simp (lt-ltb i (t .nodes .count) h))
 
         -- the node is written and counted
-        passes : (y : LinePlaneIntersect) → Pl.lineSegment pl s e ≡ y → written u l1 (across T go nd pl s e y) ≡ all
+        passes : (y : LinePlaneIntersect) → Pl.lineSegment pl s e ≡ y → tracedList u l1 (across T go nd pl s e y) ≡ all
         passes y q =
-            ap₂ (λ (n : ℕ) (m : List ℕ). written n m (across T go nd pl s e y)) is-u is-l1
+            ap₂ (λ (n : ℕ) (m : List ℕ). tracedList n m (across T go nd pl s e y)) is-u is-l1
             ∙ written-held (v + 1) (set l v i) (omega (arith, length-set l v i)) (across T go nd pl s e y)
             ∙ sym (written-entered v i l (across T go nd pl s e y))
-            ∙ sym (ap (written v l) (step ∙ ap (traceAt T go i s e) met ∙ ap (λ (z : LinePlaneIntersect). entered i (across T go nd pl s e z)) q))
+            ∙ sym (ap (tracedList v l) (step ∙ ap (traceAt T go i s e) met ∙ ap (λ (z : LinePlaneIntersect). entered i (across T go nd pl s e z)) q))
 
-        pub crosses : not (Bool·beq (Ieee.le zero32 a) (Ieee.le zero32 b)) ≡ true → written u l1 (crossedAt T (k - 1) nd s e a b (planeIn f t (w .plane))) ≡ all
+        pub crosses : not (Bool·beq (Ieee.le zero32 a) (Ieee.le zero32 b)) ≡ true → tracedList u l1 (crossedAt T (k - 1) nd s e a b (planeIn f t (w .plane))) ≡ all
         crosses z = rw its-plane (passes (PointIntersection (Pl.crossing pl s e a b (Pl.fromDist a))) (crossing (differ (Ieee.le zero32 a) (Ieee.le zero32 b) z)))
 
         module _ (z : not (Bool·beq (Ieee.le zero32 a) (Ieee.le zero32 b)) ≡ false) (c : Onward) (is-c : c ≡ wordOnward (wordOn w (Ieee.le zero32 a))) where
           abbrev on-to : Child End → Outcome TraceT
           on-to y = onto T (λ n. go n s e) (λ x. Tr.newTrace (Tr.start s zero32) (Tr.terminal e) x) y
 
-          whole : (y : Onward) → c ≡ y → written u l1 (on-to (childOf (t .table) y)) ≡ all
+          whole : (y : Onward) → c ≡ y → tracedList u l1 (on-to (childOf (t .table) y)) ≡ all
           whole y q =
-              ap (λ (x : Child End). written u l1 (on-to x)) (ap (childOf (t .table)) (sym q) ∙ child-goes (t .table) w (Pl.fromDist a) (Ieee.le zero32 a) refl c is-c)
+              ap (λ (x : Child End). tracedList u l1 (on-to x)) (ap (childOf (t .table)) (sym q) ∙ child-goes (t .table) w (Pl.fromDist a) (Ieee.le zero32 a) refl c is-c)
               ∙ passes (NoIntersection (Pl.fromDist a)) (on-one-side (agree (Ieee.le zero32 a) (Ieee.le zero32 b) z))
 
-          pub to-node : (n : ℕ) → c ≡ O.Node n → written u l1 (recursiveTrace T (k - 1) n s e) ≡ all
+          pub to-node : (n : ℕ) → c ≡ O.Node n → tracedList u l1 (recursiveTrace T (k - 1) n s e) ≡ all
           to-node n q = whole (O.Node n) q
 
-          pub to-end : (x : ℕ) → c ≡ O.End x → written u l1 (ended T (λ y. Tr.newTrace (Tr.start s zero32) (Tr.terminal e) y) (contentsMet f t x)) ≡ all
+          pub to-end : (x : ℕ) → c ≡ O.End x → tracedList u l1 (ended T (λ y. Tr.newTrace (Tr.start s zero32) (Tr.terminal e) y) (contentsMet f t x)) ≡ all
           unfolding contentsMet
           to-end x q = whole (O.End x) q
 

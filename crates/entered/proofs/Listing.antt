@@ -15,7 +15,7 @@ use Rattle.entered.specs.Lists.{nodesEntered}
 use Rattle.phys.specs.declared.Trace.{Trace}
 use Rattle.hull.specs.Answers.{tracedAnswer}
 use Rattle.hull.specs.declared.tracing.Traced.{Traced}
-use Rattle.entered.specs.Onward.{written, saysWith}
+use Rattle.entered.specs.Onward.{tracedList, saysWith}
 
 -- a list of just so many entries is filled with these nodes
 abbrev pub Fills : Answer (List ℕ) → List ℕ → List ℕ → Type 0
@@ -63,7 +63,7 @@ module _ (a : Trace) (v : ℕ) (l : List ℕ) (short : length l < 2 ^ 63) (fits 
       let s : x ≡ ns ++ drop v l = is-x ∙ sets-eq ns l 0 (omega arith) ∙ ap (λ (k : ℕ). ns ++ drop k l) {x = 0 + length ns} {y = v} (omega arith) in
       ap (listed (answer v)) s ∙ into-list l (answer ns) v ns refl (ap answer n) fits
 
-  pub traced-list : (o : Outcome Trace) → answer (a, v) ≡ withVisits o → saysWith x r ≡ written 0 l o → listed (answer v) x ≡ into (nodesEntered o) l
+  pub traced-list : (o : Outcome Trace) → answer (a, v) ≡ withVisits o → saysWith x r ≡ tracedList 0 l o → listed (answer v) x ≡ into (nodesEntered o) l
   traced-list (done y ns) e w =
       let c : _≡_ {A = Trace × ℕ} (a, v) (y, held (length ns)) = cc in
       let k = mapped-answer (λ (z : Trace × ℕ). (z, x)) (tracedAnswer r) ((y, held (0 + length ns)), sets l 0 ns) w in

@@ -21,7 +21,7 @@ use Rattle.phys.specs.declared.TraceStart.{TraceStart}
 use Rattle.phys.specs.declared.TraceEnd.{TraceEnd}
 use Rattle.walk.specs.Table.{Child, node, end, Node, Table, childOn}
 use Rattle.walk.specs.Walk.{Outcome, done, refused, onto}
-use Rattle.walk.specs.Trace.{withFar, stops, nearOf, farOf, afterNear, withNear, recursiveTrace}
+use Rattle.walk.specs.Tracing.{withFar, stops, nearOf, farOf, afterNear, withNear, recursiveTrace}
 use Rattle.records.specs.Answers.{planeAnswer}
 use Rattle.records.specs.declared.plane.PlaneAnswer.{PlaneAnswer}
 use Rattle.records.specs.declared.plane.PlaneAnswer.the-variants as P

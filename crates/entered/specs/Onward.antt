@@ -18,7 +18,7 @@ use Rattle.phys.specs.Trace as Tr
 use Rattle.phys.specs.declared.Trace.{Trace}
 use Rattle.walk.specs.Table.{Child, node, end}
 use Rattle.walk.specs.Walk.{Outcome, done, refused, held, ended, onto}
-use Rattle.walk.specs.Trace.{withFar, recursiveTrace}
+use Rattle.walk.specs.Tracing.{withFar, recursiveTrace}
 use Rattle.nodes.specs.Tables.{End}
 use Rattle.nodes.specs.Fast as Fast
 use Rattle.nodes.specs.declared.table.HullTable.{HullTable}
@@ -73,15 +73,15 @@ Crosses f t w a b s e r =
     (k : ℕ) → followed f t (λ n s e. recursiveTrace (Fast.table f t) k n s e) r ≡ crossedAt (Fast.table f t) k (Fast.nodeOf (t .table) w) s e a b (Fast.planeIn f t (w .plane))
 
 -- the part with k calls left
-abbrev pub partOf : List ℕ → Tables → ℕ → Way → Onward → Outcome Trace
-partOf f t k w c = part f t (λ n s e. recursiveTrace (Fast.table f t) k n s e) w c
+abbrev pub partWith : List ℕ → Tables → ℕ → Way → Onward → Outcome Trace
+partWith f t k w c = part f t (λ n s e. recursiveTrace (Fast.table f t) k n s e) w c
 
 -- ---- a trace and the list
 
 -- where v nodes were entered before: the trace, the visits, and the list with the nodes written from its entry v on, as far as it goes
-abbrev pub written : ℕ → List ℕ → Outcome Trace → Answer ((Trace × ℕ) × List ℕ)
-written v l (done a ns) = answer ((a, held (v + length ns)), sets l v ns)
-written v l (refused n) = Ans.refused n
+abbrev pub tracedList : ℕ → List ℕ → Outcome Trace → Answer ((Trace × ℕ) × List ℕ)
+tracedList v l (done a ns) = answer ((a, held (v + length ns)), sets l v ns)
+tracedList v l (refused n) = Ans.refused n
 
 -- what a call says, and the list after it; of a refusal the number alone
 abbrev pub saysWith : List ℕ → Traced → Answer ((Trace × ℕ) × List ℕ)
@@ -91,8 +91,8 @@ saysWith l r = mapped (λ x. (x, l)) (tracedAnswer r)
 
 -- the trace from s to e taken up again where the way down came to, with the list as it is there
 abbrev pub resumed : List ℕ → Tables → Vector3 → Vector3 → List ℕ → Down → Answer ((Trace × ℕ) × List ℕ)
-resumed f t s e l (D.End w v) = written v l (ended (Fast.table f t) (λ c. Tr.newTrace (Tr.start s zero32) (Tr.terminal e) c) (Fast.contentsMet f t w))
-resumed f t s e l (D.Crossing w a b k v) = written v l (crossedAt (Fast.table f t) k (Fast.nodeOf (t .table) w) s e a b (Fast.planeIn f t (w .plane)))
+resumed f t s e l (D.End w v) = tracedList v l (ended (Fast.table f t) (λ c. Tr.newTrace (Tr.start s zero32) (Tr.terminal e) c) (Fast.contentsMet f t w))
+resumed f t s e l (D.Crossing w a b k v) = tracedList v l (crossedAt (Fast.table f t) k (Fast.nodeOf (t .table) w) s e a b (Fast.planeIn f t (w .plane)))
 resumed f t s e l (D.Refused x) = Ans.refused (numberOf x)
 
 -- the calls that a crossing has taken are at least one

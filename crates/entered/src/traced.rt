@@ -5,8 +5,8 @@ ghost use Rattle.format.specs.Listed.{listed, into};
 ghost use Rattle.phys.specs.Trace as Tr;
 ghost use Rattle.walk.specs.Walk.{ended};
 ghost use Rattle.walk.specs.Private.{after};
-ghost use Rattle.walk.specs.Trace as Tracing;
-ghost use Rattle.walk.specs.Trace.{recursiveTrace};
+ghost use Rattle.walk.specs.Tracing as Tracing;
+ghost use Rattle.walk.specs.Tracing.{recursiveTrace};
 ghost use Rattle.nodes.specs.Fast as Fast;
 ghost use Rattle.nodes.specs.Walks as Walks;
 ghost use Rattle.hull.specs.Hull.{hullTable};
@@ -162,7 +162,7 @@ fn seen_at(s: &[u8], t: Tables, node: usize, start: Vector3, end: Vector3) -> Se
 // Down from a node as long as the segment lies on one side of each plane; each node is written into the list as it is entered, as far as
 // the list goes.
 fn go_down(s: &[u8], t: Tables, node: usize, way: Way, c: Counts, list: &mut [u32]) -> Down
-    ensures { λ r. ⌜ Going.Goes (now (s .entry)) t (way .from .point) (way .to .point) (c .left) (Going.written (c .visits) (now (list .entry)) (recursiveTrace (Fast.table (now (s .entry)) t) (c .left) node (way .from .point) (way .to .point))) (now (list .exit)) r ⌝ }
+    ensures { λ r. ⌜ Going.Goes (now (s .entry)) t (way .from .point) (way .to .point) (c .left) (Going.tracedList (c .visits) (now (list .entry)) (recursiveTrace (Fast.table (now (s .entry)) t) (c .left) node (way .from .point) (way .to .point))) (now (list .exit)) r ⌝ }
 {
     let mut i = node;
     let mut left = c.left;
@@ -217,7 +217,7 @@ fn write_onward(
     visits: u64,
     list: &mut [u32],
 ) -> Traced
-    ensures { λ r. ⌜ Going.saysWith (now (list .exit)) r ≡ Going.written visits (now (list .entry)) (Going.partOf (now (s .entry)) t left way child) ⌝ }
+    ensures { λ r. ⌜ Going.saysWith (now (list .exit)) r ≡ Going.tracedList visits (now (list .entry)) (Going.partWith (now (s .entry)) t left way child) ⌝ }
 {
     match child {
         Onward::End(word) => in_leaf(s, t, word, way, visits),

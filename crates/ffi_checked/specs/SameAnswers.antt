@@ -10,7 +10,7 @@ use Rattle.format.specs.Listed.{into}
 use Rattle.format.specs.declared.section.BspData.{BspData}
 use Rattle.math.specs.declared.Vector3.{Vector3}
 use Rattle.walk.specs.Walk.{withVisits, pointWalk}
-use Rattle.walk.specs.Trace as Tracing
+use Rattle.walk.specs.Tracing as Tracing
 use Rattle.hull.specs.Hull.{hullTable, checkHull}
 use Rattle.hull.specs.Sizes.{SameOld}
 use Rattle.hull.specs.declared.collision.BspCollisionHull.{BspCollisionHull}

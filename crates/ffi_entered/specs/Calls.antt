@@ -6,7 +6,7 @@ use Rattle.format.specs.Answer.{thenAnswer}
 use Rattle.format.specs.Listed.{into}
 use Rattle.words.specs.Words.{Left, enough, listedIn, mapLength, mapOf}
 use Rattle.walk.specs.Walk.{pointWalk}
-use Rattle.walk.specs.Trace as Tracing
+use Rattle.walk.specs.Tracing as Tracing
 use Rattle.nodes.specs.Tables.{leafTable}
 use Rattle.hull.specs.Hull.{hullTable}
 use Rattle.entered.specs.Lists.{nodesEntered}

@@ -1,3 +1,3 @@
 -- What the contracts of `ffi_math` cite.
-pub mod Traces
-pub mod Words
+pub mod TraceWords
+pub mod FloatWords

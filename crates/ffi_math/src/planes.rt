@@ -4,7 +4,7 @@ ghost use mathlib.Core.Path.{_≡_};
 ghost use lib.ListN.{getD};
 ghost use Rattle.math.specs.Vector as Vec;
 ghost use Rattle.math.specs.Plane as Pl;
-ghost use Rattle.ffi_math.specs.Words as Words;
+ghost use Rattle.ffi_math.specs.FloatWords as Words;
 use math::Alignment;
 use math::Axis;
 use math::Hyperplane;

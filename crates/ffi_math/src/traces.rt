@@ -7,8 +7,8 @@ ghost use Rattle.math.specs.Vector as Vec;
 ghost use Rattle.phys.specs.Trace as Tr;
 ghost use Rattle.phys.specs.Answers as Answers;
 ghost use Rattle.words.specs.Words.{flagWord};
-ghost use Rattle.ffi_math.specs.Traces as Traces;
-ghost use Rattle.ffi_math.specs.Words.{partOf};
+ghost use Rattle.ffi_math.specs.TraceWords as Traces;
+ghost use Rattle.ffi_math.specs.FloatWords.{coordinateOf};
 use crate::planes::plane_given;
 use crate::planes::plane_word;
 use crate::vectors::part_of;
@@ -187,14 +187,14 @@ pub extern "C" fn trace_adjust_word(trace: &[u32], x: f32, y: f32, z: f32, word:
 
 #[no_mangle]
 pub extern "C" fn trace_start_point(trace: &[u32], part: u32) -> f32
-    ensures { λ r. ⌜ r ≡ partOf (Traces.traceGiven (now (trace .entry)) .start .point) part ⌝ }
+    ensures { λ r. ⌜ r ≡ coordinateOf (Traces.traceGiven (now (trace .entry)) .start .point) part ⌝ }
 {
     part_of(trace_given(trace).start_point(), part)
 }
 
 #[no_mangle]
 pub extern "C" fn trace_end_point(trace: &[u32], part: u32) -> f32
-    ensures { λ r. ⌜ r ≡ partOf (Traces.traceGiven (now (trace .entry)) .end .point) part ⌝ }
+    ensures { λ r. ⌜ r ≡ coordinateOf (Traces.traceGiven (now (trace .entry)) .end .point) part ⌝ }
 {
     part_of(trace_given(trace).end_point(), part)
 }

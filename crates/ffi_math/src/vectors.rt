@@ -1,12 +1,12 @@
 // The vectors: each is three numbers, and a vector is answered by its coordinate `part`.
 ghost use mathlib.Core.Path.{_≡_};
 ghost use Rattle.math.specs.Vector as Vec;
-ghost use Rattle.ffi_math.specs.Words.{partOf};
+ghost use Rattle.ffi_math.specs.FloatWords.{coordinateOf};
 use math::Vector3;
 
 // The coordinate number `part`.
 pub fn part_of(v: Vector3, part: u32) -> f32
-    ensures { λ r. ⌜ r ≡ partOf v part ⌝ }
+    ensures { λ r. ⌜ r ≡ coordinateOf v part ⌝ }
 {
     match part {
         0 => v.x,
@@ -18,7 +18,7 @@ pub fn part_of(v: Vector3, part: u32) -> f32
 
 #[no_mangle]
 pub extern "C" fn vector_add(ax: f32, ay: f32, az: f32, bx: f32, by: f32, bz: f32, part: u32) -> f32
-    ensures { λ r. ⌜ r ≡ partOf (Vec.sum (Vec.vector ax ay az) (Vec.vector bx by bz)) part ⌝ }
+    ensures { λ r. ⌜ r ≡ coordinateOf (Vec.sum (Vec.vector ax ay az) (Vec.vector bx by bz)) part ⌝ }
 {
     let a = Vector3 {
         x: ax,
@@ -35,7 +35,7 @@ pub extern "C" fn vector_add(ax: f32, ay: f32, az: f32, bx: f32, by: f32, bz: f3
 
 #[no_mangle]
 pub extern "C" fn vector_sub(ax: f32, ay: f32, az: f32, bx: f32, by: f32, bz: f32, part: u32) -> f32
-    ensures { λ r. ⌜ r ≡ partOf (Vec.difference (Vec.vector ax ay az) (Vec.vector bx by bz)) part ⌝ }
+    ensures { λ r. ⌜ r ≡ coordinateOf (Vec.difference (Vec.vector ax ay az) (Vec.vector bx by bz)) part ⌝ }
 {
     let a = Vector3 {
         x: ax,
@@ -52,7 +52,7 @@ pub extern "C" fn vector_sub(ax: f32, ay: f32, az: f32, bx: f32, by: f32, bz: f3
 
 #[no_mangle]
 pub extern "C" fn vector_scale(k: f32, x: f32, y: f32, z: f32, part: u32) -> f32
-    ensures { λ r. ⌜ r ≡ partOf (Vec.scaled k (Vec.vector x y z)) part ⌝ }
+    ensures { λ r. ⌜ r ≡ coordinateOf (Vec.scaled k (Vec.vector x y z)) part ⌝ }
 {
     let v = Vector3 { x, y, z };
     part_of(v.scale(k), part)
@@ -60,7 +60,7 @@ pub extern "C" fn vector_scale(k: f32, x: f32, y: f32, z: f32, part: u32) -> f32
 
 #[no_mangle]
 pub extern "C" fn vector_negate(x: f32, y: f32, z: f32, part: u32) -> f32
-    ensures { λ r. ⌜ r ≡ partOf (Vec.negated (Vec.vector x y z)) part ⌝ }
+    ensures { λ r. ⌜ r ≡ coordinateOf (Vec.negated (Vec.vector x y z)) part ⌝ }
 {
     let v = Vector3 { x, y, z };
     part_of(v.negate(), part)
@@ -68,7 +68,7 @@ pub extern "C" fn vector_negate(x: f32, y: f32, z: f32, part: u32) -> f32
 
 #[no_mangle]
 pub extern "C" fn vector_normalize(x: f32, y: f32, z: f32, part: u32) -> f32
-    ensures { λ r. ⌜ r ≡ partOf (Vec.normalize (Vec.vector x y z)) part ⌝ }
+    ensures { λ r. ⌜ r ≡ coordinateOf (Vec.normalize (Vec.vector x y z)) part ⌝ }
 {
     let v = Vector3 { x, y, z };
     part_of(v.normalize(), part)

@@ -14,7 +14,7 @@ use Rattle.math.specs.Vector.{vector, zero32}
 use Rattle.math.specs.declared.Vector3.{Vector3}
 use Rattle.walk.specs.Table.{Table}
 use Rattle.walk.specs.Walk.{withVisits, pointWalk}
-use Rattle.walk.specs.Trace as Tracing
+use Rattle.walk.specs.Tracing as Tracing
 use Rattle.walk.specs.Ordered.{ordered}
 use Rattle.words.specs.Words.{mapOf}
 use Rattle.nodes.specs.Fast as Fast

@@ -13,7 +13,7 @@ use Rattle.phys.specs.declared.Trace.{Trace}
 use Rattle.words.specs.Words.{Written, given, atLeast, mapOf}
 use Rattle.walk.specs.Table.{Table}
 use Rattle.walk.specs.Walk.{withVisits, pointWalk}
-use Rattle.walk.specs.Trace as Tracing
+use Rattle.walk.specs.Tracing as Tracing
 use Rattle.walk.specs.Writing.{InOrder, orderNodes}
 use Rattle.nodes.specs.Tables.{End, tableOf, fileTable}
 use Rattle.hull.specs.Hull.{hullTable}

@@ -9,7 +9,7 @@ use lib.ListN.{length}
 use Rattle.format.specs.Answer.{mapped}
 use Rattle.words.specs.Words.{Written, given, atLeast, numberWords, mapLength, mapOf}
 use Rattle.walk.specs.Walk.{withVisits, pointWalk}
-use Rattle.walk.specs.Trace as Tracing
+use Rattle.walk.specs.Tracing as Tracing
 use Rattle.walk.specs.Writing.{InOrder, orderNodes}
 use Rattle.ordered.specs.Same.{fileNodes, fileRows}
 use Rattle.ffi_hull.specs.Layout.{pointAt}

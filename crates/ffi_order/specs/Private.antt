@@ -3,14 +3,14 @@
 use Prim.Native.Nat.{ℕ}
 use mathlib.Core.List.{List}
 use Rattle.format.specs.declared.section.BspData.{BspData}
-use Rattle.words.specs.Words.{sectionAt}
-use Rattle.ffi_hull.specs.Layout.{noSection}
+use Rattle.words.specs.Words.{sectionIn}
+use Rattle.format.specs.Section.{noSection}
 
 abbrev pub planesMap : List ℕ → BspData
 planesMap ws =
     record {
       entities = noSection;
-      planes = sectionAt ws 2;
+      planes = sectionIn ws 2;
       textures = noSection;
       vertices = noSection;
       visibility = noSection;

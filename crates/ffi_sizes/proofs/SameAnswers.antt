@@ -12,7 +12,7 @@ use Rattle.format.specs.Answer.{Answer, answer, refused, mapped, thenAnswer}
 use Rattle.format.specs.declared.contents.BspLeafContents.{BspLeafContents}
 use Rattle.walk.specs.Table.{Table}
 use Rattle.walk.specs.Walk.{withVisits, pointWalk}
-use Rattle.walk.specs.Trace as Tracing
+use Rattle.walk.specs.Tracing as Tracing
 use Rattle.words.specs.Words.{Written, written, put, given, mapOf}
 use Rattle.nodes.specs.Tables.{End, tableOf, isBox}
 use Rattle.nodes.specs.declared.table.HullTable.{HullTable}

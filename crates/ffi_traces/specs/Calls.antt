@@ -5,7 +5,7 @@ use lib.Ieee.{Float}
 use Rattle.format.specs.Answer.{mapped, thenAnswer}
 use Rattle.words.specs.Words.{Written, given, atLeast, mapLength, mapOf}
 use Rattle.walk.specs.Walk.{withVisits}
-use Rattle.walk.specs.Trace as Tracing
+use Rattle.walk.specs.Tracing as Tracing
 use Rattle.hull.specs.Hull.{hullTable}
 use Rattle.ffi_hull.specs.Layout.{hullAsked, pointAt, hullFrom}
 use Rattle.ffi_traces.specs.Layout.{traceLength, traceWords}

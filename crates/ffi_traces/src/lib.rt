@@ -5,7 +5,7 @@ ghost use lib.ListN.{length};
 ghost use Rattle.format.specs.Answer.{mapped};
 ghost use Rattle.words.specs.Words.{written, given};
 ghost use Rattle.walk.specs.Walk.{withVisits};
-ghost use Rattle.walk.specs.Trace as Tracing;
+ghost use Rattle.walk.specs.Tracing as Tracing;
 ghost use Rattle.hull.specs.Hull.{hullTable};
 ghost use Rattle.hull.specs.Traces as Traces;
 ghost use Rattle.ffi_traces.specs.Layout as Layout;

@@ -63,6 +63,10 @@ sectionOf Edges m = m .edges
 sectionOf EdgeList m = m .edgelist
 sectionOf Models m = m .models
 
+-- a section that names nothing
+abbrev pub noSection : BspFileSection
+noSection = record { offset = 0; size = 0 }
+
 -- how many whole records a section has
 unfoldable pub recordCount : BspFileSectionId → BspFileSection → ℕ
 recordCount id z = z .size / elementSize id

@@ -22,7 +22,7 @@ use Rattle.phys.specs.declared.Trace.{Trace as TraceT}
 use Rattle.walk.specs.Table.{Node, Table, childOn}
 use Rattle.walk.specs.Walk.{Outcome, done, refused, held}
 use Rattle.walk.specs.Private.{after}
-use Rattle.walk.specs.Trace.{joined, withFar, stops, nearOf, farOf, afterNear, withNear, recursiveTrace}
+use Rattle.walk.specs.Tracing.{joined, withFar, stops, nearOf, farOf, afterNear, withNear, recursiveTrace}
 use Rattle.walk.proofs.Steps.{after-done, after-refused}
 use Rattle.records.specs.Answers.{planeAnswer}
 use Rattle.records.specs.declared.plane.PlaneAnswer.{PlaneAnswer}

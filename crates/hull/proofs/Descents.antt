@@ -24,7 +24,7 @@ use Rattle.phys.specs.declared.Trace.{Trace as TraceT}
 use Rattle.walk.specs.Table.{Child, node, end, Node, Table, childOn}
 use Rattle.walk.specs.Walk.{Outcome, done, refused, held, Entered, enter, meet, ended, onto}
 use Rattle.walk.specs.Private.{after}
-use Rattle.walk.specs.Trace.{across, traceAt, recursiveTrace}
+use Rattle.walk.specs.Tracing.{across, traceAt, recursiveTrace}
 use Rattle.walk.proofs.Steps.{after-one, after-held, trace-unread}
 use Rattle.nodes.specs.Tables.{End}
 use Rattle.nodes.specs.Fast.{nodeOf, planeIn, twoDists, contentsMet}

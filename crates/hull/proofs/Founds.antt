@@ -14,7 +14,7 @@ use Rattle.math.specs.declared.Vector3.{Vector3}
 use Rattle.walk.specs.Table.{Table}
 use Rattle.phys.specs.declared.Trace.{Trace}
 use Rattle.walk.specs.Walk.{withVisits, meet, pointWalk}
-use Rattle.walk.specs.Trace.{trace}
+use Rattle.walk.specs.Tracing.{trace}
 use Rattle.nodes.specs.Tables.{End, tableOf, leafTable}
 use Rattle.nodes.specs.Fast as Fast
 use Rattle.nodes.specs.Fast.{tablesOf, endOf, contentsMet}
@@ -24,7 +24,7 @@ use Rattle.nodes.specs.declared.table.HullTable.the-variants.{Render}
 use Rattle.nodes.specs.declared.table.Tables.{Tables}
 use Rattle.nodes.specs.declared.read.EndContents.{EndContents}
 use Rattle.nodes.specs.declared.read.EndContents.the-variants as E
-use Rattle.nodes.specs.Walks.{ends, endAnswer}
+use Rattle.nodes.specs.Walks.{ends, walkEndAnswer}
 use Rattle.nodes.specs.declared.walking.WalkEnd.{WalkEnd}
 use Rattle.nodes.specs.declared.walking.WalkEnd.the-variants.{Word, Refused}
 use Rattle.hull.proofs.Ends.{point-refused, point-met, point-unmet}
@@ -43,21 +43,21 @@ module _ (s : List ℕ) (m : BspData) (tab : HullTable) (mins maxs : Vector3) (t
       → r ≡ withVisits (pointWalk (tableOf s m tab mins maxs) root p)
   contents-are root p e = e ∙ ap (λ (T : Table End BspLeafContents). withVisits (pointWalk T root p)) table-same
 
-module _ (s : List ℕ) (t : Tables) (root : ℕ) (p : Vector3) (r : WalkEnd) (is-r : endAnswer (t .table) r ≡ withVisits (pointWalk (ends (Fast.table s t)) root p)) where
+module _ (s : List ℕ) (t : Tables) (root : ℕ) (p : Vector3) (r : WalkEnd) (is-r : walkEndAnswer (t .table) r ≡ withVisits (pointWalk (ends (Fast.table s t)) root p)) where
   pub contents-refused : (x : Refusal) → r ≡ Refused x → Ans.refused (numberOf x) ≡ withVisits (pointWalk (Fast.table s t) root p)
-  contents-refused x q = point-refused (Fast.table s t) p root (numberOf x) (sym (ap (endAnswer (t .table)) q) ∙ is-r)
+  contents-refused x q = point-refused (Fast.table s t) p root (numberOf x) (sym (ap (walkEndAnswer (t .table)) q) ∙ is-r)
 
   module _ (word v : ℕ) (q : r ≡ Word word v) (x : EndContents) (is-x : Fast.endAnswer x ≡ contentsMet s t word) where
     pub contents-met : (c : BspLeafContents) → x ≡ E.Contents c → answer (c, v) ≡ withVisits (pointWalk (Fast.table s t) root p)
     unfolding contentsMet
-    contents-met c q2 = point-met (Fast.table s t) p root (endOf (t .table) word) v c (sym (ap (endAnswer (t .table)) q) ∙ is-r) (sym is-x ∙ ap Fast.endAnswer q2)
+    contents-met c q2 = point-met (Fast.table s t) p root (endOf (t .table) word) v c (sym (ap (walkEndAnswer (t .table)) q) ∙ is-r) (sym is-x ∙ ap Fast.endAnswer q2)
 
     pub contents-unmet : (y : Refusal) → x ≡ E.Refused y → Ans.refused (numberOf y) ≡ withVisits (pointWalk (Fast.table s t) root p)
     unfolding contentsMet
     contents-unmet y q2 =
-        point-unmet (Fast.table s t) p root (endOf (t .table) word) v (numberOf y) (sym (ap (endAnswer (t .table)) q) ∙ is-r) (sym is-x ∙ ap Fast.endAnswer q2)
+        point-unmet (Fast.table s t) p root (endOf (t .table) word) v (numberOf y) (sym (ap (walkEndAnswer (t .table)) q) ∙ is-r) (sym is-x ∙ ap Fast.endAnswer q2)
 
-module _ (s : List ℕ) (m : BspData) (mins maxs : Vector3) (t : Tables) (is-t : t ≡ tablesOf m Render mins maxs) (root : ℕ) (p : Vector3) (r : WalkEnd) (is-r : endAnswer (t .table) r ≡ withVisits (pointWalk (ends (Fast.table s t)) root p)) where
+module _ (s : List ℕ) (m : BspData) (mins maxs : Vector3) (t : Tables) (is-t : t ≡ tablesOf m Render mins maxs) (root : ℕ) (p : Vector3) (r : WalkEnd) (is-r : walkEndAnswer (t .table) r ≡ withVisits (pointWalk (ends (Fast.table s t)) root p)) where
   in-leaves : withVisits (pointWalk (Fast.leaves s t) root p) ≡ withVisits (pointWalk (leafTable s m) root p)
   in-leaves = ap (λ (T : Table End ℕ). withVisits (pointWalk T root p)) (ap (Fast.leaves s) is-t ∙ leaves-are s m mins maxs)
 
@@ -65,7 +65,7 @@ module _ (s : List ℕ) (m : BspData) (mins maxs : Vector3) (t : Tables) (is-t :
   is-render = ap (λ (x : Tables). x .table) is-t
 
   pub leaf-refused : (x : Refusal) → r ≡ Refused x → Ans.refused (numberOf x) ≡ withVisits (pointWalk (leafTable s m) root p)
-  leaf-refused x q = point-refused (Fast.leaves s t) p root (numberOf x) (sym (ap (endAnswer (t .table)) q) ∙ is-r) ∙ in-leaves
+  leaf-refused x q = point-refused (Fast.leaves s t) p root (numberOf x) (sym (ap (walkEndAnswer (t .table)) q) ∙ is-r) ∙ in-leaves
 
   module _ (word v : ℕ) (q : r ≡ Word word v) where
     met-in : 65535 - word < t .leaves .count → meet (Fast.leaves s t) (endOf Render word) ≡ answer (65535 - word)
@@ -78,14 +78,14 @@ module _ (s : List ℕ) (m : BspData) (mins maxs : Vector3) (t : Tables) (is-t :
 
     pub leaf-met : 65535 - word < t .leaves .count → answer (65535 - word, v) ≡ withVisits (pointWalk (leafTable s m) root p)
     leaf-met h =
-        point-met (Fast.leaves s t) p root (endOf (t .table) word) v (65535 - word) (sym (ap (endAnswer (t .table)) q) ∙ is-r) found ∙ in-leaves
+        point-met (Fast.leaves s t) p root (endOf (t .table) word) v (65535 - word) (sym (ap (walkEndAnswer (t .table)) q) ∙ is-r) found ∙ in-leaves
       where
         found : meet (Fast.leaves s t) (endOf (t .table) word) ≡ answer (65535 - word)
         found = ap (λ (x : HullTable). meet (Fast.leaves s t) (endOf x word)) is-render ∙ met-in h
 
     pub leaf-outside : t .leaves .count ≤ 65535 - word → Ans.refused 30 ≡ withVisits (pointWalk (leafTable s m) root p)
     leaf-outside h =
-        point-unmet (Fast.leaves s t) p root (endOf (t .table) word) v 30 (sym (ap (endAnswer (t .table)) q) ∙ is-r) none ∙ in-leaves
+        point-unmet (Fast.leaves s t) p root (endOf (t .table) word) v 30 (sym (ap (walkEndAnswer (t .table)) q) ∙ is-r) none ∙ in-leaves
       where
         none : meet (Fast.leaves s t) (endOf (t .table) word) ≡ Ans.refused 30
         none = ap (λ (x : HullTable). meet (Fast.leaves s t) (endOf x word)) is-render ∙ met-out h

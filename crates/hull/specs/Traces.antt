@@ -24,7 +24,7 @@ use Rattle.phys.specs.declared.TraceEnd.{TraceEnd}
 use Rattle.walk.specs.Table.{Child, node, end, Node, Table, childOn}
 use Rattle.walk.specs.Walk.{Outcome, refused, meet}
 use Rattle.walk.specs.Private.{after}
-use Rattle.walk.specs.Trace.{recursiveTrace, nearOf, withNear}
+use Rattle.walk.specs.Tracing.{recursiveTrace, nearOf, withNear}
 use Rattle.nodes.specs.Fast as Fast
 use Rattle.nodes.specs.declared.table.Tables.{Tables}
 use Rattle.nodes.specs.declared.read.Words.{Words}

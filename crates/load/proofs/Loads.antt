@@ -35,7 +35,7 @@ use Rattle.faces.specs.declared.face.BspFace.{BspFace}
 use Rattle.records.specs.declared.node.BspRenderNode.{BspRenderNode}
 use Rattle.records.specs.declared.texinfo.BspTexInfo.{BspTexInfo}
 use Rattle.records.proofs.Readable.{answered}
-use Rattle.sections.specs.Row.{section, blob}
+use Rattle.sections.specs.Records.{section, blob}
 use Rattle.sections.proofs.Bounded.{Bounded, Stands, stands, then, of-ok, of-refused, of-when, not-ok, at-position, again, bounded-u16}
 use Rattle.load.specs.Entities.{textOf, entities}
 use Rattle.load.specs.Extents.{isBad, extentsAt, faceExtents}

@@ -15,7 +15,7 @@ use Rattle.models.specs.Model.{fileModelAt}
 use Rattle.records.specs.Node.{renderNodeAt, collisionNodeAt}
 use Rattle.records.specs.Plane.{planeAt}
 use Rattle.records.specs.Triple.{vectorAt}
-use Rattle.sections.specs.Row.{section, blob}
+use Rattle.sections.specs.Records.{section, blob}
 use Rattle.sections.specs.Table.{headerAt, limits, limitsFromLeaves, exceeds}
 use Rattle.sections.proofs.Bounded.{not-ok}
 use Rattle.textures.specs.Section as Section

@@ -12,7 +12,7 @@ use Rattle.format.specs.declared.section.BspData.{BspData}
 use Rattle.format.specs.declared.section.BspFileSectionId.the-variants.{Planes, TextureInfo, Faces}
 use Rattle.faces.specs.Face.{faceAt}
 use Rattle.faces.specs.Extents.{surfaceOf}
-use Rattle.sections.specs.Row.{eachRecord}
+use Rattle.sections.specs.Records.{eachRecord}
 
 -- an extent above 2,000, where the texture info is not special
 unfoldable pub isBad : Bool → ℤ → Bool

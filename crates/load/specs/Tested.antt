@@ -13,7 +13,7 @@ use Rattle.records.specs.Texinfo.{texinfoAt}
 use Rattle.records.specs.declared.node.BspRenderNodeChild.{BspRenderNodeChild}
 use Rattle.records.specs.declared.node.BspRenderNodeChild.the-variants.{Node, Leaf}
 use Rattle.records.specs.declared.texinfo.BspTexInfo.{BspTexInfo}
-use Rattle.sections.specs.Row.{section, eachRecord}
+use Rattle.sections.specs.Records.{section, eachRecord}
 
 -- A texture info. Its texture number may equal the texture count, on which the Rust panics as it looks the number up (11).
 unfoldable pub textured : ℕ → List ℕ → ℕ → Step BspTexInfo

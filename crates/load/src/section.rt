@@ -6,7 +6,7 @@ ghost use Rattle.records.specs.Edge.{edgeAt, edgeIndexAt};
 ghost use Rattle.records.specs.Plane.{planeAt};
 ghost use Rattle.records.specs.Triple.{vectorAt};
 ghost use Rattle.sections.specs.Answers.{positionStep};
-ghost use Rattle.sections.specs.Row as Row;
+ghost use Rattle.sections.specs.Records as Row;
 ghost use Rattle.load.specs.Entities.{textOf, entities};
 use format::refusal::Refusal;
 use format::section::BspFileSection;

@@ -6,7 +6,7 @@ ghost use Rattle.models.specs.Model.{fileModelAt};
 ghost use Rattle.records.specs.Node.{renderNodeAt, collisionNodeAt};
 ghost use Rattle.records.specs.Answers.{texinfoStep};
 ghost use Rattle.sections.specs.Answers.{positionStep};
-ghost use Rattle.sections.specs.Row as Row;
+ghost use Rattle.sections.specs.Records as Row;
 ghost use Rattle.load.specs.Tested.{textured, texinfos, faces, outside, referencesAt, leafReferences};
 use faces::face::ReadFace;
 use faces::face::read_face;

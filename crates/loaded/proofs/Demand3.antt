@@ -11,7 +11,7 @@ use Rattle.math.specs.declared.Vector3.{Vector3}
 use Rattle.math.proofs.Fits.{Fits3}
 use Rattle.walk.specs.Table.{Nodes, Table}
 use Rattle.walk.specs.Walk.{pointWalk}
-use Rattle.walk.specs.Trace as Tracing
+use Rattle.walk.specs.Tracing as Tracing
 use Rattle.walk.specs.TreeCheck.{treeCheck}
 use Rattle.walk.specs.Tree.{Reads, Valid, at-root}
 use Rattle.walk.specs.Demand3.{Answered, AnsweredWithin}

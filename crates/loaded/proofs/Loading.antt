@@ -34,7 +34,7 @@ use Rattle.faces.specs.Face.{sideAt, stylesAt, faceLightAt, faceEndAt, faceAt}
 use Rattle.faces.specs.Extents.{surfaceOf}
 use Rattle.models.specs.Model.{boundsAt, rootsAt, fileModelEndAt, fileModelAt}
 use Rattle.sections.specs.Position.{checkEndPosition}
-use Rattle.sections.specs.Row.{records, section, blob}
+use Rattle.sections.specs.Records.{records, section, blob}
 use Rattle.sections.specs.Table.{isMultiple, isVersion, exceeds, sectionAt, threeSectionsAt, tableEndAt, tableAt, headerAt, limitsFromLeaves, limits}
 use Rattle.utf8.specs.Unicode.{isUtf8}
 use Rattle.load.specs.Entities.{textOf, entities}

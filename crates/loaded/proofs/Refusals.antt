@@ -20,7 +20,7 @@ use Rattle.format.specs.declared.section.BspFileSectionId.{BspFileSectionId}
 use Rattle.format.specs.declared.section.BspFileSectionId.the-variants.{Planes, RenderNodes, CollisionNodes, Leaves}
 use Rattle.math.specs.declared.Vector3.{Vector3}
 use Rattle.walk.specs.Walk.{Outcome, done, refused, withVisits, pointWalk}
-use Rattle.walk.specs.Trace as Tracing
+use Rattle.walk.specs.Tracing as Tracing
 use Rattle.walk.proofs.NoPanic.{Own, walk-refuses, trace-refuses}
 use Rattle.records.specs.Access.{reading, readAt, recordOf}
 use Rattle.records.specs.Plane.{planeAt}

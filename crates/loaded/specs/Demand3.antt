@@ -12,7 +12,7 @@ use Rattle.format.specs.Answer.{answer}
 use Rattle.format.specs.declared.section.BspData.{BspData}
 use Rattle.math.specs.declared.Vector3.{Vector3}
 use Rattle.walk.specs.Walk.{pointWalk}
-use Rattle.walk.specs.Trace as Tracing
+use Rattle.walk.specs.Tracing as Tracing
 use Rattle.walk.specs.TreeCheck.{treeCheck}
 use Rattle.walk.specs.Tree.{Height}
 use Rattle.walk.specs.Demand3.{Answered, AnsweredWithin}

@@ -9,14 +9,14 @@ use native.Mathlib.Omega.{arith}
 use lib.ListN.{length}
 use Rattle.written.specs.Bytes.{row}
 use Rattle.written.proofs.Fields.{row-length}
-use Rattle.made.specs.Map.{next, drawn, numberOf}
+use Rattle.made.specs.Map.{next, drawn, nodeNumber}
 use Rattle.made.specs.File.{plane, renderNode, clipNode}
-use Rattle.made.specs.Writing.{written, sizeOf, recordOf, recordOfNode}
+use Rattle.made.specs.Writing.{putAt, sizeOf, recordBytes, recordOfNode}
 use Rattle.made.specs.declared.Part.{Part}
 use Rattle.made.specs.declared.Part.the-variants.{Planes, RenderNodes, ClipNodes}
 use Rattle.made.proofs.Writing.{length-written, written-none, goes-on}
 
-pub record-size : (part : Part) (n i number : ℕ) → length (recordOf part n i number) ≡ sizeOf part
+pub record-size : (part : Part) (n i number : ℕ) → length (recordBytes part n i number) ≡ sizeOf part
 unfolding plane renderNode clipNode
 record-size Planes n i number = refl
 record-size RenderNodes n i number = refl
@@ -31,7 +31,7 @@ pub record Rows (part : Part) (seed n : ℕ) (l₀ l : List ℕ) (at last i : �
   pub few : i ≤ n
   pub drawn-last : last ≡ drawn seed i
   pub long : length l ≡ length l₀
-  pub are : l ≡ written at (row (recordOfNode part seed n) i) l₀
+  pub are : l ≡ putAt at (row (recordOfNode part seed n) i) l₀
 
 module _ (part : Part) (seed n : ℕ) (l₀ : List ℕ) (at : ℕ) (h : at + n * sizeOf part ≤ length l₀) where
   pub rows-none : Rows part seed n l₀ l₀ at seed 0
@@ -39,13 +39,13 @@ module _ (part : Part) (seed n : ℕ) (l₀ : List ℕ) (at : ℕ) (h : at + n *
   rows-none = record { few = omega arith; drawn-last = refl; long = refl; are = sym (written-none at l₀) }
 
   pub rows-next : (l l′ : List ℕ) (last last′ i size : ℕ) → i < n → Rows part seed n l₀ l at last i → size ≡ sizeOf part → last′ ≡ next last
-      → l′ ≡ written (at + i * size) (recordOf part n i last′) l → Rows part seed n l₀ l′ at last′ (i + 1)
+      → l′ ≡ putAt (at + i * size) (recordBytes part n i last′) l → Rows part seed n l₀ l′ at last′ (i + 1)
   unfolding row drawn
   rows-next l l′ last last′ i size k p z q w =
-      let d : last′ ≡ numberOf seed i = q ∙ ap next (p .drawn-last) in
-      let m = record-size part n i (numberOf seed i) in
+      let d : last′ ≡ nodeNumber seed i = q ∙ ap next (p .drawn-last) in
+      let m = record-size part n i (nodeNumber seed i) in
       let e = ends-within i n (sizeOf part) k in
-      let r : l′ ≡ written (at + i * sizeOf part) (recordOfNode part seed n i) l = rw (z, d) at w in
+      let r : l′ ≡ putAt (at + i * sizeOf part) (recordOfNode part seed n i) l = rw (z, d) at w in
       rw (add-one i)
       (record {
         few = omega arith;
@@ -53,8 +53,8 @@ module _ (part : Part) (seed n : ℕ) (l₀ : List ℕ) (at : ℕ) (h : at + n *
         long = ap length r ∙ length-written (at + i * sizeOf part) (recordOfNode part seed n i) l (omega (arith, p .long)) ∙ p .long;
         are =
             goes-on at (at + i * sizeOf part) (row (recordOfNode part seed n) i) (recordOfNode part seed n i) l₀ l l′
-            (ap (λ (j : ℕ). at + j) (row-length (recordOfNode part seed n) (sizeOf part) i (λ j t. record-size part n j (numberOf seed j)))) (omega arith) (p .are) r;
+            (ap (λ (j : ℕ). at + j) (row-length (recordOfNode part seed n) (sizeOf part) i (λ j t. record-size part n j (nodeNumber seed j)))) (omega arith) (p .are) r;
       })
 
-  pub rows-all : (l : List ℕ) (last i : ℕ) → n ≤ i → Rows part seed n l₀ l at last i → l ≡ written at (row (recordOfNode part seed n) n) l₀
-  rows-all l last i k p = let e : i ≡ n = omega (arith, p .few) in p .are ∙ ap (λ (j : ℕ). written at (row (recordOfNode part seed n) j) l₀) e
+  pub rows-all : (l : List ℕ) (last i : ℕ) → n ≤ i → Rows part seed n l₀ l at last i → l ≡ putAt at (row (recordOfNode part seed n) n) l₀
+  rows-all l last i k p = let e : i ≡ n = omega (arith, p .few) in p .are ∙ ap (λ (j : ℕ). putAt at (row (recordOfNode part seed n) j) l₀) e

@@ -7,7 +7,7 @@ use native.Mathlib.Omega.{arith}
 use lib.ListN.{length, length-append}
 use Rattle.written.specs.Bytes.{joined}
 use Rattle.written.proofs.Fields.{row-length}
-use Rattle.made.specs.File.{mapOf, header, plane, renderNode, clipNode, leaf, leaves, model, planePart, renderPart, clipPart, partsOf, fileOf}
+use Rattle.made.specs.File.{madeMap, header, plane, renderNode, clipNode, leaf, leaves, model, planePart, renderPart, clipPart, partsOf, fileOf}
 
 pub plane-size : (seed i : ℕ) → length (planePart seed i) ≡ 20
 unfolding plane
@@ -25,7 +25,7 @@ pub model-size : length model ≡ 64
 unfolding model
 model-size = refl
 
-pub header-size : (n : ℕ) → length (header (mapOf n)) ≡ 124
+pub header-size : (n : ℕ) → length (header (madeMap n)) ≡ 124
 unfolding header
 header-size n = refl
 

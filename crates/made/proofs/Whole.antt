@@ -13,39 +13,39 @@ use Rattle.format.specs.Answer.{answer, refused}
 use Rattle.format.specs.Listed.{listed, into}
 use Rattle.format.proofs.Listing.{into-short, into-list}
 use Rattle.written.proofs.Fields.{row-length}
-use Rattle.made.specs.File.{mapOf, header, leaves, model, planePart, renderPart, clipPart, fileOf, isNodeCount, madeUp}
-use Rattle.made.specs.Writing.{written, wordsOf}
+use Rattle.made.specs.File.{madeMap, header, leaves, model, planePart, renderPart, clipPart, fileOf, isNodeCount, madeUp}
+use Rattle.made.specs.Writing.{putAt, wordsOf}
 use Rattle.made.proofs.Sizes.{plane-size, render-size, clip-size, header-size, leaves-size, model-size, file-size}
 use Rattle.made.proofs.Words.{firstWords, middleWords, lastWords, header-words, leaf-words, model-words}
 use Rattle.made.proofs.Writing.{length-written, stored, goes-on}
 
 -- the header, and the zero behind it
 pub front-is : (n : ℕ) (l₀ l₁ l₂ l₃ : List ℕ) → 125 ≤ length l₀
-    → l₁ ≡ written 0 (firstWords n) l₀
-    → l₂ ≡ written 52 (middleWords n) l₁
-    → l₃ ≡ written 92 (lastWords n) l₂
-    → (set l₃ 124 0 ≡ written 0 (header (mapOf n) ++ (0 ∷ [])) l₀) × (length (set l₃ 124 0) ≡ length l₀)
+    → l₁ ≡ putAt 0 (firstWords n) l₀
+    → l₂ ≡ putAt 52 (middleWords n) l₁
+    → l₃ ≡ putAt 92 (lastWords n) l₂
+    → (set l₃ 124 0 ≡ putAt 0 (header (madeMap n) ++ (0 ∷ [])) l₀) × (length (set l₃ 124 0) ≡ length l₀)
 front-is n l₀ l₁ l₂ l₃ h e₁ e₂ e₃ =
     let w₂ = goes-on 0 52 (firstWords n) (middleWords n) l₀ l₁ l₂ refl (omega arith) e₁ e₂ in
     let w₃ = goes-on 0 92 (firstWords n ++ middleWords n) (lastWords n) l₀ l₂ l₃ refl (omega arith) w₂ e₃ in
-    let a : l₃ ≡ written 0 (header (mapOf n)) l₀ = w₃ ∙ ap (λ (r : List ℕ). written 0 r l₀) (header-words n) in
+    let a : l₃ ≡ putAt 0 (header (madeMap n)) l₀ = w₃ ∙ ap (λ (r : List ℕ). putAt 0 r l₀) (header-words n) in
     let z = header-size n in
-    let b : length l₃ ≡ length l₀ = ap length a ∙ length-written 0 (header (mapOf n)) l₀ (omega arith) in
-    (goes-on 0 124 (header (mapOf n)) (0 ∷ []) l₀ l₃ (set l₃ 124 0) (omega arith) (omega arith) a (stored 124 (0 ∷ []) l₃ (omega arith)), length-set l₃ 124 0 ∙ b)
+    let b : length l₃ ≡ length l₀ = ap length a ∙ length-written 0 (header (madeMap n)) l₀ (omega arith) in
+    (goes-on 0 124 (header (madeMap n)) (0 ∷ []) l₀ l₃ (set l₃ 124 0) (omega arith) (omega arith) a (stored 124 (0 ∷ []) l₃ (omega arith)), length-set l₃ 124 0 ∙ b)
 
 -- parts joined one by one, and all at once
 joins : (a b c d e f g h : List ℕ) → ((((((a ++ b) ++ c) ++ d) ++ e) ++ f) ++ g) ++ h ≡ joined (a ∷ b ∷ c ∷ d ∷ e ∷ f ∷ g ∷ h ∷ [])
 joins a b c d e f g h = simp (append-assoc, append-nil)
 
 pub file-is : (seed n : ℕ) (l₀ l₁ l₂ l₃ l₄ l₅ l₆ l₇ : List ℕ) → 249 + n * 52 ≤ length l₀
-    → l₁ ≡ written 0 (header (mapOf n) ++ (0 ∷ [])) l₀
-    → l₂ ≡ written 125 (row (planePart seed) n) l₁
-    → l₃ ≡ written (125 + n * 20) (u32 0) l₂
-    → l₄ ≡ written (129 + n * 20) (row (renderPart seed n) n) l₃
-    → l₅ ≡ written (129 + n * 44) (row (clipPart seed n) n) l₄
-    → l₆ ≡ written (129 + n * 52) (wordsOf (4294967294 ∷ 4294967295 ∷ 0 ∷ 0 ∷ 0 ∷ 0 ∷ 0 ∷ 4294967295 ∷ 4294967295 ∷ 0 ∷ 0 ∷ 0 ∷ 0 ∷ 0 ∷ [])) l₅
-    → l₇ ≡ written (185 + n * 52) (wordsOf (0 ∷ 0 ∷ 0 ∷ 0 ∷ 0 ∷ 0 ∷ 0 ∷ 0 ∷ 0 ∷ 0 ∷ 0 ∷ 0 ∷ 0 ∷ 1 ∷ 0 ∷ 0 ∷ [])) l₆
-    → l₇ ≡ written 0 (fileOf seed n) l₀
+    → l₁ ≡ putAt 0 (header (madeMap n) ++ (0 ∷ [])) l₀
+    → l₂ ≡ putAt 125 (row (planePart seed) n) l₁
+    → l₃ ≡ putAt (125 + n * 20) (u32 0) l₂
+    → l₄ ≡ putAt (129 + n * 20) (row (renderPart seed n) n) l₃
+    → l₅ ≡ putAt (129 + n * 44) (row (clipPart seed n) n) l₄
+    → l₆ ≡ putAt (129 + n * 52) (wordsOf (4294967294 ∷ 4294967295 ∷ 0 ∷ 0 ∷ 0 ∷ 0 ∷ 0 ∷ 4294967295 ∷ 4294967295 ∷ 0 ∷ 0 ∷ 0 ∷ 0 ∷ 0 ∷ [])) l₅
+    → l₇ ≡ putAt (185 + n * 52) (wordsOf (0 ∷ 0 ∷ 0 ∷ 0 ∷ 0 ∷ 0 ∷ 0 ∷ 0 ∷ 0 ∷ 0 ∷ 0 ∷ 0 ∷ 0 ∷ 1 ∷ 0 ∷ 0 ∷ [])) l₆
+    → l₇ ≡ putAt 0 (fileOf seed n) l₀
 unfolding fileOf
 file-is seed n l₀ l₁ l₂ l₃ l₄ l₅ l₆ l₇ h e₁ e₂ e₃ e₄ e₅ e₆ e₇ =
     let a = header-size n in
@@ -54,13 +54,13 @@ file-is seed n l₀ l₁ l₂ l₃ l₄ l₅ l₆ l₇ h e₁ e₂ e₃ e₄ e�
     let d = row-length (clipPart seed n) 8 n (λ i h. clip-size seed n i) in
     let e = leaves-size in
     let f = model-size in
-    let x₁ = header (mapOf n) ++ (0 ∷ []) in
+    let x₁ = header (madeMap n) ++ (0 ∷ []) in
     let x₂ = x₁ ++ row (planePart seed) n in
     let x₃ = x₂ ++ u32 0 in
     let x₄ = x₃ ++ row (renderPart seed n) n in
     let x₅ = x₄ ++ row (clipPart seed n) n in
     let x₆ = x₅ ++ leaves in
-    let k₁ : length x₁ ≡ 125 = length-append (header (mapOf n)) (0 ∷ []) ∙ ap (λ (k : ℕ). k + 1) a in
+    let k₁ : length x₁ ≡ 125 = length-append (header (madeMap n)) (0 ∷ []) ∙ ap (λ (k : ℕ). k + 1) a in
     let k₂ : length x₂ ≡ 125 + n * 20 = omega (arith, length-append x₁ (row (planePart seed) n)) in
     let k₃ : length x₃ ≡ 129 + n * 20 = omega (arith, length-append x₂ (u32 0)) in
     let k₄ : length x₄ ≡ 129 + n * 44 = omega (arith, length-append x₃ (row (renderPart seed n) n)) in
@@ -70,9 +70,9 @@ file-is seed n l₀ l₁ l₂ l₃ l₄ l₅ l₆ l₇ h e₁ e₂ e₃ e₄ e�
     let w₃ = goes-on 0 (125 + n * 20) x₂ (u32 0) l₀ l₂ l₃ (omega arith) (omega arith) w₂ e₃ in
     let w₄ = goes-on 0 (129 + n * 20) x₃ (row (renderPart seed n) n) l₀ l₃ l₄ (omega arith) (omega arith) w₃ e₄ in
     let w₅ = goes-on 0 (129 + n * 44) x₄ (row (clipPart seed n) n) l₀ l₄ l₅ (omega arith) (omega arith) w₄ e₅ in
-    let w₆ = goes-on 0 (129 + n * 52) x₅ leaves l₀ l₅ l₆ (omega arith) (omega arith) w₅ (e₆ ∙ ap (λ (r : List ℕ). written (129 + n * 52) r l₅) leaf-words) in
-    let w₇ = goes-on 0 (185 + n * 52) x₆ model l₀ l₆ l₇ (omega arith) (omega arith) w₆ (e₇ ∙ ap (λ (r : List ℕ). written (185 + n * 52) r l₆) model-words) in
-    w₇ ∙ ap (λ (r : List ℕ). written 0 r l₀) (joins (header (mapOf n)) (0 ∷ []) (row (planePart seed) n) (u32 0) (row (renderPart seed n) n) (row (clipPart seed n) n) leaves model)
+    let w₆ = goes-on 0 (129 + n * 52) x₅ leaves l₀ l₅ l₆ (omega arith) (omega arith) w₅ (e₆ ∙ ap (λ (r : List ℕ). putAt (129 + n * 52) r l₅) leaf-words) in
+    let w₇ = goes-on 0 (185 + n * 52) x₆ model l₀ l₆ l₇ (omega arith) (omega arith) w₆ (e₇ ∙ ap (λ (r : List ℕ). putAt (185 + n * 52) r l₆) model-words) in
+    w₇ ∙ ap (λ (r : List ℕ). putAt 0 r l₀) (joins (header (madeMap n)) (0 ∷ []) (row (planePart seed) n) (u32 0) (row (renderPart seed n) n) (row (clipPart seed n) n) leaves model)
 
 -- a node count is from 1 to 500
 pub count-within : (n : ℕ) → isNodeCount n ≡ true → (1 ≤ n) × (n ≤ 500)
@@ -95,7 +95,7 @@ module _ (seed n : ℕ) (l₀ : List ℕ) where
     unfolding madeUp
     short g = rw h (into-short l₀ (answer (fileOf seed n)) (249 + n * 52) (ap answer (sym (file-size seed n))) g)
 
-    pub fits : (l : List ℕ) → 249 + n * 52 ≤ length l₀ → l ≡ written 0 (fileOf seed n) l₀ → listed (answer (249 + n * 52)) l ≡ into (madeUp seed n) l₀
+    pub fits : (l : List ℕ) → 249 + n * 52 ≤ length l₀ → l ≡ putAt 0 (fileOf seed n) l₀ → listed (answer (249 + n * 52)) l ≡ into (madeUp seed n) l₀
     unfolding madeUp
     fits l g e =
         let z = file-size seed n in

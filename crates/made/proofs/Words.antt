@@ -15,7 +15,7 @@ use mir.ValLaws.{toZ-pos}
 use mir.Facts.{toZ-ofZ}
 use Rattle.written.specs.Bytes.{u16, u32, i16}
 use Rattle.made.specs.Map.{distanceOf, Side, node, solid, empty, frontOf, backOf}
-use Rattle.made.specs.File.{zeros, mapOf, header, plane, renderChild, clipChild, renderNode, clipNode, leaf, leaves, model}
+use Rattle.made.specs.File.{zeros, madeMap, header, plane, renderChild, clipChild, renderNode, clipNode, leaf, leaves, model}
 use Rattle.made.specs.Writing.{wordsOf, sideWord}
 
 -- two numbers of 16 bits as one of 32
@@ -106,6 +106,6 @@ middleWords n = wordsOf (0 ∷ 0 ∷ 0 ∷ 0 ∷ 0 ∷ 0 ∷ (129 + n * 44) ∷ 
 abbrev pub lastWords : ℕ → List ℕ
 lastWords n = wordsOf (0 ∷ 0 ∷ 0 ∷ 0 ∷ 0 ∷ 0 ∷ (185 + n * 52) ∷ 64 ∷ [])
 
-pub header-words : (n : ℕ) → (firstWords n ++ middleWords n) ++ lastWords n ≡ header (mapOf n)
-unfolding header mapOf
+pub header-words : (n : ℕ) → (firstWords n ++ middleWords n) ++ lastWords n ≡ header (madeMap n)
+unfolding header madeMap
 header-words n = refl

@@ -9,7 +9,7 @@ use Rattle.format.specs.Answer.{Answer, answer, refused}
 use Rattle.format.specs.declared.section.BspFileSection.{BspFileSection}
 use Rattle.format.specs.declared.section.BspData.{BspData}
 use Rattle.written.specs.Bytes.{u32, i16, i32, f32, joined, row}
-use Rattle.made.specs.Map.{axisOf, distanceOf, numberOf, Side, node, solid, empty, frontOf, backOf}
+use Rattle.made.specs.Map.{axisOf, distanceOf, nodeNumber, Side, node, solid, empty, frontOf, backOf}
 
 abbrev at : ℕ → ℕ → BspFileSection
 at offset size = record { offset = offset; size = size }
@@ -19,8 +19,8 @@ abbrev unused : BspFileSection
 unused = at 0 0
 
 -- "Sections follow the header in their order without gaps"; the header has 124 bytes
-unfoldable pub mapOf : ℕ → BspData
-mapOf n = record {
+unfoldable pub madeMap : ℕ → BspData
+madeMap n = record {
   entities = at 124 1;
   planes = at 125 (n * 20);
   textures = at (125 + n * 20) 4;
@@ -106,18 +106,18 @@ model = zeros 52 ++ u32 1 ++ zeros 8
 
 -- what stands for node i of n: its plane, its render node and its clip node
 abbrev pub planePart : ℕ → ℕ → List ℕ
-planePart seed i = plane (numberOf seed i)
+planePart seed i = plane (nodeNumber seed i)
 
 abbrev pub renderPart : ℕ → ℕ → ℕ → List ℕ
-renderPart seed n i = renderNode n i (numberOf seed i)
+renderPart seed n i = renderNode n i (nodeNumber seed i)
 
 abbrev pub clipPart : ℕ → ℕ → ℕ → List ℕ
-clipPart seed n i = clipNode n i (numberOf seed i)
+clipPart seed n i = clipNode n i (nodeNumber seed i)
 
 -- the sections in use, behind the header: "one zero entity byte, a zero texture count", the leaves, the model
 abbrev pub partsOf : ℕ → ℕ → List (List ℕ)
 partsOf seed n =
-    header (mapOf n)
+    header (madeMap n)
     ∷ (0 ∷ [])
     ∷ row (planePart seed) n
     ∷ u32 0

@@ -4,7 +4,7 @@ use Prim.Native.Nat.{ℕ, _+_}
 use mathlib.Core.List.{List, [], _∷_, _++_}
 use lib.ListN.{length, take, drop}
 use Rattle.written.specs.Bytes.{u32}
-use Rattle.made.specs.Map.{numberOf, Side, node, solid, empty}
+use Rattle.made.specs.Map.{nodeNumber, Side, node, solid, empty}
 use Rattle.made.specs.File.{plane, renderNode, clipNode}
 use Rattle.made.specs.declared.Part.{Part}
 use Rattle.made.specs.declared.Part.the-variants.{Planes, RenderNodes, ClipNodes}
@@ -12,8 +12,8 @@ use Rattle.made.specs.declared.Part.the-variants.{Planes, RenderNodes, C
 -- ---- for private contracts
 
 -- the list with xs in it from a place on
-abbrev pub written : ℕ → List ℕ → List ℕ → List ℕ
-written at xs l = take at l ++ (xs ++ drop (at + length xs) l)
+abbrev pub putAt : ℕ → List ℕ → List ℕ → List ℕ
+putAt at xs l = take at l ++ (xs ++ drop (at + length xs) l)
 
 -- numbers of four bytes each
 abbrev pub wordsOf : List ℕ → List ℕ
@@ -32,10 +32,10 @@ sizeOf RenderNodes = 24
 sizeOf ClipNodes = 8
 
 -- the record of node i of n, by its number
-abbrev pub recordOf : Part → ℕ → ℕ → ℕ → List ℕ
-recordOf Planes n i number = plane number
-recordOf RenderNodes n i number = renderNode n i number
-recordOf ClipNodes n i number = clipNode n i number
+abbrev pub recordBytes : Part → ℕ → ℕ → ℕ → List ℕ
+recordBytes Planes n i number = plane number
+recordBytes RenderNodes n i number = renderNode n i number
+recordBytes ClipNodes n i number = clipNode n i number
 
 abbrev pub recordOfNode : Part → ℕ → ℕ → ℕ → List ℕ
-recordOfNode part seed n i = recordOf part n i (numberOf seed i)
+recordOfNode part seed n i = recordBytes part n i (nodeNumber seed i)

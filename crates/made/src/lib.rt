@@ -8,8 +8,8 @@ ghost use Rattle.written.specs.Bytes.{u32, row};
 ghost use Rattle.format.specs.Listed.{listed, into};
 ghost use Rattle.made.specs.Map.{distanceOf, frontOf, backOf};
 ghost use Rattle.made.specs.Map as Map;
-ghost use Rattle.made.specs.File.{isNodeCount, madeUp, fileOf, mapOf, header};
-ghost use Rattle.made.specs.Writing.{written, wordsOf, sideWord, sizeOf, recordOf, recordOfNode};
+ghost use Rattle.made.specs.File.{isNodeCount, madeUp, fileOf, madeMap, header};
+ghost use Rattle.made.specs.Writing.{putAt, wordsOf, sideWord, sizeOf, recordBytes, recordOfNode};
 ghost use Rattle.made.specs.Answers.{lengthOf};
 use format::refusal::Refusal;
 
@@ -29,7 +29,7 @@ fn next(last: u32) -> u32
 // Writes a number as four bytes at a place, the lowest first.
 fn put_word(n: u32, buffer: &mut [u8], at: usize)
     requires { ⌜ at + 4 ≤ length (now buffer) ⌝ }
-    ensures { λ _. ⌜ now (buffer .exit) ≡ written at (u32 n) (now (buffer .entry)) ⌝ }
+    ensures { λ _. ⌜ now (buffer .exit) ≡ putAt at (u32 n) (now (buffer .entry)) ⌝ }
 {
     buffer[at] = (n % 256) as u8;
     buffer[at + 1] = (n / 256 % 256) as u8;
@@ -40,7 +40,7 @@ fn put_word(n: u32, buffer: &mut [u8], at: usize)
 // Writes numbers at a place, four bytes each.
 fn put_words(words: &[u32], buffer: &mut [u8], at: usize)
     requires { ⌜ at + length (now words) * 4 ≤ length (now buffer) ⌝ }
-    ensures { λ _. ⌜ now (buffer .exit) ≡ written at (wordsOf (now (words .entry))) (now (buffer .entry)) ⌝ }
+    ensures { λ _. ⌜ now (buffer .exit) ≡ putAt at (wordsOf (now (words .entry))) (now (buffer .entry)) ⌝ }
 {
     let mut i = 0;
     while i < words.len() {
@@ -104,7 +104,7 @@ fn size_of(part: Part) -> usize
 // Writes the record of node i at a place.
 fn put_record(part: Part, number: u32, nodes: usize, i: usize, buffer: &mut [u8], at: usize)
     requires { ⌜ (i < nodes) × (nodes ≤ 500) × (at + sizeOf part ≤ length (now buffer)) ⌝ }
-    ensures { λ _. ⌜ now (buffer .exit) ≡ written at (recordOf part nodes i number) (now (buffer .entry)) ⌝ }
+    ensures { λ _. ⌜ now (buffer .exit) ≡ putAt at (recordBytes part nodes i number) (now (buffer .entry)) ⌝ }
 {
     match part {
         Part::Planes => put_words(&[0, 0, 0, distance_bits(number), number % 3], buffer, at),
@@ -131,7 +131,7 @@ fn put_record(part: Part, number: u32, nodes: usize, i: usize, buffer: &mut [u8]
 // Writes a section with a record for each node at a place.
 fn put_section(part: Part, seed: u32, nodes: usize, buffer: &mut [u8], at: usize)
     requires { ⌜ (nodes ≤ 500) × (at + nodes * sizeOf part ≤ length (now buffer)) ⌝ }
-    ensures { λ _. ⌜ now (buffer .exit) ≡ written at (row (recordOfNode part seed nodes) nodes) (now (buffer .entry)) ⌝ }
+    ensures { λ _. ⌜ now (buffer .exit) ≡ putAt at (row (recordOfNode part seed nodes) nodes) (now (buffer .entry)) ⌝ }
 {
     let size = size_of(part);
     let mut last = seed;
@@ -146,7 +146,7 @@ fn put_section(part: Part, seed: u32, nodes: usize, buffer: &mut [u8], at: usize
 // Writes the header and the entity text's zero.
 fn put_front(nodes: usize, buffer: &mut [u8])
     requires { ⌜ (nodes ≤ 500) × (125 ≤ length (now buffer)) ⌝ }
-    ensures { λ _. ⌜ now (buffer .exit) ≡ written 0 (header (mapOf nodes) ++ (0 ∷ [])) (now (buffer .entry)) ⌝ }
+    ensures { λ _. ⌜ now (buffer .exit) ≡ putAt 0 (header (madeMap nodes) ++ (0 ∷ [])) (now (buffer .entry)) ⌝ }
 {
     let n = nodes as u32;
     put_words(
@@ -180,7 +180,7 @@ fn put_front(nodes: usize, buffer: &mut [u8])
 // Writes the file to the front of the buffer.
 fn put_file(seed: u32, nodes: usize, buffer: &mut [u8])
     requires { ⌜ (nodes ≤ 500) × (249 + nodes * 52 ≤ length (now buffer)) ⌝ }
-    ensures { λ _. ⌜ now (buffer .exit) ≡ written 0 (fileOf seed nodes) (now (buffer .entry)) ⌝ }
+    ensures { λ _. ⌜ now (buffer .exit) ≡ putAt 0 (fileOf seed nodes) (now (buffer .entry)) ⌝ }
 {
     put_front(nodes, buffer);
     put_section(Part::Planes, seed, nodes, buffer, 125);

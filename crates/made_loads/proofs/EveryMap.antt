@@ -26,8 +26,8 @@ use Rattle.accept.specs.Accept.{marksFor, accept}
 use Rattle.accept.specs.Accepted.{LeafIn, ModelIn, Accepted}
 use Rattle.accept.proofs.Exactly.{exactly}
 use Rattle.written.proofs.Chain.{behind, Chained, chain}
-use Rattle.made.specs.Map.{numberOf, Side, node, solid, empty, frontOf, backOf}
-use Rattle.made.specs.File.{mapOf, fileOf, isNodeCount, madeUp}
+use Rattle.made.specs.Map.{nodeNumber, Side, node, solid, empty, frontOf, backOf}
+use Rattle.made.specs.File.{madeMap, fileOf, isNodeCount, madeUp}
 use Rattle.made.proofs.Sizes.{file-size}
 use Rattle.made.proofs.Whole.{count-within}
 use Rattle.made_loads.specs.Said.{renderSide, clipSide, modelSaid}
@@ -71,46 +71,46 @@ clip-child empty = refl
 -- a table that holds the chain, whatever its ends: both tables do
 module _ (N : Nodes End) (a e : End) (seed n : ℕ) (low : 1 ≤ n) (high : n ≤ 500) (count : N .count ≡ n) (planes : N .planes ≡ n)
     (ha : N .leafIn a ≡ true) (he : N .leafIn e ≡ true)
-    (reads : (i : ℕ) → i < n → N .nodeAt i ≡ answer (record { plane = i; front = childOf a e (frontOf (numberOf seed i)); back = childOf a e (backOf n i) })) where
+    (reads : (i : ℕ) → i < n → N .nodeAt i ≡ answer (record { plane = i; front = childOf a e (frontOf (nodeNumber seed i)); back = childOf a e (backOf n i) })) where
   abbrev fronts : ℕ → End
-  fronts i = frontEnd a e (numberOf seed i)
+  fronts i = frontEnd a e (nodeNumber seed i)
 
   within : (t : Bool) → N .leafIn (cond t a e) ≡ true
   within true = ha
   within false = he
 
   as-chain : (i : ℕ) → i < n → N .nodeAt i ≡ answer (record { plane = i; front = end (fronts i); back = behind e n i })
-  as-chain i h = reads i h ∙ rw (front-is a e (numberOf seed i), back-is a e n i) refl
+  as-chain i h = reads i h ∙ rw (front-is a e (nodeNumber seed i), back-is a e n i) refl
 
   chained : Chained N n
-  chained = chain (λ i. i) fronts e N n count as-chain (λ i h. omega arith) (λ i h. within (leb (2 ^ 31) (numberOf seed i))) he low (omega arith)
+  chained = chain (λ i. i) fronts e N n count as-chain (λ i h. omega arith) (λ i h. within (leb (2 ^ 31) (nodeNumber seed i))) he low (omega arith)
 
 -- as the statement has it
-tree-said : (s : List ℕ) (n : ℕ) (table : HullTable) → Chained (nodesOf s (mapOf n) table) n → TreeSaid n s (mapOf n) table
+tree-said : (s : List ℕ) (n : ℕ) (table : HullTable) → Chained (nodesOf s (madeMap n) table) n → TreeSaid n s (madeMap n) table
 tree-said s n table c =
     let marks : List ℕ = replicate n 0 in
     let room : n ≤ length marks = omega (arith, length-replicate {A = ℕ} n 0) in
-    record { nodes = rw (c .size) at (passed-count (nodesOf s (mapOf n) table) 0 marks n (c .passes marks room)); height = c .height }
+    record { nodes = rw (c .size) at (passed-count (nodesOf s (madeMap n) table) 0 marks n (c .passes marks room)); height = c .height }
 
 module _ (seed n : ℕ) (low : 1 ≤ n) (high : n ≤ 500) where
   abbrev s : List ℕ
   s = fileOf seed n
 
-  two-leaves : recordCount Leaves (mapOf n .leaves) ≡ 2
-  unfolding recordCount mapOf
+  two-leaves : recordCount Leaves (madeMap n .leaves) ≡ 2
+  unfolding recordCount madeMap
   two-leaves = refl
 
-  render-chained : Chained (nodesOf s (mapOf n) Render) n
+  render-chained : Chained (nodesOf s (madeMap n) Render) n
   render-chained =
-      chained (nodesOf s (mapOf n) Render) (leaf 0) (leaf 1) seed n low high (Back.render-count n) (Back.plane-count n) (rw two-leaves refl) (rw two-leaves refl)
-      (λ i h. ap (mapped Tables.renderNode) (Back.render-nodes seed n high i h) ∙ rw (render-child (frontOf (numberOf seed i)), render-child (backOf n i)) refl)
+      chained (nodesOf s (madeMap n) Render) (leaf 0) (leaf 1) seed n low high (Back.render-count n) (Back.plane-count n) (rw two-leaves refl) (rw two-leaves refl)
+      (λ i h. ap (mapped Tables.renderNode) (Back.render-nodes seed n high i h) ∙ rw (render-child (frontOf (nodeNumber seed i)), render-child (backOf n i)) refl)
 
-  clip-chained : Chained (nodesOf s (mapOf n) Clip) n
+  clip-chained : Chained (nodesOf s (madeMap n) Clip) n
   clip-chained =
-      chained (nodesOf s (mapOf n) Clip) (contents Solid) (contents Empty) seed n low high (Back.clip-count n) (Back.plane-count n) refl refl
-      (λ i h. ap (mapped Tables.clipNode) (Back.clip-nodes seed n high i h) ∙ rw (clip-child (frontOf (numberOf seed i)), clip-child (backOf n i)) refl)
+      chained (nodesOf s (madeMap n) Clip) (contents Solid) (contents Empty) seed n low high (Back.clip-count n) (Back.plane-count n) refl refl
+      (λ i h. ap (mapped Tables.clipNode) (Back.clip-nodes seed n high i h) ∙ rw (clip-child (frontOf (nodeNumber seed i)), clip-child (backOf n i)) refl)
 
-  reads-back : ReadsBack seed n s (mapOf n)
+  reads-back : ReadsBack seed n s (madeMap n)
   reads-back = record {
     plane-count = Back.plane-count n;
     render-node-count = Back.render-count n;
@@ -125,22 +125,22 @@ module _ (seed n : ℕ) (low : 1 ≤ n) (high : n ≤ 500) where
 
   -- ---- acceptance
 
-  no-faces : recordCount Faces (mapOf n .faces) ≡ 0
-  unfolding recordCount mapOf
+  no-faces : recordCount Faces (madeMap n .faces) ≡ 0
+  unfolding recordCount madeMap
   no-faces = refl
 
-  one-model : recordCount Models (mapOf n .models) ≡ 1
-  unfolding recordCount mapOf
+  one-model : recordCount Models (madeMap n .models) ≡ 1
+  unfolding recordCount madeMap
   one-model = refl
 
-  leaf-in : (i : ℕ) → i < recordCount Leaves (mapOf n .leaves) → LeafIn s (mapOf n) i
+  leaf-in : (i : ℕ) → i < recordCount Leaves (madeMap n .leaves) → LeafIn s (madeMap n) i
   leaf-in i h = record { leaf = Loads.leafAtNumber i; leaf-read = Back.leaves seed n high i (omega (arith, two-leaves)); faces-in = none i }
     where
-      none : (i : ℕ) → Loads.leafAtNumber i .«facelist_id» + Loads.leafAtNumber i .«facelist_count» ≤ recordCount FaceList (mapOf n .facelist)
+      none : (i : ℕ) → Loads.leafAtNumber i .«facelist_id» + Loads.leafAtNumber i .«facelist_count» ≤ recordCount FaceList (madeMap n .facelist)
       none zero = omega arith
       none (suc i) = omega arith
 
-  model-in : (i : ℕ) → i < recordCount Models (mapOf n .models) → ModelIn s (mapOf n) i
+  model-in : (i : ℕ) → i < recordCount Models (madeMap n .models) → ModelIn s (madeMap n) i
   model-in i h =
       let z : i ≡ 0 = omega (arith, one-model) in
       rw z (record {
@@ -156,13 +156,13 @@ module _ (seed n : ℕ) (low : 1 ≤ n) (high : n ≤ 500) where
       })
 
   -- leaf 1 has no row
-  row : (i : ℕ) → 0 < i → i < recordCount Leaves (mapOf n .leaves) → (xs : List ℕ) × (pvsOf s (mapOf n) i (recordCount Leaves (mapOf n .leaves)) ≡ answer xs)
+  row : (i : ℕ) → 0 < i → i < recordCount Leaves (madeMap n .leaves) → (xs : List ℕ) × (pvsOf s (madeMap n) i (recordCount Leaves (madeMap n .leaves)) ≡ answer xs)
   unfolding pvsOf
   row i h k =
       let z : i ≡ 1 = omega (arith, two-leaves) in
       ([], rw (z, Back.leaves seed n high 1 (omega arith)) refl)
 
-  all-in : Accepted s (mapOf n)
+  all-in : Accepted s (madeMap n)
   all-in = record {
     faces = λ i h. absurd (omega (arith, no-faces));
     leaves = leaf-in;
@@ -171,13 +171,13 @@ module _ (seed n : ℕ) (low : 1 ≤ n) (high : n ≤ 500) where
     node-0 = render-chained .tree;
   }
 
-  marks-for : marksFor (mapOf n) ≡ n
+  marks-for : marksFor (madeMap n) ≡ n
   unfolding marksFor
   marks-for = let a = Back.render-count n in let b = Back.clip-count n in omega arith
 
-  is-accepted : (marks : List ℕ) → accept s (mapOf n) marks ≡ accepted n marks
+  is-accepted : (marks : List ℕ) → accept s (madeMap n) marks ≡ accepted n marks
   unfolding accept
-  is-accepted marks = rw (marks-for, exactly s (mapOf n) .1 all-in) refl
+  is-accepted marks = rw (marks-for, exactly s (madeMap n) .1 all-in) refl
 
 pub every-map : EveryMap
 every-map seed n low high = record {

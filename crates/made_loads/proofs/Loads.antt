@@ -15,7 +15,7 @@ use Rattle.format.specs.Step.{ok}
 use Rattle.format.specs.Section.{recordCount}
 use Rattle.format.specs.declared.contents.BspLeafContents.the-variants.{Empty, Solid}
 use Rattle.format.specs.declared.section.BspFileSectionId.the-variants.{Planes, Vertices, RenderNodes, TextureInfo, Faces, CollisionNodes, Leaves, FaceList, Edges, EdgeList, Models}
-use Rattle.sections.specs.Row.{records, section}
+use Rattle.sections.specs.Records.{records, section}
 use Rattle.sections.specs.Table.{exceeds, limitsFromLeaves, limits}
 use Rattle.format.specs.Field.{u16At}
 use Rattle.faces.specs.Face.{faceAt}
@@ -38,8 +38,8 @@ use Rattle.load.proofs.Stages.{stages}
 use Rattle.load.specs.Entities.{entities}
 use Rattle.load.specs.Tested.{textured, texinfos, faces, outside, referencesAt, leafReferences}
 use Rattle.load.specs.Extents.{faceExtents}
-use Rattle.made.specs.Map.{numberOf, Side, node, solid, empty, frontOf, backOf}
-use Rattle.made.specs.File.{mapOf, header, planePart, renderPart, clipPart, fileOf}
+use Rattle.made.specs.Map.{nodeNumber, Side, node, solid, empty, frontOf, backOf}
+use Rattle.made.specs.File.{madeMap, header, planePart, renderPart, clipPart, fileOf}
 use Rattle.made_loads.specs.Said.{planeSaid, renderSide, renderNodeSaid, clipNodeSaid, leafSaid, modelSaid}
 use Rattle.written.proofs.Fields.{Reads, last, reads-index}
 use Rattle.written.proofs.Sections.{section-reads, records-read, empty-section, empty-blob}
@@ -49,8 +49,8 @@ use Rattle.made_loads.proofs.Parts.{leafPart, modelPart, leaf-size, par
 
 -- the limits
 
-within-limits : (n : ℕ) → n ≤ 500 → limits (mapOf n) ≡ ok tt 0
-unfolding limits limitsFromLeaves exceeds recordCount mapOf
+within-limits : (n : ℕ) → n ≤ 500 → limits (madeMap n) ≡ ok tt 0
+unfolding limits limitsFromLeaves exceeds recordCount madeMap
 within-limits n h =
     rw (mul-div-cancel n {n = 20} (lit< tt), le-leb n 8192 (omega arith), mul-div-cancel n {n = 24} (lit< tt), le-leb n 32767 (omega arith), mul-div-cancel n {n = 8} (lit< tt), le-leb n 32767 (omega arith)) refl
 
@@ -62,7 +62,7 @@ one-zero s rest e = rw e refl
 
 text-reads : (seed n : ℕ) → entities (fileOf seed n) (record { offset = 124; size = 1 }) ≡ ok tt 125
 unfolding fileOf
-text-reads seed n = one-zero (fileOf seed n) _ (drop-at (header (mapOf n)) _ 124 (header-size n))
+text-reads seed n = one-zero (fileOf seed n) _ (drop-at (header (madeMap n)) _ 124 (header-size n))
 
 -- what stands for the leaves
 
@@ -84,79 +84,79 @@ module _ (seed n : ℕ) (h : n ≤ 500) where
   abbrev s : List ℕ
   s = fileOf seed n
 
-  pub planes-read : section planeAt Planes s (mapOf n .planes) ≡ ok tt (125 + n * 20)
-  unfolding mapOf
-  planes-read = section-reads Planes (planePart seed) (λ i. planeSaid (numberOf seed i)) n 125 s (λ i l. plane-size seed i) (λ i l. reads-plane (numberOf seed i)) (parts seed n .its-planes)
+  pub planes-read : section planeAt Planes s (madeMap n .planes) ≡ ok tt (125 + n * 20)
+  unfolding madeMap
+  planes-read = section-reads Planes (planePart seed) (λ i. planeSaid (nodeNumber seed i)) n 125 s (λ i l. plane-size seed i) (λ i l. reads-plane (nodeNumber seed i)) (parts seed n .its-planes)
 
   count-reads : numberAt 2097152 s (125 + n * 20) ≡ ok 0 (125 + n * 20 + 4)
   unfolding numberAt
   count-reads = last _ (reads-index 10 0 (omega arith)) (λ p. refl) .reads s (125 + n * 20) (parts seed n .its-textures)
 
   -- no texture, and the section ends behind its count
-  textures-read : textures s (mapOf n .textures) ≡ ok 0 (125 + n * 20 + 4)
-  unfolding mapOf textures texturesAt records listed sequenced any
+  textures-read : textures s (madeMap n .textures) ≡ ok 0 (125 + n * 20 + 4)
+  unfolding madeMap textures texturesAt records listed sequenced any
   textures-read = rw (count-reads, eq-eqb (125 + n * 20 + 4) (125 + n * 20 + 4) refl) refl
 
-  render-nodes-read : section renderNodeAt RenderNodes s (mapOf n .«render_nodes») ≡ ok tt (129 + n * 20 + n * 24)
-  unfolding mapOf
+  render-nodes-read : section renderNodeAt RenderNodes s (madeMap n .«render_nodes») ≡ ok tt (129 + n * 20 + n * 24)
+  unfolding madeMap
   render-nodes-read =
-      section-reads RenderNodes (renderPart seed n) (λ i. renderNodeSaid n i (numberOf seed i)) n (129 + n * 20) s (λ i l. render-size seed n i)
-      (λ i l. reads-render-node n i (numberOf seed i) l (omega arith)) (parts seed n .its-render-nodes)
+      section-reads RenderNodes (renderPart seed n) (λ i. renderNodeSaid n i (nodeNumber seed i)) n (129 + n * 20) s (λ i l. render-size seed n i)
+      (λ i l. reads-render-node n i (nodeNumber seed i) l (omega arith)) (parts seed n .its-render-nodes)
 
-  clip-nodes-read : section collisionNodeAt CollisionNodes s (mapOf n .«collision_nodes») ≡ ok tt (129 + n * 44 + n * 8)
-  unfolding mapOf
+  clip-nodes-read : section collisionNodeAt CollisionNodes s (madeMap n .«collision_nodes») ≡ ok tt (129 + n * 44 + n * 8)
+  unfolding madeMap
   clip-nodes-read =
-      section-reads CollisionNodes (clipPart seed n) (λ i. clipNodeSaid n i (numberOf seed i)) n (129 + n * 44) s (λ i l. clip-size seed n i)
-      (λ i l. reads-clip-node n i (numberOf seed i) l (omega arith)) (parts seed n .its-clip-nodes)
+      section-reads CollisionNodes (clipPart seed n) (λ i. clipNodeSaid n i (nodeNumber seed i)) n (129 + n * 44) s (λ i l. clip-size seed n i)
+      (λ i l. reads-clip-node n i (nodeNumber seed i) l (omega arith)) (parts seed n .its-clip-nodes)
 
-  leaves-read : section leafAt Leaves s (mapOf n .leaves) ≡ ok tt (129 + n * 52 + 56)
-  unfolding mapOf
+  leaves-read : section leafAt Leaves s (madeMap n .leaves) ≡ ok tt (129 + n * 52 + 56)
+  unfolding madeMap
   leaves-read = section-reads Leaves leafPart leafAtNumber 2 (129 + n * 52) s (λ i l. leaf-size i) (λ i l. reads-leaf-part i) (parts seed n .its-leaves)
 
-  model-reads : section fileModelAt Models s (mapOf n .models) ≡ ok tt (185 + n * 52 + 64)
-  unfolding mapOf
+  model-reads : section fileModelAt Models s (madeMap n .models) ≡ ok tt (185 + n * 52 + 64)
+  unfolding madeMap
   model-reads = section-reads Models modelPart (λ i. modelSaid) 1 (185 + n * 52) s (λ i l. model-size) (λ i l. reads-model) (parts seed n .its-model)
 
   names : (i : ℕ) → i < n → Reads (referencesAt 2) (renderPart seed n i) tt
   unfolding referencesAt
   names i l =
-      last _ (reads-render-node n i (numberOf seed i) l (omega arith))
-      (λ p. rw (inside (frontOf (numberOf seed i)), inside (backOf n i)) refl)
+      last _ (reads-render-node n i (nodeNumber seed i) l (omega arith))
+      (λ p. rw (inside (frontOf (nodeNumber seed i)), inside (backOf n i)) refl)
 
-  references-hold : leafReferences s (mapOf n) ≡ ok tt (129 + n * 20 + n * 24)
-  unfolding mapOf leafReferences recordCount
+  references-hold : leafReferences s (madeMap n) ≡ ok tt (129 + n * 20 + n * 24)
+  unfolding madeMap leafReferences recordCount
   references-hold =
       records-read RenderNodes (renderPart seed n) (λ i. tt) n (129 + n * 20) s (λ i l. render-size seed n i) names (parts seed n .its-render-nodes)
 
   -- the sections without records, and the steps of loading from the last to the first
 
-  from-extents : fromExtents s (mapOf n) ≡ ok (mapOf n) 0
-  unfolding fromExtents faceExtents records recordCount mapOf
+  from-extents : fromExtents s (madeMap n) ≡ ok (madeMap n) 0
+  unfolding fromExtents faceExtents records recordCount madeMap
   from-extents = rw (references-hold, model-reads) refl
 
-  from-edges : fromEdges s (mapOf n) ≡ ok (mapOf n) 0
-  unfolding fromEdges mapOf
+  from-edges : fromEdges s (madeMap n) ≡ ok (madeMap n) 0
+  unfolding fromEdges madeMap
   from-edges = rw (empty-section edgeAt Edges s 0, empty-section edgeIndexAt EdgeList s 0) from-extents
 
-  from-clip-nodes : fromCollisionNodes s (mapOf n) ≡ ok (mapOf n) 0
-  unfolding fromCollisionNodes mapOf
+  from-clip-nodes : fromCollisionNodes s (madeMap n) ≡ ok (madeMap n) 0
+  unfolding fromCollisionNodes madeMap
   from-clip-nodes = rw (clip-nodes-read, leaves-read, empty-section u16At FaceList s 0) from-edges
 
-  from-texinfo : fromTexinfo s (mapOf n) ≡ ok (mapOf n) 0
-  unfolding fromTexinfo texinfos faces mapOf
+  from-texinfo : fromTexinfo s (madeMap n) ≡ ok (madeMap n) 0
+  unfolding fromTexinfo texinfos faces madeMap
   from-texinfo = rw (empty-section (textured 0) TextureInfo s 0, empty-section (faceAt _ _) Faces s 0, empty-blob s 0) from-clip-nodes
 
-  from-vertices : fromVertices s (mapOf n) ≡ ok (mapOf n) 0
-  unfolding fromVertices mapOf
+  from-vertices : fromVertices s (madeMap n) ≡ ok (madeMap n) 0
+  unfolding fromVertices madeMap
   from-vertices = rw (empty-section vectorAt Vertices s 0, empty-blob s 0, render-nodes-read) from-texinfo
 
-  from-planes : fromPlanes s (mapOf n) ≡ ok (mapOf n) 0
-  unfolding fromPlanes mapOf
+  from-planes : fromPlanes s (madeMap n) ≡ ok (madeMap n) 0
+  unfolding fromPlanes madeMap
   from-planes = rw (planes-read, textures-read) from-vertices
 
-  loads-at : fromHeader s ≡ ok (mapOf n) 0
-  unfolding fromHeader mapOf
+  loads-at : fromHeader s ≡ ok (madeMap n) 0
+  unfolding fromHeader madeMap
   loads-at = rw (header-reads seed n h, within-limits n h, text-reads seed n) from-planes
 
-  pub loads : loadOf s ≡ answer (mapOf n)
+  pub loads : loadOf s ≡ answer (madeMap n)
   loads = ap outcome (sym (stages s) ∙ loads-at)

@@ -11,7 +11,7 @@ use Rattle.format.specs.Step.{ok, refused}
 use Rattle.format.specs.declared.section.BspFileSectionId.the-variants.{Entities, Planes, Textures, Vertices, Visibility, RenderNodes, TextureInfo, Faces, Lightmaps, CollisionNodes, Leaves, FaceList, Edges, EdgeList, Models}
 use Rattle.sections.specs.Table.{tableEndAt, tableAt, isVersion, headerAt}
 use Rattle.written.specs.Bytes.{u32, row}
-use Rattle.made.specs.File.{mapOf, tableBytes, header, leaf, leaves, model, planePart, renderPart, clipPart, partsOf, fileOf}
+use Rattle.made.specs.File.{madeMap, tableBytes, header, leaf, leaves, model, planePart, renderPart, clipPart, partsOf, fileOf}
 use Rattle.made.proofs.Sizes.{plane-size, render-size, clip-size, header-size, leaves-size}
 use Rattle.written.proofs.Fields.{Lies, whole, laid, Reads, then, last, reads-i32, row-length}
 use Rattle.written.proofs.Sections.{reads-three}
@@ -30,7 +30,7 @@ leaf-size zero = refl
 leaf-size (suc i) = refl
 
 pub record Parts (seed n : ℕ) (s : List ℕ) : Type 0 where
-  pub its-header : Lies (header (mapOf n)) s 0
+  pub its-header : Lies (header (madeMap n)) s 0
   pub text : Lies (0 ∷ []) s 124
   pub its-planes : Lies (row (planePart seed) n) s 125
   pub its-textures : Lies (u32 0) s (125 + n * 20)
@@ -70,8 +70,8 @@ parts seed n =
 
 -- the header
 
-table : (n : ℕ) → n ≤ 500 → Reads tableAt (tableBytes (mapOf n)) (mapOf n)
-unfolding mapOf tableAt tableEndAt
+table : (n : ℕ) → n ≤ 500 → Reads tableAt (tableBytes (madeMap n)) (madeMap n)
+unfolding madeMap tableAt tableEndAt
 table n h =
     then _ (reads-three Entities Planes Textures 124 1 125 n (125 + n * 20) 4 (omega arith) (omega arith) (omega arith))
     (then _ (reads-three Vertices Visibility RenderNodes 0 0 0 0 (129 + n * 20) n (omega arith) (omega arith) (omega arith))
@@ -79,7 +79,7 @@ table n h =
     (then _ (reads-three CollisionNodes Leaves FaceList (129 + n * 44) n (129 + n * 52) 2 0 0 (omega arith) (omega arith) (omega arith))
     (last _ (reads-three Edges EdgeList Models 0 0 0 0 (185 + n * 52) 1 (omega arith) (omega arith) (omega arith)) (λ p. refl)))))
 
-pub header-reads : (seed n : ℕ) → n ≤ 500 → headerAt (fileOf seed n) ≡ ok (mapOf n) 124
+pub header-reads : (seed n : ℕ) → n ≤ 500 → headerAt (fileOf seed n) ≡ ok (madeMap n) 124
 unfolding headerAt header isVersion
 header-reads seed n h =
     then (λ version s p. cond (isVersion version) (tableAt s p) (refused 2)) (reads-i32 (pos 29) (record { sfits = omega arith })) (table n h)

@@ -22,8 +22,8 @@ use Rattle.records.specs.Node.{renderNodeOf, collisionNodeOf}
 use Rattle.records.specs.Plane.{planeOf}
 use Rattle.records.proofs.Readable.{answered}
 use Rattle.models.specs.Model.{fileModelOf, leafIdOf, modelOf, withRest}
-use Rattle.made.specs.Map.{numberOf}
-use Rattle.made.specs.File.{mapOf, planePart, renderPart, clipPart, fileOf}
+use Rattle.made.specs.Map.{nodeNumber}
+use Rattle.made.specs.File.{madeMap, planePart, renderPart, clipPart, fileOf}
 use Rattle.made_loads.specs.Said.{planeSaid, renderNodeSaid, clipNodeSaid, modelSaid}
 use Rattle.made_loads.proofs.Records.{reads-plane, reads-render-node, reads-clip-node, reads-model}
 use Rattle.made.proofs.Sizes.{plane-size, render-size, clip-size, model-size}
@@ -56,46 +56,46 @@ module _ (seed n : ℕ) (h : n ≤ 500) where
   abbrev s : List ℕ
   s = fileOf seed n
 
-  pub planes : (i : ℕ) → i < n → planeOf s (mapOf n) i ≡ answer (planeSaid (numberOf seed i))
-  unfolding mapOf
+  pub planes : (i : ℕ) → i < n → planeOf s (madeMap n) i ≡ answer (planeSaid (nodeNumber seed i))
+  unfolding madeMap
   planes =
-      reads-back Planes (planePart seed) (λ i. planeSaid (numberOf seed i)) n 125 s (mapOf n) refl (le-leb n 8192 (omega arith)) (λ i l. plane-size seed i)
-      (λ i l. reads-plane (numberOf seed i)) (parts seed n .its-planes)
+      reads-back Planes (planePart seed) (λ i. planeSaid (nodeNumber seed i)) n 125 s (madeMap n) refl (le-leb n 8192 (omega arith)) (λ i l. plane-size seed i)
+      (λ i l. reads-plane (nodeNumber seed i)) (parts seed n .its-planes)
 
-  pub render-nodes : (i : ℕ) → i < n → renderNodeOf s (mapOf n) i ≡ answer (renderNodeSaid n i (numberOf seed i))
-  unfolding mapOf
+  pub render-nodes : (i : ℕ) → i < n → renderNodeOf s (madeMap n) i ≡ answer (renderNodeSaid n i (nodeNumber seed i))
+  unfolding madeMap
   render-nodes =
-      reads-back RenderNodes (renderPart seed n) (λ i. renderNodeSaid n i (numberOf seed i)) n (129 + n * 20) s (mapOf n) refl (le-leb n 32767 (omega arith))
-      (λ i l. render-size seed n i) (λ i l. reads-render-node n i (numberOf seed i) l (omega arith)) (parts seed n .its-render-nodes)
+      reads-back RenderNodes (renderPart seed n) (λ i. renderNodeSaid n i (nodeNumber seed i)) n (129 + n * 20) s (madeMap n) refl (le-leb n 32767 (omega arith))
+      (λ i l. render-size seed n i) (λ i l. reads-render-node n i (nodeNumber seed i) l (omega arith)) (parts seed n .its-render-nodes)
 
-  pub clip-nodes : (i : ℕ) → i < n → collisionNodeOf s (mapOf n) i ≡ answer (clipNodeSaid n i (numberOf seed i))
-  unfolding mapOf
+  pub clip-nodes : (i : ℕ) → i < n → collisionNodeOf s (madeMap n) i ≡ answer (clipNodeSaid n i (nodeNumber seed i))
+  unfolding madeMap
   clip-nodes =
-      reads-back CollisionNodes (clipPart seed n) (λ i. clipNodeSaid n i (numberOf seed i)) n (129 + n * 44) s (mapOf n) refl (le-leb n 32767 (omega arith))
-      (λ i l. clip-size seed n i) (λ i l. reads-clip-node n i (numberOf seed i) l (omega arith)) (parts seed n .its-clip-nodes)
+      reads-back CollisionNodes (clipPart seed n) (λ i. clipNodeSaid n i (nodeNumber seed i)) n (129 + n * 44) s (madeMap n) refl (le-leb n 32767 (omega arith))
+      (λ i l. clip-size seed n i) (λ i l. reads-clip-node n i (nodeNumber seed i) l (omega arith)) (parts seed n .its-clip-nodes)
 
-  pub leaves : (i : ℕ) → i < 2 → leafOf s (mapOf n) i ≡ answer (leafAtNumber i)
-  unfolding mapOf
-  leaves = reads-back Leaves leafPart leafAtNumber 2 (129 + n * 52) s (mapOf n) refl refl (λ i l. leaf-size i) (λ i l. reads-leaf-part i) (parts seed n .its-leaves)
+  pub leaves : (i : ℕ) → i < 2 → leafOf s (madeMap n) i ≡ answer (leafAtNumber i)
+  unfolding madeMap
+  leaves = reads-back Leaves leafPart leafAtNumber 2 (129 + n * 52) s (madeMap n) refl refl (λ i l. leaf-size i) (λ i l. reads-leaf-part i) (parts seed n .its-leaves)
 
-  pub file-model : fileModelOf s (mapOf n) 0 ≡ answer modelSaid
-  unfolding mapOf
-  file-model = reads-back Models modelPart (λ i. modelSaid) 1 (185 + n * 52) s (mapOf n) refl refl (λ i l. model-size) (λ i l. reads-model) (parts seed n .its-model) 0 (omega arith)
+  pub file-model : fileModelOf s (madeMap n) 0 ≡ answer modelSaid
+  unfolding madeMap
+  file-model = reads-back Models modelPart (λ i. modelSaid) 1 (185 + n * 52) s (madeMap n) refl refl (λ i l. model-size) (λ i l. reads-model) (parts seed n .its-model) 0 (omega arith)
 
-  pub model : modelOf s (mapOf n) 0 ≡ answer (withRest n 0 modelSaid)
-  unfolding modelOf leafIdOf mapOf
+  pub model : modelOf s (madeMap n) 0 ≡ answer (withRest n 0 modelSaid)
+  unfolding modelOf leafIdOf madeMap
   model = rw (file-model, count-of CollisionNodes (129 + n * 44) n) refl
 
 -- how many records there are
 module _ (n : ℕ) where
-  pub plane-count : recordCount Planes (mapOf n .planes) ≡ n
-  unfolding mapOf
+  pub plane-count : recordCount Planes (madeMap n .planes) ≡ n
+  unfolding madeMap
   plane-count = count-of Planes 125 n
 
-  pub render-count : recordCount RenderNodes (mapOf n .«render_nodes») ≡ n
-  unfolding mapOf
+  pub render-count : recordCount RenderNodes (madeMap n .«render_nodes») ≡ n
+  unfolding madeMap
   render-count = count-of RenderNodes (129 + n * 20) n
 
-  pub clip-count : recordCount CollisionNodes (mapOf n .«collision_nodes») ≡ n
-  unfolding mapOf
+  pub clip-count : recordCount CollisionNodes (madeMap n .«collision_nodes») ≡ n
+  unfolding madeMap
   clip-count = count-of CollisionNodes (129 + n * 44) n

@@ -23,8 +23,8 @@ use Rattle.nodes.specs.declared.table.HullTable.the-variants.{Render, Clip}
 use Rattle.tree.specs.Size.{NodeCount}
 use Rattle.load.specs.Load.{loadOf}
 use Rattle.accept.specs.Accept.{passes, Judged, judged, accept}
-use Rattle.made.specs.Map.{numberOf}
-use Rattle.made.specs.File.{mapOf, fileOf, madeUp}
+use Rattle.made.specs.Map.{nodeNumber}
+use Rattle.made.specs.File.{madeMap, fileOf, madeUp}
 use Rattle.made_loads.specs.Said.{planeSaid, renderNodeSaid, clipNodeSaid, leafSaid, modelSaid}
 
 -- It reads back: so many planes and nodes, and each as its number says; the two leaves and the model, too.
@@ -32,9 +32,9 @@ pub record ReadsBack (seed n : ℕ) (s : List ℕ) (m : BspData) : Type 0 where
   pub plane-count : recordCount Planes (m .planes) ≡ n
   pub render-node-count : recordCount RenderNodes (m .«render_nodes») ≡ n
   pub clip-node-count : recordCount CollisionNodes (m .«collision_nodes») ≡ n
-  pub planes : (i : ℕ) → i < n → planeOf s m i ≡ answer (planeSaid (numberOf seed i))
-  pub render-nodes : (i : ℕ) → i < n → renderNodeOf s m i ≡ answer (renderNodeSaid n i (numberOf seed i))
-  pub clip-nodes : (i : ℕ) → i < n → collisionNodeOf s m i ≡ answer (clipNodeSaid n i (numberOf seed i))
+  pub planes : (i : ℕ) → i < n → planeOf s m i ≡ answer (planeSaid (nodeNumber seed i))
+  pub render-nodes : (i : ℕ) → i < n → renderNodeOf s m i ≡ answer (renderNodeSaid n i (nodeNumber seed i))
+  pub clip-nodes : (i : ℕ) → i < n → collisionNodeOf s m i ≡ answer (clipNodeSaid n i (nodeNumber seed i))
   pub solid-leaf : leafOf s m 0 ≡ answer (leafSaid Solid)
   pub empty-leaf : leafOf s m 1 ≡ answer (leafSaid Empty)
   pub model : modelOf s m 0 ≡ answer (withRest n 0 modelSaid)
@@ -50,11 +50,11 @@ accepted n marks = cond (ltb (length marks) n) (judged (refused 22) marks) (judg
 
 pub record Sound (seed n : ℕ) : Type 0 where
   pub size : length (fileOf seed n) ≡ 249 + n * 52
-  pub loads : loadOf (fileOf seed n) ≡ answer (mapOf n)
-  pub passes-note-4 : (marks : List ℕ) → accept (fileOf seed n) (mapOf n) marks ≡ accepted n marks
-  pub reads-back : ReadsBack seed n (fileOf seed n) (mapOf n)
-  pub render-tree : TreeSaid n (fileOf seed n) (mapOf n) Render
-  pub clip-tree : TreeSaid n (fileOf seed n) (mapOf n) Clip
+  pub loads : loadOf (fileOf seed n) ≡ answer (madeMap n)
+  pub passes-note-4 : (marks : List ℕ) → accept (fileOf seed n) (madeMap n) marks ≡ accepted n marks
+  pub reads-back : ReadsBack seed n (fileOf seed n) (madeMap n)
+  pub render-tree : TreeSaid n (fileOf seed n) (madeMap n) Render
+  pub clip-tree : TreeSaid n (fileOf seed n) (madeMap n) Clip
 
 -- for every seed and every node count from 1 to 500
 abbrev pub EveryMap : Type 0

@@ -32,10 +32,10 @@ entitiesOf s m =
     (answer (record { offset = at; size = textEnd s at - at }))
 
 -- the part of the file that was found, or nothing
-abbrev pub partOf : List ℕ → Answer Part → List ℕ
-partOf s (answer p) = take (p .size) (drop (p .offset) s)
-partOf s (refused n) = []
+abbrev pub bytesFound : List ℕ → Answer Part → List ℕ
+bytesFound s (answer p) = take (p .size) (drop (p .offset) s)
+bytesFound s (refused n) = []
 
 -- the entity text; empty where `entitiesOf` refuses
 abbrev pub entityText : List ℕ → BspData → List ℕ
-entityText s m = partOf s (entitiesOf s m)
+entityText s m = bytesFound s (entitiesOf s m)

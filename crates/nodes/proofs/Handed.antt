@@ -15,7 +15,7 @@ use Rattle.walk.specs.Table.{Node}
 use Rattle.walk.specs.Walk.{Entered}
 use Rattle.nodes.specs.Tables.{End, fileTable}
 use Rattle.nodes.specs.Fast.{Within, isRender, nodeSize}
-use Rattle.nodes.specs.Walks.{madeFrom, madeAt, madeOf, MadeIn, nodeAndDists, segmentAnswer, segmentFrom}
+use Rattle.nodes.specs.Walks.{madeFrom, madeAt, madeIn, MadeIn, nodeAndDists, segmentAnswer, segmentFrom}
 use Rattle.nodes.specs.declared.table.HullTable.{HullTable}
 use Rattle.nodes.specs.declared.table.HullTable.the-variants.{Render, Clip, Box}
 use Rattle.nodes.specs.declared.table.Tables.{Tables}
@@ -45,13 +45,13 @@ second-within n m = record { inside = rw (length-append n m) (omega arith); same
 -- ---- what is made of a node in any bytes
 
 module _ {X : Type 0} (make : Entered End → X) (k : Bool) (n m : List ℕ) (i : ℕ) where
-  pub of-bytes : ltb i (length n / nodeSize k) ≡ true → (x : Answer X) → MadeIn make k n m (i * nodeSize k) x → x ≡ madeOf make k n m i
+  pub of-bytes : ltb i (length n / nodeSize k) ≡ true → (x : Answer X) → MadeIn make k n m (i * nodeSize k) x → x ≡ madeIn make k n m i
   of-bytes f x g =
       rw f
       (g (n ++ m) 0 (length n) (first-within n m) (second-within n m)
       ∙ ap (λ (at : ℕ). madeAt make k (n ++ m) at (length n) (length m / 20)) (omega arith))
 
-  pub of-none : ltb i (length n / nodeSize k) ≡ false → Ans.refused 20 ≡ madeOf make k n m i
+  pub of-none : ltb i (length n / nodeSize k) ≡ false → Ans.refused 20 ≡ madeIn make k n m i
   of-none f = rw f refl
 
 -- ---- a box's words stand for what a clip node's do

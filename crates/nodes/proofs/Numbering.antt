@@ -17,7 +17,7 @@ use Rattle.math.specs.Plane as Pl
 use Rattle.math.specs.declared.Vector3.{Vector3}
 use Rattle.math.specs.declared.Hyperplane.{Hyperplane}
 use Rattle.nodes.specs.Fast.{Within, along, sideFrom, partOf, placeIn, planeHere, planeRead, planeOfIndex, tablesOf}
-use Rattle.nodes.specs.Numbered.{allowed, readable, planeOf, planeNumbered, sideOf, pickedBy}
+use Rattle.nodes.specs.Numbered.{allowed, readable, planeAmong, planeNumbered, sideOf, pickedBy}
 use Rattle.nodes.specs.declared.table.Part.{Part}
 use Rattle.nodes.specs.declared.table.HullTable.the-variants.{Clip}
 use Rattle.nodes.proofs.Places.{none, unreadable, inside, outside}
@@ -33,11 +33,11 @@ module _ (bs : List ℕ) (count i : ℕ) where
 
   module _ (h : i < count) where
     pub unread-23 : length bs < i * 20 + 20 → planeNumbered bs count i ≡ refused 23
-    unfolding planeNumbered planeOf
+    unfolding planeNumbered planeAmong
     unread-23 g = simp (lt-ltb i count h, lt-leb count i h, lt-leb (i * 20 + 20) (length bs) g)
 
     pub there : i * 20 + 20 ≤ length bs → planeNumbered bs count i ≡ answer (planeHere bs (i * 20))
-    unfolding planeNumbered planeOf
+    unfolding planeNumbered planeAmong
     there g = simp (lt-ltb i count h, lt-leb count i h, le-leb (i * 20 + 20) (length bs) g)
 
   -- one of two numbers by the side of a point; so many planes are known to be there
@@ -119,21 +119,21 @@ module _ (s : List ℕ) (z : BspFileSection) (i : ℕ) where
         same = λ j g. getD-take (m * 20) (drop (z .offset) s) j 0 (omega (arith, g, readable-length s z)) ∙ getD-drop (z .offset) s j 0;
       }
 
-  past : c ≤ i → planeOf bs c i ≡ refused 20
-  unfolding planeOf
+  past : c ≤ i → planeAmong bs c i ≡ refused 20
+  unfolding planeAmong
   past h = simp (le-leb c i h)
 
   module _ (h : i < c) where
-    unread : length bs < i * 20 + 20 → planeOf bs c i ≡ refused 23
-    unfolding planeOf
+    unread : length bs < i * 20 + 20 → planeAmong bs c i ≡ refused 23
+    unfolding planeAmong
     unread g = simp (lt-leb c i h, lt-leb (i * 20 + 20) (length bs) g)
 
-    read : i * 20 + 20 ≤ length bs → planeOf bs c i ≡ answer (planeHere bs (i * 20))
-    unfolding planeOf
+    read : i * 20 + 20 ≤ length bs → planeAmong bs c i ≡ answer (planeHere bs (i * 20))
+    unfolding planeAmong
     read g = simp (lt-leb c i h, le-leb (i * 20 + 20) (length bs) g)
 
   by-tests : (a b d : Bool) → leb c i ≡ a → leb m i ≡ b → leb (i * 20 + 20) (length bs) ≡ d
-      → planeOf bs c i ≡ thenAnswer (placeIn p 20 (length s) i) (planeRead s)
+      → planeAmong bs c i ≡ thenAnswer (placeIn p 20 (length s) i) (planeRead s)
   by-tests true b d q r t =
       let h = leb-true c i q in
       past h ∙ ap (λ (x : Answer ℕ). thenAnswer x (planeRead s)) (none p 20 (length s) i h)
@@ -155,9 +155,9 @@ module _ (s : List ℕ) (z : BspFileSection) (i : ℕ) where
       let l = leb-false (i * 20 + 20) (length bs) t in
       unread h l ∙ ap (λ (x : Answer ℕ). thenAnswer x (planeRead s)) (outside p 20 (length s) i h g (omega (arith, l, g, readable-length s z)))
 
-  plane-there : planeOf bs c i ≡ thenAnswer (placeIn p 20 (length s) i) (planeRead s)
+  plane-there : planeAmong bs c i ≡ thenAnswer (placeIn p 20 (length s) i) (planeRead s)
   plane-there = by-tests (leb c i) (leb m i) (leb (i * 20 + 20) (length bs)) refl refl refl
 
-pub numbered-is : (s : List ℕ) (m : BspData) (mins maxs : Vector3) → planeOf (readable s (m .planes)) (m .planes .size / 20) ≡ planeOfIndex s (tablesOf m Clip mins maxs)
+pub numbered-is : (s : List ℕ) (m : BspData) (mins maxs : Vector3) → planeAmong (readable s (m .planes)) (m .planes .size / 20) ≡ planeOfIndex s (tablesOf m Clip mins maxs)
 unfolding planeOfIndex
 numbered-is s m mins maxs = fun-ext (plane-there s (m .planes))

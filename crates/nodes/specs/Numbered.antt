@@ -25,14 +25,14 @@ unfoldable pub readable : List ℕ → BspFileSection → List ℕ
 readable s z = take (allowed (z .size / 20) * 20) (drop (z .offset) s)
 
 -- the plane of a number, of so many, in these bytes
-unfoldable pub planeOf : List ℕ → ℕ → ℕ → Answer Hyperplane
-planeOf bs count i =
+unfoldable pub planeAmong : List ℕ → ℕ → ℕ → Answer Hyperplane
+planeAmong bs count i =
     cond (leb count i) (refused 20)
     (cond (leb (i * 20 + 20) (length bs)) (answer (planeHere bs (i * 20))) (refused 23))
 
 -- its number (30), then the plane
 unfoldable pub planeNumbered : List ℕ → ℕ → ℕ → Answer Hyperplane
-planeNumbered bs count i = cond (ltb i count) (planeOf bs count i) (refused 30)
+planeNumbered bs count i = cond (ltb i count) (planeAmong bs count i) (refused 30)
 
 -- of two numbers the one on a side
 abbrev pub sideOf : ℕ → ℕ → HyperplaneSide → ℕ

@@ -39,9 +39,9 @@ ends T =
     }
 
 -- the end that a word stands for, and visits
-abbrev pub endAnswer : HullTable → WalkEnd → Answer (End × ℕ)
-endAnswer t (W.Word w v) = answer (endOf t w, v)
-endAnswer t (W.Refused e) = refused (numberOf e)
+abbrev pub walkEndAnswer : HullTable → WalkEnd → Answer (End × ℕ)
+walkEndAnswer t (W.Word w v) = answer (endOf t w, v)
+walkEndAnswer t (W.Refused e) = refused (numberOf e)
 
 -- ---- what is made of a node and its plane, as they are entered
 
@@ -123,17 +123,17 @@ pub record Read (s : List ℕ) (t : Tables) (nodes planes : List ℕ) (whole : B
 -- ---- what a trace sees at a node, by whatever bytes it is handed
 
 -- of the node i in the bytes n of nodes and m of planes, as in a file that is these bytes, one after the other
-abbrev pub madeOf : {X : Type 0} → (Entered End → X) → Bool → List ℕ → List ℕ → ℕ → Answer X
-madeOf make render n m i =
+abbrev pub madeIn : {X : Type 0} → (Entered End → X) → Bool → List ℕ → List ℕ → ℕ → Answer X
+madeIn make render n m i =
     cond (ltb i (length n / nodeSize render)) (madeAt make render (n ++ m) (i * nodeSize render) (length n) (length m / 20)) (refused 20)
 
 -- what `ends_in` and `look_in` answer, x, is made so; and where the bytes are those of a table that is whole, it is what the table says
 abbrev pub MadeOf : {X : Type 0} → (Entered End → X) → Bool → List ℕ → List ℕ → ℕ → (HullTable → Answer X) → Type 0
 MadeOf make render n m i x =
-    (x (fileTable render) ≡ madeOf make render n m i)
+    (x (fileTable render) ≡ madeIn make render n m i)
     × ((s : List ℕ) (t : Tables) (whole : Bool) → Read s t n m whole → whole ≡ true → render ≡ isRender (t .table) → x (t .table) ≡ madeFrom make s t i)
 
 -- `segment_from`: by these bytes, or record by record
 unfoldable pub segmentFrom : List ℕ → Tables → List ℕ → List ℕ → Bool → ℕ → Vector3 → Vector3 → Answer (Node End × (Float × Float))
 segmentFrom s t n m whole i p q =
-    cond whole (madeOf (nodeAndDists p q) (isRender (t .table)) n m i) (madeFrom (nodeAndDists p q) s t i)
+    cond whole (madeIn (nodeAndDists p q) (isRender (t .table)) n m i) (madeFrom (nodeAndDists p q) s t i)

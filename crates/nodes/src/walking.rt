@@ -358,7 +358,7 @@ pub fn look_in(nodes: &[u8], planes: &[u8], render: bool, index: usize, point: &
 // The walk of the point (x, y, z). 30: the node is outside its table; 31: as many nodes as the table holds were entered; then its record
 // (23), its plane's number (30) and its plane (23).
 pub fn walk_to_end(s: &[u8], t: Tables, root: usize, x: f32, y: f32, z: f32) -> WalkEnd
-    ensures { λ r. ⌜ Walks.endAnswer (t .table) r ≡ withVisits (pointWalk (Walks.ends (Fast.table (now (s .entry)) t)) root (Vec.vector x y z)) ⌝ }
+    ensures { λ r. ⌜ Walks.walkEndAnswer (t .table) r ≡ withVisits (pointWalk (Walks.ends (Fast.table (now (s .entry)) t)) root (Vec.vector x y z)) ⌝ }
 {
     let point = Vector3 { x, y, z };
     let part = t.nodes;

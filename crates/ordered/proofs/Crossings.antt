@@ -22,7 +22,7 @@ use Rattle.phys.specs.declared.Trace.{Trace as TraceT}
 use Rattle.walk.specs.Table.{Child, Table, childOn}
 use Rattle.walk.specs.Walk.{Outcome, done, refused, held, meet, onto}
 use Rattle.walk.specs.Private.{after}
-use Rattle.walk.specs.Trace.{joined, withFar, stops, nearOf, farOf, afterNear, withNear, recursiveTrace}
+use Rattle.walk.specs.Tracing.{joined, withFar, stops, nearOf, farOf, afterNear, withNear, recursiveTrace}
 use Rattle.walk.specs.Ordered.{Row}
 use Rattle.walk.proofs.Steps.{after-done, after-refused}
 use Rattle.records.specs.Answers.{planeAnswer}

@@ -26,7 +26,7 @@ use Rattle.phys.specs.declared.Trace.{Trace as TraceT}
 use Rattle.walk.specs.Table.{Child, Table, childOn}
 use Rattle.walk.specs.Walk.{Outcome, held, Entered, enter, meet, onto}
 use Rattle.walk.specs.Private.{after}
-use Rattle.walk.specs.Trace.{across, traceAt, recursiveTrace}
+use Rattle.walk.specs.Tracing.{across, traceAt, recursiveTrace}
 use Rattle.walk.specs.Ordered.{Row}
 use Rattle.walk.proofs.Steps.{after-one, after-held, trace-unread}
 use Rattle.nodes.specs.Fast.{twoDists, distsFrom}

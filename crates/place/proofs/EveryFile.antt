@@ -14,7 +14,7 @@ use Rattle.records.specs.Node.{renderNodeAt, collisionNodeAt}
 use Rattle.records.specs.Plane.{planeAt}
 use Rattle.records.specs.Triple.{vectorAt}
 use Rattle.models.specs.Model.{fileModelAt}
-use Rattle.sections.specs.Row.{section, blob}
+use Rattle.sections.specs.Records.{section, blob}
 use Rattle.sections.specs.Table.{headerAt, limits}
 use Rattle.textures.specs.Section as Section
 use Rattle.load.specs.Entities.{entities}

@@ -14,7 +14,7 @@ use Rattle.records.specs.Node.{renderNodeAt, collisionNodeAt}
 use Rattle.records.specs.Number.{offsetAt}
 use Rattle.faces.specs.Face.{faceAt}
 use Rattle.models.specs.Model.{fileModelAt}
-use Rattle.sections.specs.Row.{plain}
+use Rattle.sections.specs.Records.{plain}
 use Rattle.sections.specs.Table.{sectionAt, exceeds}
 use Rattle.textures.specs.Section.{listedAt}
 use Rattle.load.specs.Extents.{extentsAt}
@@ -61,8 +61,8 @@ limitAt m i =
     (ok tt (8 * i + 12)))
 
 -- the texture of a number, whose offset stands at a position of the list of offsets; the next offset follows
-unfoldable pub headerAt : List ℕ → BspData → ℕ → ℕ → Step (Unit {0})
-headerAt s m i at = andThen (listedAt s (m .textures .offset) at 0) (λ u p. ok tt (m .textures .offset + 4 * i + 8))
+unfoldable pub listedHeaderAt : List ℕ → BspData → ℕ → ℕ → Step (Unit {0})
+listedHeaderAt s m i at = andThen (listedAt s (m .textures .offset) at 0) (λ u p. ok tt (m .textures .offset + 4 * i + 8))
 
 -- record i of a part, at a position
 unfoldable pub recordAt : Part → List ℕ → BspData → ℕ → ℕ → Step (Unit {0})
@@ -70,7 +70,7 @@ recordAt Directory s m i at = done (sectionAt (idOf i) s at)
 recordAt Limits s m i at = limitAt m i
 recordAt Planes s m i at = plain s at 20
 recordAt Offsets s m i at = done (offsetAt s at)
-recordAt Textures s m i at = headerAt s m i at
+recordAt Textures s m i at = listedHeaderAt s m i at
 recordAt Vertices s m i at = plain s at 12
 recordAt RenderNodes s m i at = done (renderNodeAt s at)
 recordAt TextureInfo s m i at = done (textured (m .«texture_count») s at)

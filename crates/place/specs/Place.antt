@@ -11,7 +11,6 @@ use lib.ListN.{length}
 use Rattle.format.specs.Field.{u16At, i32At}
 use Rattle.format.specs.Step.{Step, ok, refused}
 use Rattle.format.specs.declared.section.BspData.{BspData}
-use Rattle.format.specs.declared.section.BspFileSection.{BspFileSection}
 use Rattle.format.specs.declared.section.BspFileSectionId.the-variants as Id
 use Rattle.records.specs.Edge.{edgeAt, edgeIndexAt}
 use Rattle.records.specs.Leaf.{leafAt}
@@ -22,7 +21,7 @@ use Rattle.records.specs.Triple.{vectorAt}
 use Rattle.records.specs.declared.number.OptionalOffset.{OptionalOffset}
 use Rattle.records.specs.declared.number.OptionalOffset.the-variants.{None, Some}
 use Rattle.models.specs.Model.{fileModelAt}
-use Rattle.sections.specs.Row.{section, blob}
+use Rattle.sections.specs.Records.{section, blob}
 use Rattle.sections.specs.Table.{headerAt, limits, isVersion}
 use Rattle.textures.specs.Section as Section
 use Rattle.load.specs.Entities.{entities}
@@ -33,6 +32,7 @@ use Rattle.place.specs.Part.{stopIn}
 use Rattle.place.specs.Stop.{stop, hereOr}
 use Rattle.place.specs.declared.part.Part.the-variants as Part
 use Rattle.place.specs.declared.part.Stop.{Stop}
+use Rattle.format.specs.Section.{noSection}
 
 -- the file loads, or it is refused with a number, in a section, at a record and a byte
 pub data Located : Type 0 where
@@ -43,10 +43,6 @@ pub data Located : Type 0 where
 abbrev pub located : {A : Type 0} → Step A → ℕ → Stop → (A → Located) → Located
 located (ok v p) z here next = next v
 located (refused n) z here next = refusedAt n z here
-
--- a map record that names nothing: the directory is read before there is one
-abbrev pub noSection : BspFileSection
-noSection = record { offset = 0; size = 0 }
 
 abbrev pub noMap : BspData
 noMap = record {

@@ -101,7 +101,7 @@ pub fn past_offset(s: &[u8], at: usize) -> Position
 
 // The texture of a number, whose offset stands at a position; the next offset follows.
 pub fn past_header(s: &[u8], map: BspData, i: u32, at: usize) -> Position
-    ensures { λ r. ⌜ positionStep r ≡ Spec.headerAt (now (s .entry)) map i at ⌝ }
+    ensures { λ r. ⌜ positionStep r ≡ Spec.listedHeaderAt (now (s .entry)) map i at ⌝ }
 {
     let base = map.textures.offset;
     match read_listed_texture(s, base, at) {

@@ -14,7 +14,7 @@ use Rattle.records.specs.Number.{numberAt}
 use Rattle.records.specs.Triple.{vectorAt}
 use Rattle.models.specs.Model.{boundsAt, rootsAt, fileModelEndAt, fileModelAt, paddedBounds}
 use Rattle.models.specs.Text.{textEnd}
-use Rattle.sections.specs.Row.{records, section, blob}
+use Rattle.sections.specs.Records.{records, section, blob}
 use Rattle.sections.specs.Table.{isMultiple, sectionAt, threeSectionsAt, tableEndAt, tableAt, isVersion, headerAt, exceeds, limits, limitsFromLeaves}
 use Rattle.utf8.specs.Unicode.{lead, next, run, whole, isUtf8}
 use Rattle.textures.specs.Count.{any}

@@ -33,13 +33,13 @@ unfoldable pub line : List ℕ → ℕ → List ℕ
 line name n = name ++ (decimal n ++ (10 ∷ []))
 
 -- what a call that puts text into a lent buffer leaves: the place after the text, and the buffer
-pub record Written : Type 0 where
+pub record Printed : Type 0 where
   pub next : ℕ
   pub list : List ℕ
 
-abbrev pub written : ℕ → List ℕ → Written
-written n l = record { next = n; list = l }
+abbrev pub printed : ℕ → List ℕ → Printed
+printed n l = record { next = n; list = l }
 
 -- the text at the front of the buffer, whose other bytes are kept
-unfoldable pub front : List ℕ → List ℕ → Written
-front text out = written (length text) (text ++ drop (length text) out)
+unfoldable pub front : List ℕ → List ℕ → Printed
+front text out = printed (length text) (text ++ drop (length text) out)

@@ -2,7 +2,7 @@
 ghost use mathlib.Core.Path.{_≡_};
 ghost use Prim.Native.Nat.{_+_};
 ghost use lib.ListN.{length};
-ghost use Rattle.report.specs.Text.{written, front};
+ghost use Rattle.report.specs.Text.{printed, front};
 ghost use Rattle.report.specs.Pieces.{Puts};
 ghost use Rattle.report.specs.Report.{countLine, countLines, reportText};
 
@@ -17,14 +17,14 @@ use load::load;
 
 // Puts the line of a section: a name and how many records it has.
 fn put_count(name: &[u8], map: BspData, id: BspFileSectionId, at: usize, out: &mut [u8]) -> usize
-    ensures { λ r. ⌜ Puts (countLine (now (name .entry)) id map) (length (now (name .entry)) + 11) (written at (now (out .entry))) (written r (now (out .exit))) ⌝ }
+    ensures { λ r. ⌜ Puts (countLine (now (name .entry)) id map) (length (now (name .entry)) + 11) (printed at (now (out .entry))) (printed r (now (out .exit))) ⌝ }
 {
     put_line(name, map.section(id).record_count(id), at, out)
 }
 
 // Puts document 01's seven lines.
 fn put_counts(map: BspData, out: &mut [u8]) -> usize
-    ensures { λ r. ⌜ Puts (countLines map) 129 (written 0 (now (out .entry))) (written r (now (out .exit))) ⌝ }
+    ensures { λ r. ⌜ Puts (countLines map) 129 (printed 0 (now (out .entry))) (printed r (now (out .exit))) ⌝ }
 {
     let a = put_count(b"planes ", map, BspFileSectionId::Planes, 0, out);
     let b = put_count(b"nodes ", map, BspFileSectionId::RenderNodes, a, out);
@@ -37,7 +37,7 @@ fn put_counts(map: BspData, out: &mut [u8]) -> usize
 
 // Puts the report on what was read at the front of the buffer, and answers its length. No report is longer than the buffer.
 pub fn report(input: &[u8], out: &mut [u8; 129]) -> usize
-    ensures { λ r. ⌜ written r (now (out .exit)) ≡ front (reportText (now (input .entry))) (now (out .entry)) ⌝ }
+    ensures { λ r. ⌜ printed r (now (out .exit)) ≡ front (reportText (now (input .entry))) (now (out .entry)) ⌝ }
 {
     if 65536 < input.len() {
         return put_text(b"too long\n", 0, out);

@@ -23,7 +23,7 @@ use Rattle.math.specs.declared.Hyperplane.{Hyperplane}
 use Rattle.math.proofs.Fits.{Fits3}
 use Rattle.walk.specs.Table.{Nodes, Table}
 use Rattle.walk.specs.Walk.{withVisits, pointWalk}
-use Rattle.walk.specs.Trace as Tracing
+use Rattle.walk.specs.Tracing as Tracing
 use Rattle.walk.specs.Tree.{IsTree, Valid, at-root}
 use Rattle.walk.specs.TreeCheck.{treeCheck}
 use Rattle.walk.specs.Demand3.{Answered, AnsweredWithin}

@@ -19,7 +19,7 @@ use Rattle.format.specs.declared.section.BspFileSection.{BspFileSection}
 use Rattle.format.specs.declared.section.BspFileSectionId.{BspFileSectionId}
 use Rattle.format.proofs.Places.{some-bytes}
 use Rattle.sections.specs.Position.{checkEndPosition}
-use Rattle.sections.specs.Row.{records, section, eachRecord}
+use Rattle.sections.specs.Records.{records, section, eachRecord}
 use Rattle.sections.proofs.Plain.{row-bytes}
 
 pub record Bounded {A : Type 0} (one : List ℕ → ℕ → Step A) (k : ℕ) : Type 0 where

@@ -11,7 +11,7 @@ use Rattle.format.specs.Section.{recordCount}
 use Rattle.format.specs.declared.section.BspFileSection.{BspFileSection}
 use Rattle.format.specs.declared.section.BspFileSectionId.{BspFileSectionId}
 use Rattle.sections.specs.Position.{checkEndPosition}
-use Rattle.sections.specs.Row.{records, eachRecord, section}
+use Rattle.sections.specs.Records.{records, eachRecord, section}
 
 module _ {A : Type 0} (one : List ℕ → ℕ → Step A) (s : List ℕ) where
   pub done : (n at : ℕ) → n ≤ 0 → records one s n at ≡ ok tt at

@@ -16,7 +16,7 @@ use Rattle.format.specs.declared.section.BspFileSection.{BspFileSection}
 use Rattle.format.specs.declared.section.BspFileSectionId.{BspFileSectionId}
 use Rattle.format.proofs.Places.{some-bytes}
 use Rattle.format.proofs.Fields as Fields
-use Rattle.sections.specs.Row.{records, section, plain, plainSection}
+use Rattle.sections.specs.Records.{records, section, plain, plainSection}
 use Rattle.sections.proofs.Loops.{done}
 
 -- k bytes are read, whatever they are

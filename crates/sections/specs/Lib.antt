@@ -1,5 +1,5 @@
 -- What the contracts of `sections` cite.
 pub mod Position
 pub mod Table
-pub mod Row
+pub mod Records
 pub mod Answers

@@ -1,7 +1,7 @@
 // Sections whose fields are not tested as they are read: rows of records, and bytes that are kept as they are.
 ghost use mathlib.Core.Path.{_≡_};
 ghost use Rattle.sections.specs.Answers.{positionStep};
-ghost use Rattle.sections.specs.Row.{plain, plainSection, blob};
+ghost use Rattle.sections.specs.Records.{plain, plainSection, blob};
 use crate::position::Position;
 use crate::position::check_end_position;
 use format::refusal::Refusal;

@@ -16,7 +16,7 @@ use Rattle.format.specs.declared.section.BspData.{BspData}
 use Rattle.phys.specs.declared.Trace.{Trace}
 use Rattle.walk.specs.Table.{Nodes, Table as WalkTable}
 use Rattle.walk.specs.Walk.{Outcome, withVisits, pointWalk}
-use Rattle.walk.specs.Trace as Tracing
+use Rattle.walk.specs.Tracing as Tracing
 use Rattle.walk.specs.Tree.{NoTwice, InTree}
 use Rattle.walk.specs.TreeCheck.{treeCheck}
 use Rattle.walk.specs.Demand3.{Answered, AnsweredWithin}
@@ -36,7 +36,7 @@ use Rattle.loaded.proofs.EveryFile.{every-table}
 use Rattle.loaded.proofs.Loading.{loading-refuses}
 use Rattle.words.specs.Words.{Written, written, given, put, Left, left, enough, listedIn, numberWords, mapWords, mapOf}
 use Rattle.served.specs.Cited.{bspLoad, bspTreeCheck, bspContents, bspFindLeaf, bspTrace, bspContentsNodes, bspFindLeafNodes, bspTraceNodes, pointAt, tableNumbered, checkOf, TableNumbered, Table, NoTable, hullFrom, vectorAt, hullIn, tableWord, contentsWords, leafWords, traceWords}
-use Rattle.served.specs.Words.{mapLength, hullAsked, contentsLength, leafLength, traceLength, hullTable, hullRoot, contentsVisits, leafVisits, traceVisits, treeHeight, renderTable}
+use Rattle.served.specs.NamedWords.{mapLength, hullAsked, contentsLength, leafLength, traceLength, hullTable, hullRoot, contentsVisits, leafVisits, traceVisits, treeHeight, renderTable}
 use Rattle.served.specs.EveryCall.{nodesIn, Lists, Served, Calls, mapWritten, EveryCall}
 use Rattle.served.proofs.Refusals.{of-check}
 use Rattle.served.proofs.Statuses.{Some, long, long-both, were-long, from-words, word-floats}

@@ -15,7 +15,7 @@ use Rattle.format.specs.declared.section.BspData.{BspData}
 use Rattle.format.specs.declared.section.BspFileSectionId.the-variants.{RenderNodes, CollisionNodes}
 use Rattle.phys.specs.declared.Trace.{Trace}
 use Rattle.walk.specs.Walk.{Outcome, done, refused, withVisits, pointWalk}
-use Rattle.walk.specs.Trace as Tracing
+use Rattle.walk.specs.Tracing as Tracing
 use Rattle.walk.specs.Tree.{Fails, index-outside, reached-twice, too-deep, unreadable, plane-outside, end-outside}
 use Rattle.walk.specs.TreeCheck.{treeCheck}
 use Rattle.walk.proofs.Refused.{refused-for}

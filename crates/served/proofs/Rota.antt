@@ -34,7 +34,7 @@ use Rattle.rota.specs.Promise.{Queries, Walks}
 use Rattle.rota.proofs.Promise as Promised
 use Rattle.words.specs.Words.{Written, written, given, put, atLeast, Left, listedIn, numberWords, mapOf}
 use Rattle.served.specs.Cited.{bspLoad, bspHull, bspTreeCheck, bspContents, bspFindLeaf, bspTrace, bspPvs, bspAccept, pointAt, tableNumbered, checkOf, TableNumbered, Table, hullFrom, hullIn, hullWords, tableWord, contentsWords, leafWords, traceWords, statusOf, judgedIn}
-use Rattle.served.specs.Words.{hullTable, hullRoot, treeHeight, renderTable}
+use Rattle.served.specs.NamedWords.{hullTable, hullRoot, treeHeight, renderTable}
 use Rattle.served.specs.EveryCall.{nodesIn, mapWritten}
 use Rattle.served.specs.Rota.{NotByShape, Roots, Passed, NotRefused, Answered, EveryMap, EveryFile}
 use Rattle.served.proofs.EveryCall.{Loads, load-passed, Checked, check-passed, every-call}

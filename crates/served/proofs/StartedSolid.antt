@@ -19,7 +19,7 @@ use Rattle.math.specs.Vector.{zero32}
 use Rattle.math.specs.declared.Vector3.{Vector3}
 use Rattle.phys.specs.declared.Trace.{Trace as TraceT}
 use Rattle.walk.specs.Walk.{withVisits, pointWalk, walk, enter, meet}
-use Rattle.walk.specs.Trace as Tracing
+use Rattle.walk.specs.Tracing as Tracing
 use Rattle.walk.proofs.StartedSolid.{solid-is}
 use Rattle.nodes.specs.Tables.{tableOf}
 use Rattle.nodes.specs.declared.table.HullTable.{HullTable}
@@ -33,7 +33,7 @@ use Rattle.loaded.proofs.Refusals.{every-refusal}
 use Rattle.loaded.proofs.StartedSolid as Core
 use Rattle.words.specs.Words.{Written, written, given, put, atLeast, flagWord, mapOf}
 use Rattle.served.specs.Cited.{bspContents, bspTrace, pointAt, hullFrom, hullIn, contentsWords, traceWords}
-use Rattle.served.specs.Words.{contentsCode, traceVisits, traceStartSolid, solidCode}
+use Rattle.served.specs.NamedWords.{contentsCode, traceVisits, traceStartSolid, solidCode}
 use Rattle.served.specs.StartedSolid.{StartedSolid, FiniteNeeded}
 use Rattle.served.proofs.Statuses.{long, was-long, was-answered, word-floats, OfWords, of-table, of-none, of-words}
 

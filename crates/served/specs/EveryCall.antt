@@ -20,7 +20,7 @@ use Rattle.nodes.specs.declared.table.HullTable.the-variants.{Render, Clip, Box
 use Rattle.tree.specs.Readable.{Floats}
 use Rattle.words.specs.Words.{Written, Left, mapOf}
 use Rattle.served.specs.Cited.{bspLoad, bspTreeCheck, bspContents, bspFindLeaf, bspTrace, bspContentsNodes, bspFindLeafNodes, bspTraceNodes, pointAt}
-use Rattle.served.specs.Words.{hullAsked, contentsLength, leafLength, traceLength, hullTable, hullRoot, contentsVisits, leafVisits, traceVisits, nodeCount, treeHeight, renderTable}
+use Rattle.served.specs.NamedWords.{hullAsked, contentsLength, leafLength, traceLength, hullTable, hullRoot, contentsVisits, leafVisits, traceVisits, nodeCount, treeHeight, renderTable}
 
 -- enum bsp_table: 0, 1 and 2. (From a table above 2 no check passes.)
 abbrev pub tableOfNumber : ℕ → HullTable

@@ -1,6 +1,6 @@
 -- What holds of the calls for C.
 pub mod Cited
-pub mod Words
+pub mod NamedWords
 pub mod Refusals
 pub mod EveryCall
 pub mod StartedSolid

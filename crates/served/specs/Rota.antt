@@ -15,7 +15,7 @@ use Rattle.format.specs.declared.section.BspFileSectionId.the-variants.{Leaves}
 use Rattle.tree.specs.Readable.{Floats}
 use Rattle.words.specs.Words.{mapOf}
 use Rattle.served.specs.Cited.{bspLoad, bspHull, bspTreeCheck, bspContents, bspFindLeaf, bspTrace, bspPvs, bspAccept, pointAt}
-use Rattle.served.specs.Words.{hullTable, hullRoot, treeHeight, renderTable}
+use Rattle.served.specs.NamedWords.{hullTable, hullRoot, treeHeight, renderTable}
 use Rattle.served.specs.EveryCall.{nodesIn, mapWritten, Calls}
 
 -- a status that is not 30 to 34

@@ -16,7 +16,7 @@ use Rattle.math.specs.declared.Vector3.{Vector3}
 use Rattle.walk.specs.StartedSolid.{Finite3}
 use Rattle.tree.specs.Readable.{Floats}
 use Rattle.served.specs.Cited.{bspContents, bspTrace, pointAt}
-use Rattle.served.specs.Words.{contentsCode, traceStartSolid, solidCode}
+use Rattle.served.specs.NamedWords.{contentsCode, traceStartSolid, solidCode}
 
 -- for starts of which `Start` is known
 abbrev pub StartedSolidFrom : (Vector3 → Type 0) → Type 0

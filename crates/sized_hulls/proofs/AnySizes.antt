@@ -14,7 +14,7 @@ use Rattle.format.specs.declared.section.BspFileSectionId.the-variants.{Collisi
 use Rattle.walk.specs.Order.{Sized, sizedCheck}
 use Rattle.walk.specs.Table.{Table}
 use Rattle.walk.specs.Walk.{withVisits, pointWalk}
-use Rattle.walk.specs.Trace as Tracing
+use Rattle.walk.specs.Tracing as Tracing
 use Rattle.models.specs.Model.{fileModelOf}
 use Rattle.models.specs.declared.model.BspFileModel.{BspFileModel}
 use Rattle.models.specs.declared.model.PerHull.{PerHull}

@@ -11,7 +11,7 @@ use Rattle.math.specs.Vector.{vector, zero32}
 use Rattle.math.specs.declared.Vector3.{Vector3}
 use Rattle.walk.specs.Table.{Table}
 use Rattle.walk.specs.Walk.{withVisits, pointWalk}
-use Rattle.walk.specs.Trace as Tracing
+use Rattle.walk.specs.Tracing as Tracing
 use Rattle.nodes.specs.Tables.{End, leafTable}
 use Rattle.sizes.specs.Sizes.{bounds}
 use Rattle.sizes.specs.declared.Bounds.{Bounds}

@@ -9,7 +9,7 @@ use borrow.Author.Tests.{lt-leb}
 use lib.Dec.{eqb, leb}
 use lib.ListN.{length}
 use Rattle.format.specs.Answer.{answer, refused}
-use Rattle.sizes.specs.Sizes.{Field, Row, row, cutShort, sizeAt, fieldAt, behind, fieldThen, rowFrom, isWhole, placeOf, sizesIn, judged, areBodies, judgedRow, sizesOf}
+use Rattle.sizes.specs.Sizes.{Field, FieldRow, row, cutShort, sizeAt, fieldAt, behind, fieldThen, rowFrom, isWhole, placeOf, sizesIn, judged, areBodies, judgedRow, sizesOf}
 use Rattle.sizes.specs.Files.{LaidOut, TwoFields, Spells, Accepted, Unfit}
 use Rattle.sizes.specs.declared.BodySizes.{BodySizes}
 use Rattle.sizes.proofs.Rows.{first-then-second, second-then-first, whole-laid}
@@ -35,7 +35,7 @@ decided s = by (rowFrom (length s) s 0) refl
     judge fs q true w = inl (in-layout s (whole-laid s fs q w))
     judge fs q false w = inr refl
 
-    by : (r : Row) → rowFrom (length s) s 0 ≡ r → ((z : BodySizes) × Spells s z) ⊎ (judgedRow s r ≡ refused 26)
+    by : (r : FieldRow) → rowFrom (length s) s 0 ≡ r → ((z : BodySizes) × Spells s z) ⊎ (judgedRow s r ≡ refused 26)
     by (row fs) q = judge fs q (isWhole fs) refl
     by cutShort q = inr refl
 
@@ -89,7 +89,7 @@ refusals s n e = by (decided s)
 
 -- ---- a row has no more fields than the file has bytes: more turns change nothing
 
-past : (s : List ℕ) (at : ℕ) (rest : ℕ → Row) (b : Bool) → eqb at (length s) ≡ b → length s ≤ at → cond b (row []) (fieldThen s at rest) ≡ cond b (row []) cutShort
+past : (s : List ℕ) (at : ℕ) (rest : ℕ → FieldRow) (b : Bool) → eqb at (length s) ≡ b → length s ≤ at → cond b (row []) (fieldThen s at rest) ≡ cond b (row []) cutShort
 past s at rest true q h = refl
 past s at rest false q h = simp (lt-leb (at + 3) (length s) (omega (arith, h)))
 

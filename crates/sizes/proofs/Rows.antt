@@ -10,7 +10,7 @@ use borrow.Author.Tests.{eqb-true, eq-eqb, ne-eqb, le-leb}
 use lib.Dec.{eqb, leb}
 use lib.ListN.{length, getD}
 use Rattle.format.specs.Answer.{refused}
-use Rattle.sizes.specs.Sizes.{Field, Row, row, cutShort, sizeAt, fieldAt, behind, fieldThen, rowFrom, isKnown, allKnown, timesOf, isWhole, placeOf, sizesIn, judged, judgedRow, sizesOf, startsField}
+use Rattle.sizes.specs.Sizes.{Field, FieldRow, row, cutShort, sizeAt, fieldAt, behind, fieldThen, rowFrom, isKnown, allKnown, timesOf, isWhole, placeOf, sizesIn, judged, judgedRow, sizesOf, startsField}
 use Rattle.sizes.specs.Files.{LaidOut}
 
 -- ---- tests
@@ -38,7 +38,7 @@ follows (suc k) s at fs e = by (λ gs. follows k s (at + 3 + sizeAt s at) gs) (e
     Next : List Field → Type 0
     Next gs = Follows s (at + 3 + sizeAt s at) gs
 
-    behind-it : (r : Row) → ((gs : List Field) → r ≡ row gs → Next gs) → behind (fieldAt s at) r ≡ row fs → Follows s at fs
+    behind-it : (r : FieldRow) → ((gs : List Field) → r ≡ row gs → Next gs) → behind (fieldAt s at) r ≡ row fs → Follows s at fs
     behind-it (row gs) rest e = let z : (fieldAt s at ∷ gs) ≡ fs = cc in subst (Follows s at) z (refl, rest gs refl)
     behind-it cutShort rest e = let z : _≡_ {A = ℕ} 0 1 = cc in absurd (omega arith)
 
@@ -261,7 +261,7 @@ else-26 s no-1 no-2 = by (rowFrom (length s) s 0) refl
     judge fs q true w = absurd (neither (whole-laid s fs q w))
     judge fs q false w = refl
 
-    by : (r : Row) → rowFrom (length s) s 0 ≡ r → judgedRow s r ≡ refused 26
+    by : (r : FieldRow) → rowFrom (length s) s 0 ≡ r → judgedRow s r ≡ refused 26
     by (row fs) q = judge fs q (isWhole fs) refl
     by cutShort q = refl
 

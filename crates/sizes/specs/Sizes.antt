@@ -29,23 +29,23 @@ abbrev pub fieldAt : List ℕ → ℕ → Field
 fieldAt s at = record { tag = getD s at 0; size = sizeAt s at; place = at + 3 }
 
 -- the fields that the bytes are a row of, or that one is cut short
-pub data Row : Type 0 where
-  row : List Field → Row
-  cutShort : Row
+pub data FieldRow : Type 0 where
+  row : List Field → FieldRow
+  cutShort : FieldRow
 
-abbrev pub behind : Field → Row → Row
+abbrev pub behind : Field → FieldRow → FieldRow
 behind f (row fs) = row (f ∷ fs)
 behind f cutShort = cutShort
 
 -- the field at a place and those behind it: tag and length are there, and so are as many bytes as the length says
-abbrev pub fieldThen : List ℕ → ℕ → (ℕ → Row) → Row
+abbrev pub fieldThen : List ℕ → ℕ → (ℕ → FieldRow) → FieldRow
 fieldThen s at rest =
     cond (leb (at + 3) (length s) && leb (at + 3 + sizeAt s at) (length s))
     (behind (fieldAt s at) (rest (at + 3 + sizeAt s at)))
     cutShort
 
 -- the row from a place on; it has no more fields than the file has bytes
-unfoldable pub rowFrom : ℕ → List ℕ → ℕ → Row
+unfoldable pub rowFrom : ℕ → List ℕ → ℕ → FieldRow
 rowFrom zero s at = cond (eqb at (length s)) (row []) cutShort
 rowFrom (suc k) s at = cond (eqb at (length s)) (row []) (fieldThen s at (rowFrom k s))
 
@@ -113,7 +113,7 @@ judged z = cond (areBodies z) (answer z) (refused 27)
 
 -- ---- the file
 
-abbrev pub judgedRow : List ℕ → Row → Answer BodySizes
+abbrev pub judgedRow : List ℕ → FieldRow → Answer BodySizes
 judgedRow s (row fs) = cond (isWhole fs) (judged (sizesIn s (placeOf 1 fs) (placeOf 2 fs))) (refused 26)
 judgedRow s cutShort = refused 26
 

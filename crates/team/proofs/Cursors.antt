@@ -11,7 +11,7 @@ use lib.ListN.{length, drop, getD}
 use Rattle.format.specs.Answer.{refused}
 use Rattle.vis.specs.Row.{before, inByte, rowFrom}
 use Rattle.vis.specs.Private.{byteLeaves}
-use Rattle.team.specs.Walk.{keptBits}
+use Rattle.team.specs.SideBySide.{keptBits}
 use Rattle.vis.proofs.SetBits.{none-set}
 use Rattle.vis.proofs.Rows.{before-none, ended, cut, skipped, byte}
 

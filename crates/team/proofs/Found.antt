@@ -25,7 +25,7 @@ use Rattle.vis.specs.Row.{rowFrom, rowAt}
 use Rattle.vis.specs.Pvs.{visibilityOf, sectionRow, rowOf, pvsOf}
 use Rattle.team.specs.Team.{holds, seen, pooled, listsOf, teamOf}
 use Rattle.team.specs.Starts.{whether, orNone, dataOf, offsetIn, offsetOfLeaf, startOf, startsOf}
-use Rattle.team.specs.Walk.{restOf, restsOf, rowsAt, Whole, Cursors, Starts}
+use Rattle.team.specs.SideBySide.{restOf, restsOf, rowsAt, Whole, Cursors, Starts}
 use Rattle.team.proofs.Unions.{holds-none}
 use Rattle.team.proofs.Pools.{pooled-same, pooled-none}
 use Rattle.team.proofs.Pooled.{first-list}

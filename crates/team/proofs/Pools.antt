@@ -19,7 +19,7 @@ use Rattle.vis.proofs.Rows.{kept-leaves}
 use Rattle.vis.proofs.Passes.{kept-small}
 use Rattle.team.specs.Team.{holds, seen, pooled}
 use Rattle.team.specs.Starts.{orNone}
-use Rattle.team.specs.Walk.{keptBits, restOf, restsOf, Cursors, Together}
+use Rattle.team.specs.SideBySide.{keptBits, restOf, restsOf, Cursors, Together}
 use Rattle.team.proofs.Ranges.{visible-range, row-range, inRange}
 
 pub pooled-split : (lists : List (List ℕ)) (leaf m n : ℕ) → pooled lists leaf (m + n) ≡ pooled lists leaf m ++ pooled lists (leaf + m) n

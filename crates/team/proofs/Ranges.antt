@@ -20,7 +20,7 @@ use Rattle.vis.specs.Pvs.{visibilityOf, sectionRow, rowOf, pvsOf}
 use Rattle.vis.proofs.SetBits.{length-bits}
 use Rattle.vis.proofs.Rows.{done, none-left, zero-left, zero-byte, bit-byte, kept-leaves}
 use Rattle.team.specs.Team.{holds}
-use Rattle.team.specs.Walk.{keptBits}
+use Rattle.team.specs.SideBySide.{keptBits}
 
 pub no : {A : Type 0} → false ≡ true → A
 no e = let z : _≡_ {A = ℕ} 0 1 = cc in absurd (omega arith)

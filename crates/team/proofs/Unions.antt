@@ -15,7 +15,7 @@ use Rattle.vis.specs.Row.{bits, before, visible, inByte, rowFrom}
 use Rattle.vis.specs.Private.{byteLeaves}
 use Rattle.team.specs.Team.{holds, seen}
 use Rattle.team.specs.Starts.{orNone}
-use Rattle.team.specs.Walk.{keptBits, restOf, restsOf, Whole, Cursors, Together}
+use Rattle.team.specs.SideBySide.{keptBits, restOf, restsOf, Whole, Cursors, Together}
 use Rattle.vis.proofs.Rows.{done, none-left, zero-left, zero-byte, bit-byte}
 use Rattle.team.proofs.Cursors.{no-leaf}
 use Rattle.team.proofs.Ranges.{holds-append}

@@ -1,5 +1,5 @@
 -- What the contracts of `team` cite.
 pub mod Team
 pub mod Starts
-pub mod Walk
+pub mod SideBySide
 pub mod Pooled

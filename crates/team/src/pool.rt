@@ -14,7 +14,7 @@ ghost use Rattle.vis.specs.Pvs.{visibilityOf};
 ghost use Rattle.vis.specs.Answers.{lengthOf};
 ghost use Rattle.team.specs.Team.{pooled};
 ghost use Rattle.team.specs.Starts.{dataOf};
-ghost use Rattle.team.specs.Walk.{keptBits, restsOf, rowsAt, Cursors, Starts, Together};
+ghost use Rattle.team.specs.SideBySide.{keptBits, restsOf, rowsAt, Cursors, Starts, Together};
 use format::refusal::Refusal;
 use format::section::BspFileSection;
 use vis::Pvs;

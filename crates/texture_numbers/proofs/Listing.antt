@@ -13,7 +13,7 @@ use Rattle.format.specs.Answer.{Answer, answer, refused}
 use Rattle.format.specs.Listed.{Listed, listed, into}
 use Rattle.format.specs.declared.section.BspData.{BspData}
 use Rattle.textures.specs.Access.{isSound, namesIn}
-use Rattle.textures.specs.Count.{each}
+use Rattle.textures.specs.Count.{valuesBelow}
 use Rattle.textures.specs.Group.{numberedBy}
 use Rattle.textures.specs.Private.{earliestBy, earliestTextures}
 use Rattle.textures.proofs.Accesses.{few-textures}
@@ -27,10 +27,10 @@ module _ (s : List ℕ) (m : BspData) (lent : List ℕ) where
   n = m .«texture_count»
 
   abbrev firsts : List ℕ
-  firsts = each (earliestBy (namesIn s m) n) n
+  firsts = valuesBelow (earliestBy (namesIn s m) n) n
 
   abbrev numbers : List ℕ
-  numbers = each (numberedBy (namesIn s m) n) n
+  numbers = valuesBelow (numberedBy (namesIn s m) n) n
 
   -- the ways that the two calls leave a lent list
   data Way : Type 0 where
@@ -93,8 +93,8 @@ module _ (s : List ℕ) (m : BspData) (lent : List ℕ) where
     pub led-found : Led (take c l)
     led-found = subst (λ (x : List ℕ). Led x) (sym front) (led (namesIn s m) n (found .few))
 
-    pub numbered : (xs : List ℕ) → xs ≡ each (numberIn (take c l)) (length (take c l)) → listed (answer c) (xs ++ drop c l) ≡ into (textureNumbers s m) lent
+    pub numbered : (xs : List ℕ) → xs ≡ valuesBelow (numberIn (take c l)) (length (take c l)) → listed (answer c) (xs ++ drop c l) ≡ into (textureNumbers s m) lent
     numbered xs q =
-        let g : xs ≡ numbers = numbers-are (namesIn s m) n (found .few) xs (q ∙ ap (λ (x : List ℕ). each (numberIn x) (length x)) front) in
+        let g : xs ≡ numbers = numbers-are (namesIn s m) n (found .few) xs (q ∙ ap (λ (x : List ℕ). valuesBelow (numberIn x) (length x)) front) in
         ap (λ (y : List ℕ). listed (answer c) (xs ++ y)) rest
         ∙ (ap (λ (x : List ℕ). listed (answer c) (x ++ drop n lent)) g ∙ (ap (λ (k : ℕ). listed (answer k) (numbers ++ drop n lent)) (found .is) ∙ sym (found .then)))

@@ -8,7 +8,7 @@ use native.Mathlib.Omega.{arith}
 use borrow.Author.Tests.{eqb-true, eq-eqb, ne-eqb, ltb-true, ltb-false}
 use lib.Dec.{eqb, ltb}
 use lib.ListN.{length, getD}
-use Rattle.textures.specs.Count.{any, count, lowest, each}
+use Rattle.textures.specs.Count.{any, count, lowest, valuesBelow}
 use Rattle.textures.specs.Group.{alike, isStatic, isFirst, numberedBy}
 use Rattle.textures.specs.Private.{earliestBy}
 use Rattle.textures.specs.Name.{isAnimated, stemOf, same}
@@ -82,7 +82,7 @@ module _ (name : ℕ → List ℕ) (n : ℕ) (few : n ≤ 2097152) where
         by false f = eq-eqb (earliestBy name n i) i (of-animated i e ∙ lowest-at (alike isAnimated name i) n i h (alike-self i e) f)
 
   abbrev firsts : List ℕ
-  firsts = each (earliestBy name n) n
+  firsts = valuesBelow (earliestBy name n) n
 
   at : (i : ℕ) → i < n → getD firsts i 0 ≡ earliestBy name n i
   at i h = each-at (earliestBy name n) n i h
@@ -127,7 +127,7 @@ module _ (name : ℕ → List ℕ) (n : ℕ) (few : n ≤ 2097152) where
           rw (none-is i h, e, each-length (earliestBy name n) n, q, statics n (omega arith), count-like (leads firsts) (isFirst name) (lowest (alike isAnimated name i) n) (λ j g. first-is j (omega (arith, g, k)))) refl
       by false e = rw (none-is i h, e) (statics i (omega (arith, h)))
 
-  pub numbers-are : (l : List ℕ) → l ≡ each (numberIn firsts) (length firsts) → l ≡ each (numberedBy name n) n
+  pub numbers-are : (l : List ℕ) → l ≡ valuesBelow (numberIn firsts) (length firsts) → l ≡ valuesBelow (numberedBy name n) n
   numbers-are l e =
       let k = each-length (earliestBy name n) n in
       each-is (numberedBy name n) n l (ap length e ∙ (each-length (numberIn firsts) (length firsts) ∙ k))

@@ -9,7 +9,7 @@ use borrow.Author.Tests.{eqb-true, eqb-false, eq-eqb, ne-eqb, ltb-true, ltb-fals
 use lib.Dec.{eqb, ltb}
 use lib.ListN.{length, getD, set}
 use lib.Seq.{getD-set-same, getD-set-other}
-use Rattle.textures.specs.Count.{count, each}
+use Rattle.textures.specs.Count.{count, valuesBelow}
 use Rattle.textures.proofs.Firsts.{counts-next}
 use Rattle.textures.proofs.Leads.{each-is}
 use Rattle.texture_numbers.specs.Renumber.{hasNone, leads, numberIn, Led, Partly}
@@ -88,5 +88,5 @@ module _ (l : List ℕ) where
                 side true e = lt-ltb i (j + 1) (omega (arith, ltb-true i j e))
                 side false e = le-ltb i (j + 1) (omega (arith, ltb-false i j e, z))
 
-  pub ends : (j : ℕ) (list : List ℕ) → length list ≡ length l → length l ≤ j → Partly l j list → list ≡ each (numberIn l) (length l)
+  pub ends : (j : ℕ) (list : List ℕ) → length list ≡ length l → length l ≤ j → Partly l j list → list ≡ valuesBelow (numberIn l) (length l)
   ends j list e h partly = each-is (numberIn l) (length l) list e (λ i k. partly i k ∙ rw (lt-ltb i j (omega (arith, h, k))) refl)

@@ -5,7 +5,7 @@ ghost use mathlib.Core.Bool.{cond};
 ghost use lib.Dec.{eqb};
 ghost use lib.ListN.{length, getD};
 ghost use Rattle.format.specs.Listed.{listed, into};
-ghost use Rattle.textures.specs.Count.{count, each};
+ghost use Rattle.textures.specs.Count.{count, valuesBelow};
 ghost use Rattle.textures.specs.Frame.{listLength};
 ghost use Rattle.texture_numbers.specs.Numbers.{textureNumbers};
 ghost use Rattle.texture_numbers.specs.Renumber.{hasNone, numberIn, Led};
@@ -58,7 +58,7 @@ fn number_of(list: &[u32], first: u32, index: u32, before: u32, statics: u32, fi
 // Puts the new number of each texture where the first one with its stem stands.
 fn number_all(list: &mut [u32])
     requires { ⌜ (length (now list) ≤ 2097152) × Led (now list) ⌝ }
-    ensures { λ _. ⌜ now (list .exit) ≡ each (numberIn (now (list .entry))) (length (now (list .entry))) ⌝ }
+    ensures { λ _. ⌜ now (list .exit) ≡ valuesBelow (numberIn (now (list .entry))) (length (now (list .entry))) ⌝ }
 {
     let statics = count_static(list);
     let mut i: usize = 0;

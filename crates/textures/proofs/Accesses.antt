@@ -39,7 +39,7 @@ use Rattle.textures.specs.Kind.{lettered}
 use Rattle.textures.specs.Count.{any, count, lowest, nth}
 use Rattle.textures.specs.Group.{isStatic, isFirst, alike, precedes, placeOf, within, sequenced, numberedBy, staticBy, frameBy}
 use Rattle.textures.specs.Section.{textureAt, texturesAt, namesOf}
-use Rattle.textures.specs.Access.{soundAt, isSound, infoAt, listedTexture, namesIn, frameTexture, staticTexture, renumbered, textureInfo, littleEndian, absentTexture, headerAt, textureOf}
+use Rattle.textures.specs.Access.{soundAt, isSound, infoAt, listedTexture, namesIn, frameTexture, staticTexture, renumbered, textureInfo, littleEndian, absentTexture, textureHeaderAt, textureOf}
 use Rattle.textures.specs.declared.name.Seven.{Seven}
 use Rattle.textures.proofs.Keys.{seven-small}
 use Rattle.textures.proofs.Marks.{any-none, and-left, and-right}
@@ -199,7 +199,7 @@ module _ (s : List ℕ) (base n i : ℕ) where
         unfolding listedTexture
         texture-absent e = rw (lt-leb n i inside, le-ltb 2097152 n few, ← er, v, e) refl
 
-        pub texture-present : (x : ℕ) (y : Answer _) → o ≡ Some x → y ≡ reading (headerAt s (base + x)) → y ≡ listedTexture s base n i
+        pub texture-present : (x : ℕ) (y : Answer _) → o ≡ Some x → y ≡ reading (textureHeaderAt s (base + x)) → y ≡ listedTexture s base n i
         unfolding listedTexture
         texture-present x y e h = rw (lt-leb n i inside, le-ltb 2097152 n few, ← er, v, e) h
 
@@ -245,23 +245,23 @@ module _ (s : List ℕ) where
 
   -- ---- the header of a texture
   module _ (at : ℕ) (r : Position) (er : positionStep r ≡ textureAt s at) where
-    pub header-refused : (e : Refusal) → r ≡ Pos.Refused e → refused 23 ≡ reading (headerAt s at)
-    unfolding headerAt
+    pub header-refused : (e : Refusal) → r ≡ Pos.Refused e → refused 23 ≡ reading (textureHeaderAt s at)
+    unfolding textureHeaderAt
     header-refused e q = rw (← er, q) refl
 
     module _ (q : ℕ) (v : r ≡ Pos.At q) (w : ReadU32) (ew : u32Step w ≡ u32At s (at + 16)) where
-      pub header-no-width : w ≡ U32.EndOfFile → refused 23 ≡ reading (headerAt s at)
-      unfolding headerAt
+      pub header-no-width : w ≡ U32.EndOfFile → refused 23 ≡ reading (textureHeaderAt s at)
+      unfolding textureHeaderAt
       header-no-width e = rw (← er, v, ← ew, e) refl
 
       module _ (width p : ℕ) (vw : w ≡ U32.Value width p) (h : ReadU32) (eh : u32Step h ≡ u32At s p) where
-        pub header-no-height : h ≡ U32.EndOfFile → refused 23 ≡ reading (headerAt s at)
-        unfolding headerAt
+        pub header-no-height : h ≡ U32.EndOfFile → refused 23 ≡ reading (textureHeaderAt s at)
+        unfolding textureHeaderAt
         header-no-height e = rw (← er, v, ← ew, vw, ← eh, e) refl
 
         pub header-read : (height t : ℕ) (x y : Seven) → h ≡ U32.Value height t → x ≡ eightAt s at 1 → y ≡ eightAt s (at + 8) (x .last)
-            → answer (record { present = true; «name_start» = x .word; «name_end» = y .word; width = width; height = height }) ≡ reading (headerAt s at)
-        unfolding headerAt
+            → answer (record { present = true; «name_start» = x .word; «name_end» = y .word; width = width; height = height }) ≡ reading (textureHeaderAt s at)
+        unfolding textureHeaderAt
         header-read height t x y e ex ey =
             rw (← er, v, ← ew, vw, ← eh, e)
             (rw (front-eight at 1, back-eight at 1, eight-word at 1, eight-word (at + 8) (eightAt s at 1 .last), ey, ex) refl)

@@ -15,7 +15,7 @@ use Rattle.format.specs.Answer.{answer, refused, mapped}
 use Rattle.format.specs.Listed.{listed, into}
 use Rattle.format.specs.declared.section.BspData.{BspData}
 use Rattle.textures.specs.Access.{isSound, namesIn}
-use Rattle.textures.specs.Count.{any, lowest, each}
+use Rattle.textures.specs.Count.{any, lowest, valuesBelow}
 use Rattle.textures.specs.Private.{earliestBy, earliestTextures}
 use Rattle.textures.specs.Kind.{passing, starts, ends}
 use Rattle.textures.specs.Section.{namesOf}
@@ -315,20 +315,20 @@ module _ (p : ℕ → Bool) (ka kb : ℕ → ℕ) where
 
 -- ---- lists by their entries
 
-pub each-is : (f : ℕ → ℕ) (n : ℕ) (l : List ℕ) → length l ≡ n → ((i : ℕ) → i < n → getD l i 0 ≡ f i) → l ≡ each f n
-unfolding each
+pub each-is : (f : ℕ → ℕ) (n : ℕ) (l : List ℕ) → length l ≡ n → ((i : ℕ) → i < n → getD l i 0 ≡ f i) → l ≡ valuesBelow f n
+unfolding valuesBelow
 each-is f zero [] e h = refl
 each-is f zero (x ∷ xs) e h = absurd (omega (arith, e))
 each-is f (suc n) [] e h = absurd (omega (arith, e))
 each-is f (suc n) (x ∷ xs) e h = rw (h 0 (omega arith), each-is (λ i. f (suc i)) n xs (omega (arith, e)) (λ i k. h (suc i) (omega (arith, k)))) refl
 
-pub each-length : (f : ℕ → ℕ) (n : ℕ) → length (each f n) ≡ n
-unfolding each
+pub each-length : (f : ℕ → ℕ) (n : ℕ) → length (valuesBelow f n) ≡ n
+unfolding valuesBelow
 each-length f zero = refl
 each-length f (suc n) = ap suc (each-length (λ i. f (suc i)) n)
 
-pub each-at : (f : ℕ → ℕ) (n i : ℕ) → i < n → getD (each f n) i 0 ≡ f i
-unfolding each
+pub each-at : (f : ℕ → ℕ) (n i : ℕ) → i < n → getD (valuesBelow f n) i 0 ≡ f i
+unfolding valuesBelow
 each-at f zero i h = absurd (not-suc-le-zero h)
 each-at f (suc n) zero h = refl
 each-at f (suc n) (suc i) h = each-at (λ i. f (suc i)) n i (omega (arith, h))
@@ -348,7 +348,7 @@ module _ (s : List ℕ) (bytes : (i : ℕ) → getD s i 0 < 256) (base n : ℕ) 
           (sym (lowest-same _ _ n (like-is s bytes base i)))
       by false e = rw (animated-is s base i, e) refl
 
-  pub all-found : (l : List ℕ) → length l ≡ n → Known (passing s base Animated) (starts s base) (ends s base) n n l → l ≡ each (earliestBy (namesOf s base) n) n
+  pub all-found : (l : List ℕ) → length l ≡ n → Known (passing s base Animated) (starts s base) (ends s base) n n l → l ≡ valuesBelow (earliestBy (namesOf s base) n) n
   all-found l e known = each-is (earliestBy (namesOf s base) n) n l e (λ i h. known i h ∙ earliest-is i h)
 
 -- ---- the ways through `earliest_textures`
@@ -359,7 +359,7 @@ module _ (lent s : List ℕ) (m : BspData) (x : Bool) (is : x ≡ isSound s m) w
   earliest-unsound e = rw (← is, e) refl
 
   module _ (e : x ≡ true) where
-    sound-list : earliestTextures s m ≡ answer (each (earliestBy (namesIn s m) (m .«texture_count»)) (m .«texture_count»))
+    sound-list : earliestTextures s m ≡ answer (valuesBelow (earliestBy (namesIn s m) (m .«texture_count»)) (m .«texture_count»))
     unfolding earliestTextures
     sound-list = rw (← is, e) refl
 
@@ -369,6 +369,6 @@ module _ (lent s : List ℕ) (m : BspData) (x : Bool) (is : x ≡ isSound s m) w
     pub earliest-short : length lent < m .«texture_count» → listed (refused 22) lent ≡ into (earliestTextures s m) lent
     earliest-short h = into-short lent (earliestTextures s m) (m .«texture_count») lengths h
 
-    pub earliest-listed : (l : List ℕ) → l ≡ each (earliestBy (namesIn s m) (m .«texture_count»)) (m .«texture_count») → m .«texture_count» ≤ length lent
+    pub earliest-listed : (l : List ℕ) → l ≡ valuesBelow (earliestBy (namesIn s m) (m .«texture_count»)) (m .«texture_count») → m .«texture_count» ≤ length lent
         → listed (answer (m .«texture_count»)) (l ++ drop (m .«texture_count») lent) ≡ into (earliestTextures s m) lent
     earliest-listed l q h = into-list lent (earliestTextures s m) (m .«texture_count») l (ap answer q ∙ sym sound-list) lengths h

@@ -97,8 +97,8 @@ presentTexture s at width height = record {
 }
 
 -- a header that reads as on loading: its name, width and height
-unfoldable pub headerAt : List ℕ → ℕ → Step BspTexture
-headerAt s at =
+unfoldable pub textureHeaderAt : List ℕ → ℕ → Step BspTexture
+textureHeaderAt s at =
     andThen (textureAt s at) (λ u q.
     andThen (u32At s (at + 16)) (λ width p.
     andThen (u32At s p) (λ height next.
@@ -106,7 +106,7 @@ headerAt s at =
 
 abbrev pub textureBy : List ℕ → ℕ → OptionalOffset → ℕ → Step BspTexture
 textureBy s base None p = ok absentTexture p
-textureBy s base (Some offset) p = headerAt s (base + offset)
+textureBy s base (Some offset) p = textureHeaderAt s (base + offset)
 
 -- texture i of a section of n textures
 unfoldable pub listedTexture : List ℕ → ℕ → ℕ → ℕ → Answer BspTexture

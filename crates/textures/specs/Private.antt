@@ -5,7 +5,7 @@ use mathlib.Core.List.{List}
 use Rattle.format.specs.Answer.{Answer, answer}
 use Rattle.format.specs.declared.section.BspData.{BspData}
 use Rattle.textures.specs.Access.{namesIn, ofSound}
-use Rattle.textures.specs.Count.{lowest, each}
+use Rattle.textures.specs.Count.{lowest, valuesBelow}
 use Rattle.textures.specs.Group.{alike}
 use Rattle.textures.specs.Name.{isAnimated}
 
@@ -15,4 +15,4 @@ earliestBy name n i = cond (isAnimated (name i)) (lowest (alike isAnimated name 
 
 -- for every texture, by its number in the file, the first one with its stem
 unfoldable pub earliestTextures : List ℕ → BspData → Answer (List ℕ)
-earliestTextures s m = ofSound s m (answer (each (earliestBy (namesIn s m) (m .«texture_count»)) (m .«texture_count»)))
+earliestTextures s m = ofSound s m (answer (valuesBelow (earliestBy (namesIn s m) (m .«texture_count»)) (m .«texture_count»)))

@@ -126,7 +126,7 @@ pub fn texture_info(file: &[u8], map: BspData, index: usize) -> TexInfoAnswer
 // A header that reads as on loading: the texture's name, width and height. Any refusal stands for 23.
 fn read_header(s: &[u8], at: usize) -> TextureAnswer
     requires { ⌜ at ≤ 17179869184 ⌝ }
-    ensures { λ r. ⌜ Answers.textureAnswer r ≡ reading (Access.headerAt (now (s .entry)) at) ⌝ }
+    ensures { λ r. ⌜ Answers.textureAnswer r ≡ reading (Access.textureHeaderAt (now (s .entry)) at) ⌝ }
 {
     let Position::At(_) = read_texture(s, at) else {
         return TextureAnswer::Refused(Refusal::Unreadable);

@@ -5,7 +5,7 @@ ghost use mathlib.Core.Path.{_≡_};
 ghost use Prim.Native.Nat.{_≤_, _<_, _+_, _*_};
 ghost use lib.ListN.{length, replicate};
 ghost use Rattle.format.specs.Listed.{listed, into};
-ghost use Rattle.textures.specs.Count.{each};
+ghost use Rattle.textures.specs.Count.{valuesBelow};
 ghost use Rattle.textures.specs.Section.{namesOf};
 ghost use Rattle.textures.specs.Frame.{listLength};
 ghost use Rattle.textures.specs.Private.{earliestBy, earliestTextures};
@@ -148,7 +148,7 @@ fn find_each(
     list: &mut [u32],
 )
     requires { ⌜ (8 ≤ length (now t)) × ((length (now t) ≡ 4 * length (now heads)) × ((count ≤ 2097152) × (length (now list) ≡ count))) ⌝ }
-    ensures { λ _. ⌜ now (list .exit) ≡ each (earliestBy (namesOf (now (s .entry)) base) count) count ⌝ }
+    ensures { λ _. ⌜ now (list .exit) ≡ valuesBelow (earliestBy (namesOf (now (s .entry)) base) count) count ⌝ }
 {
     forget(list);
     look_up_parts(s, base, count, t, sieve, heads, list);

@@ -2,7 +2,7 @@
 ghost use mathlib.Core.Path.{_≡_};
 ghost use Prim.Native.Nat.{_≤_, _*_, _/_};
 ghost use Rattle.sections.specs.Answers.{positionStep};
-ghost use Rattle.sections.specs.Row.{records};
+ghost use Rattle.sections.specs.Records.{records};
 ghost use Rattle.records.specs.Number.{offsetAt};
 ghost use Rattle.textures.specs.Section.{stopOf, picturesAt, textureAt, listedAt, listed, texturesAt};
 use crate::name::is_ascii;

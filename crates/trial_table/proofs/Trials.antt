@@ -12,7 +12,7 @@ use Rattle.format.specs.Field.{u16At, u32At, i16At, i32At, f32At, indexAt}
 use Rattle.format.specs.Section.{recordCount, place}
 use Rattle.phys.specs.Trace as Tr
 use Rattle.walk.specs.Walk.{enter, meet, walk}
-use Rattle.walk.specs.Trace.{recursiveTrace}
+use Rattle.walk.specs.Tracing.{recursiveTrace}
 use Rattle.walk.specs.TreeCheck.{checkNode, treeCheck}
 use Rattle.walk.specs.Order.{nodesBelow, sizedCheck}
 use Rattle.records.specs.Access.{recordOf}
@@ -27,7 +27,7 @@ use Rattle.models.specs.Text.{textEnd, entitiesOf}
 use Rattle.nodes.specs.Tables.{tableOf}
 use Rattle.nodes.specs.Fast.{contentsMet}
 use Rattle.hull.specs.Hull.{forBounds, hull}
-use Rattle.sections.specs.Row.{records, section, blob}
+use Rattle.sections.specs.Records.{records, section, blob}
 use Rattle.sections.specs.Table.{isMultiple, sectionAt, threeSectionsAt, tableEndAt, tableAt, isVersion, headerAt, exceeds, limits, limitsFromLeaves}
 use Rattle.utf8.specs.Unicode.{lead, next, run, whole, isUtf8}
 use Rattle.vis.specs.Row.{bits, rowBits, visible, rowAt}
@@ -39,8 +39,8 @@ use Rattle.load.specs.Entities.{entities}
 use Rattle.load.specs.Extents.{isBad, faceExtents}
 use Rattle.load.specs.Load.{loadAt}
 use Rattle.load.specs.Tested.{texinfos, faces, outside, referencesAt, leafReferences}
-use Rattle.trial_table.specs.Trials.{trials, each}
+use Rattle.trial_table.specs.Trials.{trials, ofEach}
 
-pub all-hold : each (λ t. t .definition) trials ≡ each (λ t. t .document) trials
-unfolding trials each contentsAt leafEndAt leafAt renderChild renderChildAt renderNodeEndAt renderNodeAt index16At offsetOf offsetAt pointAt outside referencesAt loadAt headerAt i32At u32At f32At isVersion tableAt threeSectionsAt sectionAt isMultiple indexAt tableEndAt limits limitsFromLeaves exceeds recordCount entities textEnd isUtf8 run next lead whole Textures.textures texturesAt listed sequenced any section records numberAt blob texinfos faces faceExtents leafReferences fileModelAt fileModelEndAt boundsAt rootsAt vectorAt paddedBounds leafIdOf modelOf rowAt rowBits bits visible forBounds hull tableOf walk enter meet recursiveTrace ofWhole ofBits add sub mul div neg lt le eq toSigned lineSegment newPlane normalize sqrt rootOfUnits nearestRoot digits equal Tr.join extent floorOf ceilOf times16 isBad treeCheck checkNode recordOf place collisionNodeAt collisionChildAt planeAt filePlane i16At u16At negatedContents contentsOf contentsMet boxSide entitiesOf nodesBelow sizedCheck
+pub all-hold : ofEach (λ t. t .definition) trials ≡ ofEach (λ t. t .document) trials
+unfolding trials ofEach contentsAt leafEndAt leafAt renderChild renderChildAt renderNodeEndAt renderNodeAt index16At offsetOf offsetAt pointAt outside referencesAt loadAt headerAt i32At u32At f32At isVersion tableAt threeSectionsAt sectionAt isMultiple indexAt tableEndAt limits limitsFromLeaves exceeds recordCount entities textEnd isUtf8 run next lead whole Textures.textures texturesAt listed sequenced any section records numberAt blob texinfos faces faceExtents leafReferences fileModelAt fileModelEndAt boundsAt rootsAt vectorAt paddedBounds leafIdOf modelOf rowAt rowBits bits visible forBounds hull tableOf walk enter meet recursiveTrace ofWhole ofBits add sub mul div neg lt le eq toSigned lineSegment newPlane normalize sqrt rootOfUnits nearestRoot digits equal Tr.join extent floorOf ceilOf times16 isBad treeCheck checkNode recordOf place collisionNodeAt collisionChildAt planeAt filePlane i16At u16At negatedContents contentsOf contentsMet boxSide entitiesOf nodesBelow sizedCheck
 all-hold = refl

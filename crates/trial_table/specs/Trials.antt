@@ -25,7 +25,7 @@ use Rattle.phys.specs.Trace as Tr
 use Rattle.phys.specs.declared.Trace.{Trace}
 use Rattle.phys.specs.declared.TraceEnd.{TraceEnd}
 use Rattle.walk.specs.Walk.{Outcome, done, refused as stopped, withVisits, pointWalk}
-use Rattle.walk.specs.Trace as Tracing
+use Rattle.walk.specs.Tracing as Tracing
 use Rattle.walk.specs.TreeCheck.{Checked, checked, treeCheck}
 use Rattle.faces.specs.Extents.{extent}
 use Rattle.nodes.specs.Tables.{nodesOf, tableOf}
@@ -63,9 +63,9 @@ abbrev pub _gives_ : Said → Said → Trial
 d gives e = record { definition = d; document = e }
 
 -- what each trial has in one of its places
-unfoldable pub each : (Trial → Said) → List Trial → List Said
-each f [] = []
-each f (t ∷ ts) = f t ∷ each f ts
+unfoldable pub ofEach : (Trial → Said) → List Trial → List Said
+ofEach f [] = []
+ofEach f (t ∷ ts) = f t ∷ ofEach f ts
 
 -- ---- numbers and points: `fin s m e` is m times 2 to the power e, below zero if s is true
 
@@ -103,8 +103,8 @@ abbrev pub smallest : ℕ → ℕ → List ℕ
 smallest version models =
     word version ++ (word 124 ++ (word 1 ++ (replicate 8 0 ++ (word 125 ++ (word 4 ++ (replicate 88 0 ++ (word 129 ++ (word models ++ replicate 69 0))))))))
 
-abbrev pub sectionAt : ℕ → ℕ → BspFileSection
-sectionAt offset size = record { offset = offset; size = size }
+abbrev pub sectionWith : ℕ → ℕ → BspFileSection
+sectionWith offset size = record { offset = offset; size = size }
 
 -- a map record with these sections of entities, planes, textures, clip nodes, leaves and models, and no others
 abbrev pub mapWith : BspFileSection → BspFileSection → BspFileSection → BspFileSection → BspFileSection → BspFileSection → BspData
@@ -112,24 +112,24 @@ mapWith entities planes textures clip leaves models = record {
   entities = entities;
   planes = planes;
   textures = textures;
-  vertices = sectionAt 0 0;
-  visibility = sectionAt 0 0;
-  «render_nodes» = sectionAt 0 0;
-  texinfo = sectionAt 0 0;
-  faces = sectionAt 0 0;
-  lightmaps = sectionAt 0 0;
+  vertices = sectionWith 0 0;
+  visibility = sectionWith 0 0;
+  «render_nodes» = sectionWith 0 0;
+  texinfo = sectionWith 0 0;
+  faces = sectionWith 0 0;
+  lightmaps = sectionWith 0 0;
   «collision_nodes» = clip;
   leaves = leaves;
-  facelist = sectionAt 0 0;
-  edges = sectionAt 0 0;
-  edgelist = sectionAt 0 0;
+  facelist = sectionWith 0 0;
+  edges = sectionWith 0 0;
+  edgelist = sectionWith 0 0;
   models = models;
   «texture_count» = 0;
 }
 
 -- what loading answers for the 193-byte map
 abbrev pub smallestMap : BspData
-smallestMap = mapWith (sectionAt 124 1) (sectionAt 0 0) (sectionAt 125 4) (sectionAt 0 0) (sectionAt 0 0) (sectionAt 129 64)
+smallestMap = mapWith (sectionWith 124 1) (sectionWith 0 0) (sectionWith 125 4) (sectionWith 0 0) (sectionWith 0 0) (sectionWith 129 64)
 
 -- The 193-byte map with further sections: 88 bytes for those from the vertices to the edge list, and the bytes that follow the model at 193.
 abbrev pub furnished : List ℕ → List ℕ → List ℕ
@@ -149,7 +149,7 @@ abbrev pub leafHolds : ℕ → List ℕ
 leafHolds low = furnished (replicate 56 0 ++ (word 193 ++ (word 28 ++ replicate 24 0))) (low ∷ replicate 3 255 ++ replicate 24 0)
 
 abbrev pub leafMap : BspData
-leafMap = mapWith (sectionAt 124 1) (sectionAt 0 0) (sectionAt 125 4) (sectionAt 0 0) (sectionAt 193 28) (sectionAt 129 64)
+leafMap = mapWith (sectionWith 124 1) (sectionWith 0 0) (sectionWith 125 4) (sectionWith 0 0) (sectionWith 193 28) (sectionWith 129 64)
 
 -- a render node at 193 and a leaf at 217; both children of the node have the low byte given and the high byte 255
 abbrev pub oneLeaf : ℕ → List ℕ
@@ -209,7 +209,7 @@ abbrev pub clipFile : List ℕ → List ℕ → List ℕ
 clipFile first second = word 0 ++ (first ++ (word 0 ++ (second ++ (replicate 20 0))))
 
 abbrev pub clipMap : BspData
-clipMap = mapWith (sectionAt 0 0) (sectionAt 16 20) (sectionAt 0 0) (sectionAt 0 16) (sectionAt 0 0) (sectionAt 0 0)
+clipMap = mapWith (sectionWith 0 0) (sectionWith 16 20) (sectionWith 0 0) (sectionWith 0 16) (sectionWith 0 0) (sectionWith 0 0)
 
 abbrev pub checkClip : List ℕ → List ℕ → List ℕ → Said
 checkClip first second marks = check (treeCheck (nodesOf (clipFile first second) clipMap Clip) marks 0)

@@ -14,7 +14,7 @@ use Rattle.phys.specs.Trace as Tr
 use Rattle.phys.specs.declared.Trace.{Trace as TraceT}
 use Rattle.walk.specs.Table.{node, Nodes, Table}
 use Rattle.walk.specs.Walk.{Outcome, done, held, withVisits, pointWalk}
-use Rattle.walk.specs.Trace.{trace}
+use Rattle.walk.specs.Tracing.{trace}
 use Rattle.walk.specs.TreeCheck.{treeCheck}
 use Rattle.walk.specs.Tree.{Reads, PlanesFit}
 use Rattle.walk.specs.Demand3.{Answered, AnsweredWithin}

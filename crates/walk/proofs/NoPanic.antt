@@ -25,7 +25,7 @@ use Rattle.phys.specs.Trace as Tr
 use Rattle.phys.specs.declared.Trace.{Trace as TraceT}
 use Rattle.walk.specs.Table.{Child, node, end, Node, Table, childOn}
 use Rattle.walk.specs.Walk.{Outcome, done, refused, entered, Entered, withPlane, withNode, enter, meet, ended, onto, walkAt, walk}
-use Rattle.walk.specs.Trace.{joined, withFar, stops, nearOf, farOf, afterNear, withNear, across, traceAt, recursiveTrace, trace}
+use Rattle.walk.specs.Tracing.{joined, withFar, stops, nearOf, farOf, afterNear, withNear, across, traceAt, recursiveTrace, trace}
 
 -- each refusal of the table's own records, where they are in range, is one of those of P
 pub record Own (P : ℕ → Type 0) {E A : Type 0} (T : Table E A) : Type 0 where

@@ -14,7 +14,7 @@ use Rattle.math.specs.declared.Vector3.{Vector3}
 use Rattle.phys.specs.declared.Trace.{Trace as TraceT}
 use Rattle.walk.specs.Table.{Table, childOn}
 use Rattle.walk.specs.Walk.{Outcome, done, refused, entered, held, withVisits, Entered, enter, onto, walkAt, walk, pointWalk}
-use Rattle.walk.specs.Trace.{across, traceAt, recursiveTrace, trace}
+use Rattle.walk.specs.Tracing.{across, traceAt, recursiveTrace, trace}
 
 abbrev Headed : {A : Type 0} → ℕ → Outcome A → Type 0
 Headed i (done a ns) = (ms : List ℕ) × (ns ≡ i ∷ ms)

@@ -15,7 +15,7 @@ use Rattle.phys.specs.declared.Trace.{Trace as TraceT}
 use Rattle.walk.specs.Table.{Child, node, end, Node, Table, childOn}
 use Rattle.walk.specs.Walk.{Outcome, done, refused, entered, held, withVisits, enter, meet, ended, onto, walkAt, walk}
 use Rattle.walk.specs.Private.{after}
-use Rattle.walk.specs.Trace.{traceAt, recursiveTrace}
+use Rattle.walk.specs.Tracing.{traceAt, recursiveTrace}
 
 -- ---- visits
 

@@ -23,7 +23,7 @@ use Rattle.phys.specs.Trace as Tr
 use Rattle.phys.specs.declared.Trace.{Trace as TraceT}
 use Rattle.walk.specs.Table.{Child, Table, childOn}
 use Rattle.walk.specs.Walk.{Outcome, done, enter, onto}
-use Rattle.walk.specs.Trace.{joined, withFar, stops, nearOf, farOf, afterNear, withNear, across, recursiveTrace}
+use Rattle.walk.specs.Tracing.{joined, withFar, stops, nearOf, farOf, afterNear, withNear, across, recursiveTrace}
 use Rattle.walk.specs.Tree.{NoTwice, Reads, PlanesFit}
 use Rattle.walk.proofs.Lists.{append-once, once-left, once-right}
 use Rattle.walk.proofs.Shape.{Shape, tip, fork, top, height, nodesOf, recordOf, Drawn, Hangs, front-hangs, back-hangs, part, on-part, on-sides, part-within, parts-apart, by-shape}

@@ -20,7 +20,7 @@ use Rattle.math.specs.declared.Hyperplane.{Hyperplane}
 use Rattle.math.proofs.Fits.{Fits3}
 use Rattle.walk.specs.Table.{Child, node, end, Node, Table}
 use Rattle.walk.specs.Walk.{Outcome, done, refused, withVisits, withPlane, withNode, enter, meet, pointWalk}
-use Rattle.walk.specs.Trace.{trace}
+use Rattle.walk.specs.Tracing.{trace}
 use Rattle.walk.specs.Tree.{Reads, PlanesFit}
 use Rattle.walk.specs.TreeCheck.{treeCheck}
 use Rattle.walk.specs.Demand3.{Answered, AnsweredWithin}

@@ -101,8 +101,8 @@ planeWords h = (kindOf (h .alignment) ∷ vectorWords (normalOf h)) ++ (floatWor
 
 -- ---- the map record
 
-abbrev pub sectionAt : List ℕ → ℕ → BspFileSection
-sectionAt ws at = record { offset = getD ws at 0; size = getD ws (at + 1) 0 }
+abbrev pub sectionIn : List ℕ → ℕ → BspFileSection
+sectionIn ws at = record { offset = getD ws at 0; size = getD ws (at + 1) 0 }
 
 -- how many words a map record has
 abbrev pub mapLength : ℕ
@@ -112,21 +112,21 @@ mapLength = 31
 abbrev pub mapOf : List ℕ → BspData
 mapOf ws =
     record {
-      entities = sectionAt ws 0;
-      planes = sectionAt ws 2;
-      textures = sectionAt ws 4;
-      vertices = sectionAt ws 6;
-      visibility = sectionAt ws 8;
-      «render_nodes» = sectionAt ws 10;
-      texinfo = sectionAt ws 12;
-      faces = sectionAt ws 14;
-      lightmaps = sectionAt ws 16;
-      «collision_nodes» = sectionAt ws 18;
-      leaves = sectionAt ws 20;
-      facelist = sectionAt ws 22;
-      edges = sectionAt ws 24;
-      edgelist = sectionAt ws 26;
-      models = sectionAt ws 28;
+      entities = sectionIn ws 0;
+      planes = sectionIn ws 2;
+      textures = sectionIn ws 4;
+      vertices = sectionIn ws 6;
+      visibility = sectionIn ws 8;
+      «render_nodes» = sectionIn ws 10;
+      texinfo = sectionIn ws 12;
+      faces = sectionIn ws 14;
+      lightmaps = sectionIn ws 16;
+      «collision_nodes» = sectionIn ws 18;
+      leaves = sectionIn ws 20;
+      facelist = sectionIn ws 22;
+      edges = sectionIn ws 24;
+      edgelist = sectionIn ws 26;
+      models = sectionIn ws 28;
       «texture_count» = getD ws 30 0;
     }
 

@@ -141,7 +141,7 @@ pub fn float_at(floats: &[f32], at: usize) -> f32
 
 fn section_at(words: &[u32], at: usize) -> BspFileSection
     requires { ⌜ at ≤ 28 ⌝ }
-    ensures { λ r. ⌜ r ≡ Words.sectionAt (now (words .entry)) at ⌝ }
+    ensures { λ r. ⌜ r ≡ Words.sectionIn (now (words .entry)) at ⌝ }
 {
     BspFileSection {
         offset: word_at(words, at),

@@ -13,7 +13,7 @@ use Rattle.format.specs.Section.{elementSize, recordCount}
 use Rattle.format.specs.declared.section.BspFileSection.{BspFileSection}
 use Rattle.format.specs.declared.section.BspFileSectionId.{BspFileSectionId}
 use Rattle.format.proofs.Places.{some-bytes}
-use Rattle.sections.specs.Row.{records, section, eachRecord, blob}
+use Rattle.sections.specs.Records.{records, section, eachRecord, blob}
 use Rattle.sections.specs.Table.{isMultiple, sectionAt, threeSectionsAt}
 use Rattle.written.specs.Bytes.{u32, row}
 use Rattle.written.proofs.Fields.{Lies, Reads, then, last, reads-index, row-lies}

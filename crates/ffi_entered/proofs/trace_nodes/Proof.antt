@@ -10,7 +10,7 @@ use Rattle.math.specs.declared.Vector3.{Vector3}
 use Rattle.words.specs.Words.{listedIn, mapOf}
 use Rattle.words.proofs.Giving.{counts}
 use Rattle.walk.specs.Table.{Table}
-use Rattle.walk.specs.Trace as Tracing
+use Rattle.walk.specs.Tracing as Tracing
 use Rattle.nodes.specs.Tables.{End}
 use Rattle.hull.specs.Hull.{hullTable}
 use Rattle.entered.specs.Lists.{nodesEntered}

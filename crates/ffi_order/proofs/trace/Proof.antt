@@ -13,7 +13,7 @@ use Rattle.ffi_order.proofs.Laws.{same-rows}
 use Prim.Native.Nat.{ℕ}
 use Rattle.phys.specs.declared.Trace.{Trace}
 use Rattle.walk.specs.Walk.{withVisits}
-use Rattle.walk.specs.Trace as Tracing
+use Rattle.walk.specs.Tracing as Tracing
 use Rattle.ffi_traces.specs.Layout.{traceWords}
 use Rattle.ffi_order.specs.Calls.{bspOrderTrace}
 use Rattle.ffi_order.specs.Private.{planesMap}

@@ -12,7 +12,7 @@ use Rattle.format.specs.declared.contents.BspLeafContents.{BspLeafContents}
 use Rattle.walk.specs.Table.{Table}
 use Rattle.nodes.specs.Tables.{End}
 use Rattle.walk.specs.Walk.{withVisits}
-use Rattle.walk.specs.Trace as Tracing
+use Rattle.walk.specs.Tracing as Tracing
 use Rattle.phys.specs.declared.Trace.{Trace}
 use Rattle.ffi_hull.specs.Layout.{pointAt, hullFrom}
 use Rattle.ffi_traces.specs.Layout.{traceWords}

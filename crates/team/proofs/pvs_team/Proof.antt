@@ -10,7 +10,7 @@ use Rattle.format.specs.Listed.{into}
 use Rattle.vis.specs.Answers.{lengthOf}
 use Rattle.team.specs.Team.{pooled}
 use Rattle.team.specs.Starts.{dataOf}
-use Rattle.team.specs.Walk.{rowsAt, Starts}
+use Rattle.team.specs.SideBySide.{rowsAt, Starts}
 use Rattle.team.proofs.Found.{too-many, team-refused, team-whole, team-lies, team-rows, team-none, none-found, some-found}
 use Rattle.team.proofs.pvs_team.Statement.{statement}
 use Rattle.team.proofs.pvs_team.Tie as tie

@@ -5,9 +5,9 @@ use Prim.Native.Nat.{_*_, _^_, _<_, _≤_}
 use native.Mathlib.Omega.{arith}
 use mathlib.Core.Path.{_≡_, refl, _∙_}
 use lib.ListN.{length}
-use Rattle.walk.specs.Trace.{recursiveTrace}
+use Rattle.walk.specs.Tracing.{recursiveTrace}
 use Rattle.nodes.specs.Fast as Fast
-use Rattle.entered.specs.Onward.{written}
+use Rattle.entered.specs.Onward.{tracedList}
 use borrow.Author.Needs.{needs}
 use Rattle.entered.proofs.Downs.{outside, spent, unread, crosses, to-node, to-end}
 use Rattle.entered.proofs.traced.go_down.Statement.{statement}
@@ -17,7 +17,7 @@ abbrev Inv-loop : tie.InvT-loop
 Inv-loop s t node way list₀ i₀ left₀ visits₀ list i left visits =
     (left ≤ left₀)
     × ((length list ≡ length list₀)
-    × (written visits list (recursiveTrace (Fast.table s t) left i (way .from .point) (way .to .point)) ≡ written visits₀ list₀ (recursiveTrace (Fast.table s t) left₀ node (way .from .point) (way .to .point))))
+    × (tracedList visits list (recursiveTrace (Fast.table s t) left i (way .from .point) (way .to .point)) ≡ tracedList visits₀ list₀ (recursiveTrace (Fast.table s t) left₀ node (way .from .point) (way .to .point))))
 
 abbrev μ-loop : tie.MeasureT-loop
 μ-loop s t node way list₀ i₀ left₀ visits₀ list i left visits = left

@@ -7,7 +7,7 @@ use mathlib.Core.Path.{sym, ap, _∙_}
 use lib.ListN.{length}
 use Rattle.phys.specs.declared.Trace.{Trace}
 use Rattle.walk.specs.Walk.{Outcome}
-use Rattle.walk.specs.Trace as Tracing
+use Rattle.walk.specs.Tracing as Tracing
 use Rattle.hull.specs.Hull.{hullTable}
 use Rattle.hull.specs.Answers.{tracedAnswer}
 use Rattle.entered.proofs.Listing.{declined, too-short, traced-list}

@@ -1,7 +1,7 @@
 -- `ffi_math::planes::axis_plane` meets its contract. Assumes nothing.
 use borrow.Author.Needs.{needs}
 use borrow.Author.Tests.{eq-eqb, ne-eqb}
-use Rattle.ffi_math.specs.Words.{axisPlane}
+use Rattle.ffi_math.specs.FloatWords.{axisPlane}
 use Rattle.ffi_math.proofs.planes.axis_plane.Statement.{statement}
 use Rattle.ffi_math.proofs.planes.axis_plane.Tie as tie
 

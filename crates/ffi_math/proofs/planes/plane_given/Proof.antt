@@ -1,7 +1,7 @@
 -- `ffi_math::planes::plane_given` meets its contract. Assumes nothing.
 use borrow.Author.Needs.{needs}
 use borrow.Author.Tests.{eq-eqb, ne-eqb}
-use Rattle.ffi_math.specs.Words.{planeGiven}
+use Rattle.ffi_math.specs.FloatWords.{planeGiven}
 use Rattle.ffi_math.proofs.planes.plane_given.Statement.{statement}
 use Rattle.ffi_math.proofs.planes.plane_given.Tie as tie
 

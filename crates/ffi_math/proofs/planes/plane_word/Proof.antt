@@ -5,7 +5,7 @@ use Prim.Native.Nat.{ℕ}
 use native.Mathlib.Omega.{arith}
 use lib.ListN.{getD, List·getD-eq-default}
 use Rattle.math.specs.declared.Vector3.{Vector3}
-use Rattle.ffi_math.specs.Words as Words
+use Rattle.ffi_math.specs.FloatWords as Words
 use Rattle.ffi_math.proofs.planes.plane_word.Statement.{statement}
 use Rattle.ffi_math.proofs.planes.plane_word.Tie as tie
 

@@ -4,7 +4,7 @@ use mathlib.Core.Path.{_≡_, sym, ap, _∙_}
 use Prim.Native.Nat.{ℕ, suc, _-_, _≤_}
 use native.Mathlib.Omega.{arith}
 use lib.ListN.{getD}
-use Rattle.ffi_math.specs.Words as Words
+use Rattle.ffi_math.specs.FloatWords as Words
 use Rattle.ffi_math.proofs.planes.point_word.Statement.{statement}
 use Rattle.ffi_math.proofs.planes.point_word.Tie as tie
 

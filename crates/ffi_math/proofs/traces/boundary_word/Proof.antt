@@ -4,7 +4,7 @@ use mathlib.Core.Path.{_≡_, sym, ap, _∙_}
 use Prim.Native.Nat.{ℕ, suc, _-_, _≤_}
 use native.Mathlib.Omega.{arith}
 use lib.ListN.{getD}
-use Rattle.ffi_math.specs.Traces as Traces
+use Rattle.ffi_math.specs.TraceWords as Traces
 use Rattle.ffi_math.proofs.traces.boundary_word.Statement.{statement}
 use Rattle.ffi_math.proofs.traces.boundary_word.Tie as tie
 

@@ -7,7 +7,7 @@ use denote.Ref.{now}
 use lib.ListN.{getD}
 use Rattle.format.specs.Code.{contentsOf}
 use Rattle.format.specs.declared.code.CodedContents.{CodedContents}
-use Rattle.ffi_math.specs.Traces as Traces
+use Rattle.ffi_math.specs.TraceWords as Traces
 use Rattle.ffi_math.proofs.traces.contents_given.Statement.{statement}
 use Rattle.ffi_math.proofs.traces.contents_given.Tie as tie
 

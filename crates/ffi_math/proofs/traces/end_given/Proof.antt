@@ -2,7 +2,7 @@
 use borrow.Author.Needs.{needs}
 use borrow.Author.Tests.{eq-eqb, ne-eqb}
 use mathlib.Core.Path.{sym, _∙_}
-use Rattle.ffi_math.specs.Traces as Traces
+use Rattle.ffi_math.specs.TraceWords as Traces
 use Rattle.ffi_math.proofs.traces.end_given.Statement.{statement}
 use Rattle.ffi_math.proofs.traces.end_given.Tie as tie
 

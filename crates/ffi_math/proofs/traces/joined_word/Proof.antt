@@ -7,7 +7,7 @@ use native.Mathlib.Omega.{arith}
 use lib.ListN.{getD}
 use Rattle.phys.specs.Answers as Answers
 use Rattle.phys.specs.declared.Joined.{Joined}
-use Rattle.ffi_math.specs.Traces as Traces
+use Rattle.ffi_math.specs.TraceWords as Traces
 use Rattle.ffi_math.proofs.traces.joined_word.Statement.{statement}
 use Rattle.ffi_math.proofs.traces.joined_word.Tie as tie
 

@@ -5,7 +5,7 @@ use mathlib.Core.List.{[], _∷_}
 use Prim.Native.Nat.{ℕ, zero, suc}
 use lib.ListN.{getD}
 use Rattle.phys.specs.declared.TraceEndKind.{TraceEndKind}
-use Rattle.ffi_math.specs.Traces as Traces
+use Rattle.ffi_math.specs.TraceWords as Traces
 use Rattle.ffi_math.proofs.traces.kind_word.Statement.{statement}
 use Rattle.ffi_math.proofs.traces.kind_word.Tie as tie
 

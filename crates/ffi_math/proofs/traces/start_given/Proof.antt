@@ -1,6 +1,6 @@
 -- `ffi_math::traces::start_given` meets its contract. Assumes nothing.
 use borrow.Author.Needs.{needs}
-use Rattle.ffi_math.specs.Traces as Traces
+use Rattle.ffi_math.specs.TraceWords as Traces
 use Rattle.ffi_math.proofs.traces.start_given.Statement.{statement}
 use Rattle.ffi_math.proofs.traces.start_given.Tie as tie
 

@@ -5,7 +5,7 @@ use Prim.Native.Nat.{_≤_}
 use native.Mathlib.Omega.{arith}
 use mathlib.Core.Path.{_≡_, refl, sym, ap, _∙_}
 use Rattle.walk.specs.Private.{after}
-use Rattle.walk.specs.Trace.{recursiveTrace}
+use Rattle.walk.specs.Tracing.{recursiveTrace}
 use Rattle.walk.proofs.Steps.{trace-outside, trace-spent}
 use Rattle.nodes.specs.Fast as Fast
 use Rattle.hull.proofs.Descents.{meets-node, meets-end, unread, crosses, to-node, in-leaf, no-leaf}

@@ -1,7 +1,7 @@
 -- `trace_way` meets its contract.
 -- Assumes nothing.
 use mathlib.Core.Path.{sym, _∙_}
-use Rattle.walk.specs.Trace.{recursiveTrace}
+use Rattle.walk.specs.Tracing.{recursiveTrace}
 use Rattle.walk.proofs.Steps.{after-none}
 use Rattle.nodes.specs.Fast as Fast
 use borrow.Author.Needs.{needs}

@@ -6,7 +6,7 @@ use native.Mathlib.Omega.{arith}
 use Rattle.format.specs.declared.section.BspFileSectionId.the-variants.{RenderNodes}
 use Rattle.format.proofs.Fields.{found}
 use Rattle.sections.specs.Answers.{positionStep}
-use Rattle.sections.specs.Row.{records}
+use Rattle.sections.specs.Records.{records}
 use Rattle.sections.proofs.Loops.{starts, more, breaks-off, ends}
 use Rattle.load.specs.Tested.{referencesAt, leafReferences}
 use Rattle.load.proofs.tested.check_leaf_references.Statement.{statement}

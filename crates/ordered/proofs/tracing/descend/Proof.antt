@@ -5,7 +5,7 @@ use native.Mathlib.Omega.{arith}
 use mathlib.Core.Path.{_≡_, refl, sym, ap, _∙_}
 use lib.ListN.{length}
 use Rattle.walk.specs.Private.{after}
-use Rattle.walk.specs.Trace.{recursiveTrace}
+use Rattle.walk.specs.Tracing.{recursiveTrace}
 use Rattle.walk.proofs.Steps.{trace-outside, trace-spent}
 use Rattle.ordered.specs.Rows.{rows}
 use Rattle.ordered.proofs.Descents.{unread, crosses, to-node, in-leaf}

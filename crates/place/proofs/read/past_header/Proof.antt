@@ -2,7 +2,7 @@
 use borrow.Author.Needs.{needs}
 use mathlib.Core.Path.{refl}
 use Rattle.sections.proofs.Chain.{position}
-use Rattle.place.specs.Part.{headerAt}
+use Rattle.place.specs.Part.{listedHeaderAt}
 use Rattle.place.proofs.read.past_header.Statement.{statement}
 use Rattle.place.proofs.read.past_header.Tie as tie
 
@@ -28,10 +28,10 @@ add-t13 : tie.Need-add-t13
 add-t13 c = search needs
 
 returns : tie.Need-returns
-returns c = unfold headerAt in search (position, refl) depth 10
+returns c = unfold listedHeaderAt in search (position, refl) depth 10
 
 returns-2 : tie.Need-returns-2
-returns-2 c = unfold headerAt in search (position, refl) depth 10
+returns-2 c = unfold listedHeaderAt in search (position, refl) depth 10
 
 pub past-header-spec : {M : Type 1} → statement M
 past-header-spec =

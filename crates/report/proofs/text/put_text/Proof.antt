@@ -4,7 +4,7 @@ use Prim.Native.Nat.{_≤_, _-_}
 use mathlib.Core.Path.{_≡_, refl, _∙_}
 use native.Mathlib.Omega.{arith}
 use lib.ListN.{length, take}
-use Rattle.report.specs.Text.{written}
+use Rattle.report.specs.Text.{printed}
 use Rattle.report.specs.Pieces.{puts}
 use Rattle.report.proofs.Putting.{puts-none, puts-more, puts-all}
 use Rattle.report.proofs.text.put_text.Statement.{statement}
@@ -12,7 +12,7 @@ use Rattle.report.proofs.text.put_text.Tie as tie
 
 abbrev Inv-loop : tie.InvT-loop
 Inv-loop text at out₀ next₀ i₀ out next i =
-    (i ≤ length text) × (length out ≡ length out₀) × (written next out ≡ puts (take i text) (written at out₀))
+    (i ≤ length text) × (length out ≡ length out₀) × (printed next out ≡ puts (take i text) (printed at out₀))
 
 abbrev μ-loop : tie.MeasureT-loop
 μ-loop text at out₀ next₀ i₀ out next i = length text - i

@@ -9,7 +9,7 @@ use denote.Ref.{now}
 use lib.ListN.{length}
 use Rattle.format.specs.declared.section.BspFileSection.{BspFileSection}
 use Rattle.sections.specs.Position.{checkEndPosition}
-use Rattle.sections.specs.Row.{blob}
+use Rattle.sections.specs.Records.{blob}
 use Rattle.sections.proofs.row.check_blob.Statement.{statement}
 use Rattle.sections.proofs.row.check_blob.Tie as tie
 

@@ -3,7 +3,7 @@
 use borrow.Author.Needs.{needs}
 use mathlib.Core.Path.{_∙_}
 use native.Mathlib.Omega.{arith}
-use Rattle.sections.specs.Row.{plainSection}
+use Rattle.sections.specs.Records.{plainSection}
 use Rattle.sections.proofs.Plain.{row-bytes}
 use Rattle.sections.proofs.row.check_plain.Statement.{statement}
 use Rattle.sections.proofs.row.check_plain.Tie as tie

@@ -8,7 +8,7 @@ use lib.ListN.{take, drop}
 use Rattle.format.specs.Answer.{answer}
 use Rattle.format.specs.Listed.{into}
 use Rattle.team.specs.Team.{pooled}
-use Rattle.team.specs.Walk.{rowsAt, Starts}
+use Rattle.team.specs.SideBySide.{rowsAt, Starts}
 use Rattle.team.proofs.Found.{empty-data, section-data, section-size}
 use Rattle.team.proofs.pool.list_rows.Statement.{statement}
 use Rattle.team.proofs.pool.list_rows.Tie as tie

@@ -24,7 +24,7 @@ use Rattle.phys.specs.declared.TraceEndKind.the-variants.{Terminal, Boundary}
 use Rattle.phys.specs.declared.TraceEnd.{TraceEnd}
 use Rattle.phys.specs.declared.Trace.{Trace}
 use Rattle.words.specs.Words.{flagWord, floatWord, vectorWords}
-use Rattle.ffi_math.specs.Words.{planeGiven, planeWords}
+use Rattle.ffi_math.specs.FloatWords.{planeGiven, planeWords}
 
 -- ---- traces from words
 

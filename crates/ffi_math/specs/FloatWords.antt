@@ -20,8 +20,8 @@ use Rattle.math.specs.declared.LinePlaneIntersect.{LinePlaneIntersect}
 use Rattle.math.specs.declared.LinePlaneIntersect.the-variants.{NoIntersection, PointIntersection}
 
 -- the coordinate number n, and 0 for an n above 2
-unfoldable pub partOf : Vector3 → ℕ → Float
-partOf v n = getD (v .x ∷ v .y ∷ v .z ∷ []) n zero32
+unfoldable pub coordinateOf : Vector3 → ℕ → Float
+coordinateOf v n = getD (v .x ∷ v .y ∷ v .z ∷ []) n zero32
 
 -- the axis plane number n: x, y, and z for any other
 unfoldable pub axisPlane : ℕ → Float → Hyperplane
