@@ -1,6 +1,6 @@
 -- For the contracts of functions below the calls; a reader of the calls may leave this file out.
--- What a trace's answer says, in document 01's terms. The definitions after it are cited by private contracts alone: a trace taken up
--- again at a crossing, with the nodes entered before.
+-- The parts of a trace: the child that is met on a side, the traces of a leaf, the near part joined with the far one, and a trace taken up again at
+-- a crossing, with the nodes entered before. What `trace` answers stands in Answers.antt.
 use Prim.Native.Nat.{ℕ, suc, _≤_}
 use mathlib.Core.Path.{_≡_}
 use mathlib.Core.Bool.{Bool, true, false, cond, not, _||_, _&&_}
@@ -61,8 +61,6 @@ wentTrace f t s g = Tr.trace s (endOf f t g) (g .contents) (g .«start_solid»)
 abbrev pub wayAnswer : List ℕ → Tables → TraceStart → Way → Answer (TraceT × ℕ)
 wayAnswer f t s (Y.Went g) = answer (wentTrace f t s g, g .visits)
 wayAnswer f t s (Y.Refused e) = Ans.refused (numberOf e)
-
--- ---- for private contracts
 
 -- all in one leaf
 abbrev pub endedIn : Vector3 → BspLeafContents → ℕ → Went

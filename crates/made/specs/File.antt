@@ -1,4 +1,4 @@
--- The file of a made-up map.
+-- Note 14 of document 02, whose words stand in quotes: the file of a made-up map.
 use Prim.Native.Nat.{ℕ, _+_, _*_}
 use mathlib.Core.Bool.{Bool, _&&_, cond}
 use mathlib.Core.List.{List, [], _∷_, _++_}

@@ -1,5 +1,5 @@
 -- For the contracts of functions that no other crate can name; a reader of the calls may leave this file out.
--- What an answer of `made_up` stands for; and what its parts leave in the buffer, for private contracts.
+-- What the parts of `made_up` leave in the buffer.
 use Prim.Native.Nat.{ℕ, _+_}
 use mathlib.Core.List.{List, [], _∷_, _++_}
 use lib.ListN.{length, take, drop}
@@ -8,8 +8,6 @@ use Rattle.made.specs.Map.{nodeNumber, Side, node, solid, empty}
 use Rattle.made.specs.File.{plane, renderNode, clipNode}
 use Rattle.made.specs.declared.Part.{Part}
 use Rattle.made.specs.declared.Part.the-variants.{Planes, RenderNodes, ClipNodes}
-
--- ---- for private contracts
 
 -- the list with xs in it from a place on
 abbrev pub putAt : ℕ → List ℕ → List ℕ → List ℕ

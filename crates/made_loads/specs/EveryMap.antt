@@ -1,4 +1,4 @@
--- Every made-up map: "Every file so written loads, passes Note 4, and reads back as the planes and nodes that the numbers say."
+-- Note 14 of document 02, of every made-up map: "Every file so written loads, passes Note 4, and reads back as the planes and nodes that the numbers say."
 -- proofs/EveryMap.antt proves `EveryMap` and `EveryBuffer`.
 use Prim.Native.Nat.{ℕ, _+_, _*_, _<_, _≤_}
 use mathlib.Core.List.{List, _++_}

@@ -1,6 +1,6 @@
 -- For the contracts of functions below the calls; a reader of the calls may leave this file out.
--- The same tables as the readers of this crate go by: where the parts lie, and a node as its words in the file. No contract of a call
--- outside walks and traces cites these; `table` is equal to `tableOf` of Tables.antt (proofs/Equal.antt).
+-- The node tables as the readers of this crate go by them: fields at a place, the parts of the file and where a record lies in one, nodes as words,
+-- planes, what an end says; and of these `table`, which is `tableOf` of Tables.antt (proofs/Equal.antt).
 use Prim.Native.Nat.{ℕ, _+_, _-_, _*_, _/_, _%_, _<_, _≤_}
 use mathlib.Core.Path.{_≡_}
 use mathlib.Core.Bool.{Bool, true, false, cond}

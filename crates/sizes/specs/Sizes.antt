@@ -120,8 +120,6 @@ judgedRow s cutShort = refused 26
 unfoldable pub sizesOf : List ℕ → Answer BodySizes
 sizesOf s = judgedRow s (rowFrom (length s) s 0)
 
--- ---- for private contracts
-
 -- a field with this tag and a length of 24 starts at a place
 abbrev pub startsField : List ℕ → ℕ → ℕ → Bool
 startsField s at t = eqb (getD s at 0) t && (eqb (getD s (at + 1) 0) 24 && eqb (getD s (at + 2) 0) 0)
