@@ -13,13 +13,11 @@ use Rattle.format.specs.declared.contents.BspLeafContents.{BspLeafContents}
 use Rattle.math.specs.Vector.{vector, zero32}
 use Rattle.math.specs.declared.Vector3.{Vector3}
 use Rattle.walk.specs.Table.{Table}
-use Rattle.walk.specs.Walk.{withVisits, pointWalk}
-use Rattle.walk.specs.Tracing as Tracing
 use Rattle.walk.specs.Ordered.{ordered}
 use Rattle.words.specs.Words.{mapOf}
 use Rattle.nodes.specs.Fast as Fast
 use Rattle.nodes.specs.Fast.{tablesOf}
-use Rattle.nodes.specs.Tables.{End, tableOf}
+use Rattle.nodes.specs.Tables.{End}
 use Rattle.nodes.specs.declared.table.HullTable.the-variants.{Clip}
 use Rattle.nodes.proofs.Equal.{table-is}
 use Rattle.ordered.specs.Same.{fileRows}

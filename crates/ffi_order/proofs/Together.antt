@@ -4,29 +4,24 @@ use mathlib.Core.Bool.{Bool, true, false}
 use mathlib.Core.List.{List}
 use mathlib.Core.Path.{_≡_, refl, sym, ap, _∙_}
 use borrow.Author.Tests.{le-ltb}
-use lib.IntN.{ℤ}
-use lib.Ieee.{Float}
 use lib.ListN.{length, getD}
-use Rattle.format.specs.Answer.{Answer, answer, mapped, thenAnswer}
+use Rattle.format.specs.Answer.{Answer, mapped, thenAnswer}
 use Rattle.format.specs.declared.contents.BspLeafContents.{BspLeafContents}
 use Rattle.phys.specs.declared.Trace.{Trace}
-use Rattle.words.specs.Words.{Written, given, atLeast, mapOf}
+use Rattle.words.specs.Words.{given, atLeast, mapOf}
 use Rattle.walk.specs.Table.{Table}
 use Rattle.walk.specs.Walk.{withVisits, pointWalk}
 use Rattle.walk.specs.Tracing as Tracing
-use Rattle.walk.specs.Writing.{InOrder, orderNodes}
-use Rattle.nodes.specs.Tables.{End, tableOf, fileTable}
+use Rattle.nodes.specs.Tables.{End, tableOf}
 use Rattle.hull.specs.Hull.{hullTable}
-use Rattle.hull.specs.declared.collision.BspCollisionHull.{BspCollisionHull}
-use Rattle.ordered.specs.Same as S
-use Rattle.ordered.specs.Same.{fileNodes, fileRows}
+use Rattle.ordered.specs.Same.{fileNodes}
 use Rattle.ordered.proofs.Whole.{every-order}
-use Rattle.ffi_hull.specs.Layout.{pointAt, hullIn, hullFrom, hullAsked}
+use Rattle.ffi_hull.specs.Layout.{pointAt, hullFrom, hullAsked}
 use Rattle.ffi_walks.specs.Calls.{contentsWords, bspContents}
 use Rattle.ffi_traces.specs.Layout.{traceWords}
 use Rattle.ffi_traces.specs.Calls.{bspTrace}
 use Rattle.ffi_order.specs.Calls.{bspOrderContents, bspOrderTrace}
-use Rattle.ffi_order.specs.SameCalls.{tableNumber, HullOf, Same, SameCalls}
+use Rattle.ffi_order.specs.SameCalls.{tableNumber, HullOf, SameCalls}
 
 -- what is asked of the hull of the words is asked of the file's table and root
 module _ {A : Type 0} (s : List ℕ) (map hull : List ℕ) (root : ℕ) (ask : Table End BspLeafContents → ℕ → Answer A) where

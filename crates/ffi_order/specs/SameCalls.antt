@@ -9,7 +9,7 @@ use lib.Ieee.{Float}
 use lib.ListN.{length, getD}
 use Rattle.format.specs.Answer.{answer}
 use Rattle.words.specs.Words.{mapOf}
-use Rattle.walk.specs.Writing.{InOrder, orderNodes}
+use Rattle.walk.specs.Writing.{orderNodes}
 use Rattle.ordered.specs.Same.{fileNodes}
 use Rattle.ffi_hull.specs.Layout.{hullAsked}
 use Rattle.ffi_walks.specs.Calls.{bspContents}

@@ -1,10 +1,10 @@
 -- The ways out of the call.
-use Prim.Native.Nat.{ℕ, _*_, _/_, _%_, _<_, _≤_}
+use Prim.Native.Nat.{ℕ, _/_, _%_, _<_, _≤_}
 use native.Mathlib.Omega.{arith}
 use native.Mathlib.Nat.{div-add-mod'}
 use mathlib.Core.Bool.{Bool, false, cond}
 use mathlib.Core.List.{List}
-use mathlib.Core.Path.{_≡_, refl, sym, _∙_, ap}
+use mathlib.Core.Path.{_≡_, sym, _∙_, ap}
 use borrow.Author.Tests.{lt-ltb, le-ltb, eq-eqb, ne-eqb}
 use lib.Ieee.{Float}
 use lib.ListN.{length}

@@ -5,7 +5,7 @@ use Prim.Native.Nat.{ℕ, zero, suc, _+_, _-_, _*_, _^_, _≤_, _<_}
 use native.Mathlib.Nat.{le-antisymm, mul-le-mul, add-assoc, mul-add, add-mul, suc-mul, mul-suc, mul-mul-mul-comm, pow-succ'}
 use native.Mathlib.Omega.{arith}
 use mathlib.Core.Bool.{Bool, true, false, not, cond}
-use lib.Dec.{T, ltb, ltb→lt, lt→ltb, nltb→le}
+use lib.Dec.{T, ltb→lt, lt→ltb, nltb→le}
 use lib.Arith.{le→nltb}
 use lib.Ieee.Bits.{is-true, is-false}
 use Rattle.float.proofs.Compare.{T-of, order}

@@ -6,7 +6,7 @@ use native.Mathlib.Nat.{eq-zero-or-pos, le-antisymm, le-trans, le-of-eq, lt-of-l
 use native.Mathlib.Omega.{arith}
 use mathlib.Core.Bool.{Bool, true, false, _&&_, _||_, cond, true≢false, false≢true}
 use lib.IntN.{ℤ}
-use lib.Dec.{T, leb, ltb, eqb, leb→le, le→leb, lt→ltb, eqb→eq, not-T, lit≤, lit<}
+use lib.Dec.{T, leb, eqb, leb→le, le→leb, lt→ltb, eqb→eq, not-T, lit≤, lit<}
 use lib.Pow.{pow-add, pow-pos, pow-mono, shl-lt}
 use lib.Count.{leadingZeros, leading-top}
 use lib.Ieee.{Float, nan, inf, fin, binary32, up, down, size, odd, ofFields, ofBits, toBits, fits, lt, eq}

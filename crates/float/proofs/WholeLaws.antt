@@ -10,7 +10,7 @@ use lib.IntN.{ℤ, pos, negsuc, negℤ}
 use lib.Dec.{T, leb, ltb, eqb, le→leb, ltb→lt, lt→ltb, nltb→le, eqb→eq, lit≤, lit<}
 use lib.Arith.{le→nltb, digits-div}
 use lib.Pow.{pow-add, pow-pos}
-use lib.Ieee.{Float, nan, inf, fin, Format, binary32, prec, emax, low, up, down, odd, units, round, neg, lt, le, eq, ne, fits, isNan, ofInt, toUnsigned, toSigned, inFloat}
+use lib.Ieee.{Float, nan, inf, fin, Format, binary32, prec, emax, low, up, down, odd, units, round, neg, lt, le, ne, fits, isNan, ofInt, toUnsigned, toSigned, inFloat}
 use lib.Ieee.Fits.{and-l, and-r, up-pos, down-pos, round-is, round-fits}
 use lib.Ieee.Bits.{is-false}
 use lib.Ieee.Exact.{HasValue, round-exact}

@@ -1,6 +1,6 @@
 -- A contents code that a file has negated is looked up by its distance from -1, which is in range for every number.
 -- Assumes nothing.
-use Prim.Native.Nat.{ℕ, zero, suc, _+_, _-_, _^_, _<_, _≤_, zero-le}
+use Prim.Native.Nat.{ℕ, zero, suc, _+_, _^_, _<_, _≤_, zero-le}
 use mathlib.Core.Path.{_≡_, refl, sym, ap, _∙_, subst}
 use mathlib.Core.Bool.{Bool, true, false}
 use native.Mathlib.Omega.{arith}

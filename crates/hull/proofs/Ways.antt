@@ -6,7 +6,7 @@ use mathlib.Core.Bool.{Bool, true, false, cond, not, _||_, _&&_}
 use mathlib.Core.List.{List}
 use native.Mathlib.Omega.{arith}
 use lib.Ieee.{Float}
-use Rattle.format.specs.Answer.{Answer, answer, refused}
+use Rattle.format.specs.Answer.{answer}
 use Rattle.format.specs.Contents as Contents
 use Rattle.format.specs.declared.contents.BspLeafContents.the-variants.{Solid}
 use Rattle.math.specs.Vector as Vec
@@ -19,7 +19,7 @@ use Rattle.walk.specs.Walk.{Outcome}
 use Rattle.walk.specs.Private.{after}
 use Rattle.walk.proofs.Steps.{after-done}
 use Rattle.nodes.specs.declared.table.Tables.{Tables}
-use Rattle.hull.specs.Traces.{planeMet, wentTrace, wayAnswer, endsWith, carriedTo, countedAs, joinParts, joinWay, stopsAt, joinedWith, joinFar}
+use Rattle.hull.specs.Traces.{planeMet, wentTrace, wayAnswer, endsWith, carriedTo, countedAs, joinWay, stopsAt, joinedWith, joinFar}
 use Rattle.hull.specs.declared.tracing.Went.{Went}
 use Rattle.hull.specs.declared.tracing.Way.{Way}
 use Rattle.hull.specs.declared.tracing.Way.the-variants as Y

@@ -1,7 +1,7 @@
 -- A texture section that loading took reads for the accessors too, and a texture info names one of its textures or their count.
 -- Assumes nothing.
-use Prim.Native.Nat.{ℕ, _+_, _≤_}
-use mathlib.Core.Path.{_≡_, refl, sym, ap, _∙_, subst}
+use Prim.Native.Nat.{ℕ, _≤_}
+use mathlib.Core.Path.{_≡_, refl, ap, subst}
 use mathlib.Core.Bool.{Bool, true, false, cond}
 use mathlib.Core.List.{List}
 use native.Mathlib.Omega.{arith}
@@ -10,7 +10,7 @@ use lib.Dec.{ltb}
 use Rattle.format.specs.Field.{f32At, indexAt}
 use Rattle.format.specs.Step.{Step, ok, refused, andThen}
 use Rattle.format.specs.declared.section.BspFileSection.{BspFileSection}
-use Rattle.records.specs.Number.{atMost, numberAt}
+use Rattle.records.specs.Number.{numberAt}
 use Rattle.records.specs.Texinfo.{flagAt, texinfoAt, texinfoEndAt}
 use Rattle.records.specs.Triple.{vectorAt}
 use Rattle.records.specs.declared.texinfo.BspTexInfo.{BspTexInfo}

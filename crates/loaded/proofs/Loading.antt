@@ -1,6 +1,6 @@
 -- Loading is refused with 1 to 12 alone (specs/Refusals.antt says it): each reader, section and test in the order of load.rs. So a status of 0 stands for
 -- a file that loads. Assumes nothing.
-use Prim.Native.Nat.{ℕ, zero, suc, _+_, _≤_}
+use Prim.Native.Nat.{ℕ, zero, suc, _+_}
 use native.Mathlib.Omega.{arith}
 use mathlib.Core.Bool.{Bool, true, false, cond}
 use mathlib.Core.List.{List}

@@ -12,7 +12,6 @@ use Rattle.math.specs.Plane as Pl
 use Rattle.math.specs.declared.Vector3.{Vector3}
 use Rattle.math.specs.declared.Axis.{Axis as AxisT}
 use Rattle.math.specs.declared.Axis.the-variants.{X, Y, Z}
-use Rattle.math.specs.declared.Alignment.{Alignment}
 use Rattle.math.specs.declared.Alignment.the-variants.{Axis}
 use Rattle.math.specs.declared.Hyperplane.{Hyperplane}
 

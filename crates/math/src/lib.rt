@@ -3,7 +3,6 @@
 ghost use mathlib.Core.Path.{_≡_};
 ghost use mathlib.Core.Bool.{true, cond};
 ghost use lib.Ieee as Ieee;
-ghost use lib.Ieee.{binary32};
 ghost use Rattle.math.specs.Vector as Vec;
 ghost use Rattle.math.specs.Plane as Pl;
 ghost use Rattle.math.specs.Box as Box;

@@ -1,8 +1,8 @@
 -- Each way through a step of two walks side by side, and the two together.
 -- Assumes nothing.
-use Prim.Native.Nat.{ℕ, zero, suc, _+_, _-_, _^_, _<_, _≤_}
+use Prim.Native.Nat.{ℕ, suc, _+_, _-_, _<_, _≤_}
 use native.Mathlib.Omega.{arith}
-use mathlib.Core.Bool.{Bool, true, false, cond, not}
+use mathlib.Core.Bool.{Bool, true, false, cond}
 use mathlib.Core.List.{List}
 use mathlib.Core.Logic.{_⊎_, inl, inr}
 use mathlib.Core.Path.{_≡_, refl, sym, ap, _∙_}
@@ -17,10 +17,9 @@ use Rattle.math.specs.declared.Vector3.{Vector3}
 use Rattle.walk.specs.Walk.{withVisits, walk, pointWalk}
 use Rattle.walk.specs.Private.{after}
 use Rattle.walk.proofs.Steps.{walk-outside, walk-spent}
-use Rattle.nodes.specs.Tables.{End}
 use Rattle.nodes.specs.Fast.{endOf, table}
 use Rattle.nodes.specs.Walks.{ends, areWhole, madeFrom, childToward, onwardAnswer}
-use Rattle.nodes.specs.Lanes.{landed, both, walkTwo, laneEnd, rest, counted, ended, Steps}
+use Rattle.nodes.specs.Lanes.{landed, both, walkTwo, rest, counted, ended, Steps}
 use Rattle.nodes.specs.Answers.{twoAnswer}
 use Rattle.nodes.specs.declared.table.Tables.{Tables}
 use Rattle.nodes.specs.declared.lanes.TwoEnds.the-variants as L

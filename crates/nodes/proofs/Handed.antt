@@ -1,15 +1,15 @@
 -- What `segment_from`, `ends_in` and `look_in` say of whatever bytes they are handed.
 -- Assumes nothing.
-use Prim.Native.Nat.{ℕ, zero, suc, _+_, _*_, _/_, _<_, _≤_}
+use Prim.Native.Nat.{ℕ, zero, suc, _+_, _*_, _/_, _<_}
 use native.Mathlib.Omega.{arith}
-use mathlib.Core.Path.{_≡_, refl, sym, ap, _∙_}
-use mathlib.Core.Bool.{Bool, true, false, cond}
+use mathlib.Core.Path.{_≡_, refl, ap, _∙_}
+use mathlib.Core.Bool.{Bool, true, false}
 use mathlib.Core.List.{List, [], _∷_, _++_}
 use lib.Dec.{ltb}
 use lib.Ieee.{Float}
 use lib.ListN.{length, getD, length-append}
 use Rattle.format.specs.Answer as Ans
-use Rattle.format.specs.Answer.{Answer, answer}
+use Rattle.format.specs.Answer.{Answer}
 use Rattle.math.specs.declared.Vector3.{Vector3}
 use Rattle.walk.specs.Table.{Node}
 use Rattle.walk.specs.Walk.{Entered}

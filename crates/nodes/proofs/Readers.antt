@@ -8,7 +8,7 @@ use native.Mathlib.Omega.{arith}
 use borrow.Author.Tests.{lt-ltb, le-ltb}
 use lib.ListN.{length}
 use Rattle.format.specs.Answer as Ans
-use Rattle.format.specs.Answer.{Answer, answer, thenAnswer}
+use Rattle.format.specs.Answer.{Answer, thenAnswer}
 use Rattle.format.specs.Refusal.{numberOf}
 use Rattle.format.specs.Code.{contentsOf}
 use Rattle.format.specs.Answers.{placeAnswer}

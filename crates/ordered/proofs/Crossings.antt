@@ -19,7 +19,7 @@ use Rattle.math.specs.declared.HyperplaneSide.{HyperplaneSide}
 use Rattle.math.specs.declared.PointIntersection.{PointIntersection as Crossing}
 use Rattle.phys.specs.Trace as Tr
 use Rattle.phys.specs.declared.Trace.{Trace as TraceT}
-use Rattle.walk.specs.Table.{Child, Table, childOn}
+use Rattle.walk.specs.Table.{Table, childOn}
 use Rattle.walk.specs.Walk.{Outcome, done, refused, held, meet, onto}
 use Rattle.walk.specs.Private.{after}
 use Rattle.walk.specs.Tracing.{joined, withFar, stops, nearOf, farOf, afterNear, withNear, recursiveTrace}

@@ -1,5 +1,5 @@
 -- A group goes down: the invariant of the loop, and each way out of it.
-use Prim.Native.Nat.{ℕ, zero, suc, _+_, _-_, _*_, _<_, _≤_}
+use Prim.Native.Nat.{ℕ, suc, _+_, _-_, _<_, _≤_}
 use native.Mathlib.Omega.{arith}
 use native.Mathlib.Nat.{mul-le-mul-left}
 use mathlib.Core.Bool.{true, false}
@@ -16,8 +16,8 @@ use Rattle.nodes.specs.Tables.{End}
 use Rattle.nodes.specs.Fast.{table, childOf, nodeOf, wordOn}
 use Rattle.nodes.specs.declared.table.Tables.{Tables}
 use Rattle.nodes.specs.declared.read.Words.{Words as WordsT}
-use Rattle.ways.specs.Groups.{Meets, settled, onward, meets, readsAt, fill, fronts, backs}
-use Rattle.ways.proofs.Divided.{fill-length, reads-none, settled-reads, settled-bytes, some-left, divided-reads, divided-bytes, divided-other, reads-most, kept-length}
+use Rattle.ways.specs.Groups.{settled, onward, meets, fill, fronts, backs}
+use Rattle.ways.proofs.Divided.{reads-none, settled-reads, settled-bytes, some-left, divided-reads, divided-bytes, divided-other, reads-most, kept-length}
 use Rattle.points.specs.Going.{pointAt, ontoChild, ontoWord, meetingMeets, met, readsOf, settledBy, Settles, PairIs, TwoSettled, Divides, Went}
 use Rattle.points.specs.declared.group.Onto.{Onto}
 use Rattle.points.specs.declared.one.Pair.{Pair}

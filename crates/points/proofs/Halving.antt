@@ -5,7 +5,7 @@ use mathlib.Core.Bool.{Bool, true, false, cond}
 use mathlib.Core.List.{List, [], _∷_, _++_}
 use mathlib.Core.Path.{_≡_, refl, sym, _∙_, ap, subst}
 use borrow.Author.Tests.{le-leb, lt-leb}
-use borrow.Rule.Slice.PartMut.{midOf, postOf, putMid, mid-len, same-len-mid, take-put, drop-put}
+use borrow.Rule.Slice.PartMut.{postOf, putMid, mid-len, same-len-mid, take-put, drop-put}
 use lib.Dec.{leb}
 use lib.Ieee.{Float}
 use lib.ListN.{length, take, drop, length-append, length-drop}

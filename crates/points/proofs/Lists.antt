@@ -3,13 +3,12 @@ use Prim.Native.Nat.{ℕ, zero, suc, _+_, _-_, _*_, _<_, _≤_}
 use native.Mathlib.Omega.{arith}
 use native.Mathlib.Numerals.{add-one}
 use mathlib.Core.Bool.{Bool, true, false, cond, not}
-use mathlib.Core.List.{List, [], _∷_, _++_, append-assoc, append-nil}
+use mathlib.Core.List.{List, [], _∷_, _++_, append-nil}
 use mathlib.Core.Logic.{_⊎_, inl, inr}
 use mathlib.Core.Path.{_≡_, refl, sym, _∙_, ap, subst}
 use borrow.Author.Tests.{eq-eqb, ne-eqb}
-use lib.Dec.{eqb}
-use lib.ListN.{length, take, drop, getD, set, length-set, length-append, take-append-drop, length-take, length-drop, drop-of-length-le}
-use lib.Seq.{take-suc, drop-cons, take-suc-set, take-all, drop-set-lt, take-set-le, set-out, getD-drop, length-take-le, drop-at}
+use lib.ListN.{length, take, drop, getD, set, length-set, length-append, drop-of-length-le}
+use lib.Seq.{take-suc, drop-cons, take-suc-set, take-all, drop-set-lt, take-set-le, set-out, getD-drop, length-take-le}
 use borrow.Rule.Slice.PartMut.{midOf, postOf, putMid, mid-len, post-is}
 use lib.Ieee.{Float, nan, le}
 use Rattle.math.specs.Plane as Pl

@@ -3,11 +3,10 @@ use Prim.Native.Nat.{ℕ, zero, suc, _<_, _≤_}
 use native.Mathlib.Omega.{arith}
 use mathlib.Core.Bool.{Bool, true, false, cond}
 use mathlib.Core.List.{List}
-use mathlib.Core.Path.{_≡_, refl, sym, _∙_, ap, subst}
+use mathlib.Core.Path.{_≡_, refl, sym, _∙_, ap}
 use borrow.Author.Tests.{lt-ltb, le-ltb}
 use lib.Dec.{ltb}
-use Rattle.format.specs.Answer as Ans
-use Rattle.format.specs.Answer.{Answer, answer}
+use Rattle.format.specs.Answer.{Answer}
 use Rattle.format.specs.Contents.{codeOf}
 use Rattle.format.specs.Refusal.{numberOf}
 use Rattle.format.specs.declared.refusal.Refusal.{Refusal}
@@ -16,8 +15,8 @@ use Rattle.format.specs.declared.contents.BspLeafContents.the-variants.{Empty, 
 use Rattle.math.specs.Plane as Pl
 use Rattle.math.specs.declared.Hyperplane.{Hyperplane}
 use Rattle.math.specs.declared.HyperplaneSide.{HyperplaneSide}
-use Rattle.walk.specs.Table.{Child, node, end}
-use Rattle.walk.specs.Walk.{Entered, enter, meet}
+use Rattle.walk.specs.Table.{node, end}
+use Rattle.walk.specs.Walk.{enter}
 use Rattle.records.specs.Answers.{planeAnswer}
 use Rattle.records.specs.declared.plane.PlaneAnswer.{PlaneAnswer}
 use Rattle.records.specs.declared.plane.PlaneAnswer.the-variants as PA
@@ -33,11 +32,9 @@ use Rattle.nodes.specs.declared.read.ReadWords.the-variants as RW
 use Rattle.nodes.specs.declared.read.EndContents.{EndContents}
 use Rattle.nodes.specs.declared.read.EndContents.the-variants as EC
 use Rattle.ways.specs.Groups.{Meets, settled, onward, byteOf, entering, meets, isFront}
-use Rattle.points.specs.Going.{ontoChild, ontoWord, meetingMeets, met}
+use Rattle.points.specs.Going.{ontoChild, ontoWord, met}
 use Rattle.points.specs.declared.group.Onto.{Onto}
 use Rattle.points.specs.declared.group.Onto.the-variants as O
-use Rattle.points.specs.declared.group.Meeting.{Meeting}
-use Rattle.points.specs.declared.group.Meeting.the-variants as M
 
 -- ---- sides, codes and words
 

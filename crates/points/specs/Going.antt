@@ -3,18 +3,17 @@
 use Prim.Native.Nat.{ℕ, zero, suc, _+_, _*_, _<_, _≤_, _-_, _/_}
 use mathlib.Core.Path.{_≡_}
 use mathlib.Core.Bool.{Bool, true, false, cond, not}
-use mathlib.Core.List.{List, [], _∷_, _++_}
+use mathlib.Core.List.{List, [], _∷_}
 use lib.Dec.{ltb, leb, eqb}
 use lib.Ieee.{Float, nan, le}
 use lib.ListN.{length, getD, take, drop}
 use Rattle.format.specs.Contents.{codeOf}
-use Rattle.format.specs.declared.contents.BspLeafContents.{BspLeafContents}
 use Rattle.math.specs.Vector.{vector}
 use Rattle.math.specs.declared.Vector3.{Vector3}
 use Rattle.math.specs.declared.Axis.{Axis}
 use Rattle.math.specs.declared.Axis.the-variants.{X, Y, Z}
 use Rattle.math.specs.Plane as Pl
-use Rattle.walk.specs.Table.{Child, node, end, Table, childOn}
+use Rattle.walk.specs.Table.{Child, node, end, childOn}
 use Rattle.nodes.specs.Tables.{End}
 use Rattle.nodes.specs.Fast.{table, endOf, childOf, nodeOf, wordOn}
 use Rattle.nodes.specs.declared.table.HullTable.{HullTable}

@@ -10,7 +10,7 @@ use lib.Ieee.{Float}
 use lib.ListN.{length, drop}
 use Rattle.format.specs.Answer.{Answer, answer, refused, mapped}
 use Rattle.format.specs.Contents.{codeOf}
-use Rattle.format.specs.Listed.{Listed, listed}
+use Rattle.format.specs.Listed.{listed}
 use Rattle.format.specs.declared.contents.BspLeafContents.{BspLeafContents}
 use Rattle.format.specs.declared.section.BspData.{BspData}
 use Rattle.math.specs.declared.Vector3.{Vector3}
@@ -26,9 +26,9 @@ use Rattle.load.specs.Load.{loadOf}
 use Rattle.load.proofs.Loads as Loads
 use Rattle.loaded.specs.EveryFile.{Calls}
 use Rattle.loaded.proofs.EveryFile.{every-hull}
-use Rattle.ways.specs.Ways.{answerOf, all, answers, reads, nodesMet}
+use Rattle.ways.specs.Ways.{answerOf, all, reads, nodesMet}
 use Rattle.ways.proofs.NodesMet.{reads-are-nodes}
-use Rattle.points.specs.Points.{pointsOf, notPoints, codesAndReads, filled, answered, contentsOfPoints}
+use Rattle.points.specs.Points.{pointsOf, notPoints, filled, answered, contentsOfPoints}
 use Rattle.points_tree.specs.EveryPoint.{Met, EveryPoint}
 
 all-answers : {A : Type 0} (l : List A) → all (map answer l) ≡ answer l

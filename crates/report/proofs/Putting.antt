@@ -1,11 +1,11 @@
 -- Texts put one after the other. Assumes nothing.
 use mathlib.Core.Path.{_≡_, refl, sym, ap, _∙_}
 use mathlib.Core.List.{List, [], _∷_, _++_}
-use Prim.Native.Nat.{ℕ, zero, suc, _+_, _/_, _%_, _<_, _≤_}
+use Prim.Native.Nat.{ℕ, suc, _+_, _/_, _%_, _<_, _≤_}
 use native.Mathlib.Numerals.{add-one}
 use native.Mathlib.Omega.{arith}
 use borrow.Author.Tests.{lt-ltb, le-ltb}
-use lib.ListN.{length, getD, set, drop, take, length-set, length-append}
+use lib.ListN.{length, getD, set, take, length-set, length-append}
 use lib.Seq.{take-suc, take-length, sets, sets-eq}
 use Rattle.report.specs.Text.{Printed, printed, front, decimal, line}
 use Rattle.report.specs.Pieces.{putByte, puts}

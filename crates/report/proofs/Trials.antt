@@ -8,7 +8,6 @@ use lib.ListN.{length, replicate}
 use Rattle.format.specs.Answer.{answer, refused}
 use Rattle.format.specs.Field.{u32At, i32At, f32At, indexAt}
 use Rattle.format.specs.Section.{recordCount}
-use Rattle.format.specs.declared.section.BspData.{BspData}
 use Rattle.format.specs.declared.section.BspFileSection.{BspFileSection}
 use Rattle.records.specs.Number.{numberAt}
 use Rattle.records.specs.Triple.{vectorAt}

@@ -4,10 +4,9 @@ use mathlib.Core.Path.{_≡_, refl, sym, ap, subst, _∙_}
 use mathlib.Core.Bool.{Bool, true, false, cond}
 use mathlib.Core.List.{List}
 use native.Mathlib.Omega.{arith}
-use borrow.Author.Tests.{ltb-true, le-leb, lt-leb, leb-true, leb-false, lt-ltb, le-ltb}
+use borrow.Author.Tests.{ltb-true, lt-leb, lt-ltb}
 use lib.Dec.{ltb, leb, eqb}
 use lib.ListN.{length, replicate, length-replicate}
-use Rattle.format.specs.Answer as Ans
 use Rattle.format.specs.Answer.{Answer, answer, refused, mapped, thenAnswer}
 use Rattle.format.specs.Step as Step
 use Rattle.format.specs.Step.{Step}
@@ -19,28 +18,22 @@ use Rattle.format.specs.declared.section.BspFileSection.{BspFileSection}
 use Rattle.format.specs.declared.section.BspFileSectionId.{BspFileSectionId}
 use Rattle.format.specs.declared.section.BspFileSectionId.the-variants.{Planes, Leaves, CollisionNodes, Models}
 use Rattle.math.specs.declared.Vector3.{Vector3}
-use Rattle.math.specs.declared.Hyperplane.{Hyperplane}
 use Rattle.math.proofs.Fits.{Fits3}
 use Rattle.walk.specs.Table.{Nodes, Table}
 use Rattle.walk.specs.Walk.{withVisits, pointWalk}
-use Rattle.walk.specs.Tracing as Tracing
 use Rattle.walk.specs.Tree.{IsTree, Valid, at-root}
 use Rattle.walk.specs.TreeCheck.{treeCheck}
-use Rattle.walk.specs.Demand3.{Answered, AnsweredWithin}
 use Rattle.walk.proofs.Check.{passes-only, passes-if}
 use Rattle.walk.proofs.Unread.{Served, answered, unreadable, ReadsOrNot, walk-served, trace-served}
 use Rattle.records.specs.Access.{reading, readAt, recordOf}
-use Rattle.records.specs.Plane.{planeAt, planeOf, vertexOf}
+use Rattle.records.specs.Plane.{planeAt, planeOf}
 use Rattle.records.specs.Leaf.{leafAt, leafOf}
-use Rattle.records.specs.declared.leaf.BspLeaf.{BspLeaf}
 use Rattle.records.proofs.Readable.{counted}
 use Rattle.faces.specs.Extents.{surfaceOf, withSurface, faceOf}
 use Rattle.faces.proofs.FaceLaws.{surface-refuses}
 use Rattle.faces.specs.Face.{fileFaceOf}
-use Rattle.faces.specs.declared.face.BspFace.{BspFace}
-use Rattle.faces.specs.declared.extents.Surface.{Surface}
 use Rattle.models.specs.Model.{fileModelAt, fileModelOf, leafIdOf, modelOf, withRest}
-use Rattle.models.specs.Text.{Part, textEnd, entitiesOf}
+use Rattle.models.specs.Text.{textEnd, entitiesOf}
 use Rattle.models.specs.declared.model.BspFileModel.{BspFileModel}
 use Rattle.models.specs.declared.model.BspModel.{BspModel}
 use Rattle.nodes.specs.Tables.{End, contents, leaf, nothing, leafIn, leafContents, contentsOfEnd, contentsInBox, nodesOf, tableOf, leafTable}
@@ -49,7 +42,6 @@ use Rattle.nodes.specs.declared.table.HullTable.the-variants.{Render, Clip, Box
 use Rattle.hull.specs.Hull.{hull, ownHull, hullTable}
 use Rattle.hull.specs.declared.collision.BspCollisionHull.{BspCollisionHull}
 use Rattle.tree.specs.Readable.{Floats}
-use Rattle.loaded.specs.Demand3.{Demand3}
 use Rattle.tree.proofs.Readable.{box-planes-read}
 use Rattle.loaded.proofs.Demand3.{demand3}
 use Rattle.tree.proofs.Laws.{nodes-of}
@@ -59,7 +51,7 @@ use Rattle.vis.specs.Pvs.{pvsOf}
 use Rattle.load.specs.Load.{loadOf}
 use Rattle.load.proofs.Loads as Loads
 use Rattle.accept.specs.Accept.{passes, accept}
-use Rattle.accept.specs.Accepted.{Accepted, ModelIn}
+use Rattle.accept.specs.Accepted.{Accepted}
 use Rattle.accept.proofs.Exactly.{passed-only}
 use Rattle.rota.specs.Promise.{NotByShape, IsAnswered, Walks, Checks, Records, Queries, EveryMap, EveryFile}
 use Rattle.rota.proofs.Fewer.{Whole, pvs-fewer, pvs-zero}

@@ -8,7 +8,7 @@ use native.Mathlib.Omega.{arith}
 use borrow.Author.Tests.{le-ltb}
 use lib.Dec.{ltb}
 use lib.Ieee.{Float}
-use lib.ListN.{length, replicate, length-replicate}
+use lib.ListN.{length}
 use Rattle.format.specs.Answer.{Answer, answer, refused, mapped, thenAnswer}
 use Rattle.format.specs.Listed.{into}
 use Rattle.format.specs.Section.{recordCount}
@@ -33,10 +33,10 @@ use Rattle.rota.specs.Promise as Promise
 use Rattle.rota.specs.Promise.{Queries, Walks}
 use Rattle.rota.proofs.Promise as Promised
 use Rattle.words.specs.Words.{Written, written, given, put, atLeast, Left, listedIn, numberWords, mapOf}
-use Rattle.served.specs.Cited.{bspLoad, bspHull, bspTreeCheck, bspContents, bspFindLeaf, bspTrace, bspPvs, bspAccept, pointAt, tableNumbered, checkOf, TableNumbered, Table, hullFrom, hullIn, hullWords, tableWord, contentsWords, leafWords, traceWords, statusOf, judgedIn}
+use Rattle.served.specs.Cited.{bspHull, bspTreeCheck, bspContents, bspFindLeaf, bspTrace, bspPvs, bspAccept, pointAt, tableNumbered, checkOf, TableNumbered, Table, hullFrom, hullIn, hullWords, tableWord, contentsWords, leafWords, traceWords, statusOf, judgedIn}
 use Rattle.served.specs.NamedWords.{hullTable, hullRoot, treeHeight, renderTable}
 use Rattle.served.specs.EveryCall.{nodesIn, mapWritten}
-use Rattle.served.specs.Rota.{NotByShape, Roots, Passed, NotRefused, Answered, EveryMap, EveryFile}
+use Rattle.served.specs.Rota.{NotByShape, Roots, Passed, EveryMap, EveryFile}
 use Rattle.served.proofs.EveryCall.{Loads, load-passed, Checked, check-passed, every-call}
 use Rattle.served.proofs.Statuses.{Some, long, long-both, was-long, was-answered, from-words, word-floats, of-given, at-least, both, of-listed}
 

@@ -19,7 +19,6 @@ use Rattle.models.specs.Model.{fileModelOf}
 use Rattle.models.specs.declared.model.BspFileModel.{BspFileModel}
 use Rattle.models.specs.declared.model.PerHull.{PerHull}
 use Rattle.nodes.specs.Tables.{End, nodesOf, tableOf, leafTable, isBox}
-use Rattle.sizes.specs.declared.Bounds.{Bounds}
 use Rattle.sizes.specs.declared.BodySizes.{BodySizes}
 use Rattle.hull.specs.Hull as Hull
 use Rattle.hull.specs.Hull.{hullOf, ownHull, sizedHull, checkHull, withFields, withSize}

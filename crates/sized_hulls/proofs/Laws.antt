@@ -3,7 +3,7 @@ use Prim.Native.Nat.{ℕ, zero, suc, _≤_}
 use mathlib.Core.List.{List}
 use mathlib.Core.Path.{_≡_, refl, sym, ap, _∙_}
 use native.Mathlib.Omega.{arith}
-use Rattle.format.specs.Answer.{Answer, answer, refused, mapped}
+use Rattle.format.specs.Answer.{answer, refused, mapped}
 use Rattle.format.specs.Refusal.{numberOf}
 use Rattle.format.specs.declared.refusal.Refusal.{Refusal}
 use Rattle.format.specs.declared.section.BspData.{BspData}

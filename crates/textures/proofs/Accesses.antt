@@ -1,20 +1,19 @@
 -- The ways through the accessors of textures.
 -- Assumes nothing.
-use Prim.Native.Nat.{ℕ, zero, suc, _+_, _*_, _-_, _%_, _<_, _≤_}
-use mathlib.Core.Path.{_≡_, refl, sym, ap, _∙_, subst}
-use mathlib.Core.Bool.{Bool, true, false, not, _&&_, _||_, cond}
-use mathlib.Core.List.{List, [], _∷_}
+use Prim.Native.Nat.{ℕ, _+_, _*_, _-_, _%_, _<_, _≤_}
+use mathlib.Core.Path.{_≡_, refl, sym, _∙_, subst}
+use mathlib.Core.Bool.{Bool, true, false, _&&_, cond}
+use mathlib.Core.List.{List}
 use native.Mathlib.Nat.{add-assoc}
 use native.Mathlib.Omega.{arith}
-use borrow.Author.Tests.{eqb-true, eq-eqb, ne-eqb, ltb-true, ltb-false, lt-ltb, le-ltb, leb-true, le-leb, lt-leb}
-use lib.Dec.{eqb, ltb, leb}
+use borrow.Author.Tests.{ne-eqb, lt-ltb, le-ltb, leb-true, le-leb, lt-leb}
+use lib.Dec.{eqb, ltb}
 use lib.ListN.{getD, take, drop}
 use Rattle.format.specs.Answer as Answer
 use Rattle.format.specs.Answer.{Answer, answer, refused, thenAnswer}
 use Rattle.format.specs.Field.{u32At}
 use Rattle.format.specs.Answers.{u32Step}
 use Rattle.format.specs.Refusal.{numberOf}
-use Rattle.format.specs.Step.{Step, ok, andThen}
 use Rattle.format.specs.declared.field.ReadU32.{ReadU32}
 use Rattle.format.specs.declared.field.ReadU32.the-variants as U32
 use Rattle.format.specs.declared.refusal.Refusal.{Refusal}
@@ -33,16 +32,16 @@ use Rattle.records.specs.declared.texinfo.TexInfoAnswer.the-variants as Inf
 use Rattle.sections.specs.Answers.{positionStep}
 use Rattle.sections.specs.declared.position.Position.{Position}
 use Rattle.sections.specs.declared.position.Position.the-variants as Pos
-use Rattle.textures.specs.Name.{charAt, chars, nameAt, isPrimary, isAlternate}
+use Rattle.textures.specs.Name.{charAt, chars}
 use Rattle.textures.specs.Key.{sevenAt, eightAt}
 use Rattle.textures.specs.Kind.{lettered}
-use Rattle.textures.specs.Count.{any, count, lowest, nth}
+use Rattle.textures.specs.Count.{count, lowest, nth}
 use Rattle.textures.specs.Group.{isStatic, isFirst, alike, precedes, placeOf, within, sequenced, numberedBy, staticBy, frameBy}
 use Rattle.textures.specs.Section.{textureAt, texturesAt, namesOf}
-use Rattle.textures.specs.Access.{soundAt, isSound, infoAt, listedTexture, namesIn, frameTexture, staticTexture, renumbered, textureInfo, littleEndian, absentTexture, textureHeaderAt, textureOf}
+use Rattle.textures.specs.Access.{soundAt, isSound, infoAt, listedTexture, namesIn, frameTexture, staticTexture, renumbered, textureInfo, littleEndian, absentTexture, textureHeaderAt}
 use Rattle.textures.specs.declared.name.Seven.{Seven}
 use Rattle.textures.proofs.Keys.{seven-small}
-use Rattle.textures.proofs.Marks.{any-none, and-left, and-right}
+use Rattle.textures.proofs.Marks.{any-none, and-left}
 use Rattle.textures.proofs.Firsts.{count-below, lowest-none}
 
 -- ---- `is_sound`

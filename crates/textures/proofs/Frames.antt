@@ -1,15 +1,13 @@
 -- The place of a texture in its group: those with a lower frame letter, and those with its letter and a lower number in the file.
 -- Assumes nothing.
-use Prim.Native.Nat.{ℕ, zero, suc, _+_, _*_, _<_, _≤_}
-use mathlib.Core.Path.{_≡_, refl, sym, ap, _∙_, subst}
-use mathlib.Core.Bool.{Bool, true, false, not, _&&_, _||_, cond}
-use native.Mathlib.Nat.{not-suc-le-zero}
+use Prim.Native.Nat.{ℕ, zero, suc, _+_, _<_, _≤_}
+use mathlib.Core.Path.{_≡_, refl, sym, ap, _∙_}
+use mathlib.Core.Bool.{Bool, true, false, _&&_, _||_, cond}
 use native.Mathlib.Omega.{arith}
 use borrow.Author.Tests.{eqb-true, eqb-false, eq-eqb, ne-eqb, ltb-true, ltb-false, lt-ltb, le-ltb}
 use lib.Dec.{eqb, ltb}
-use Rattle.textures.specs.Count.{any, count, lowest}
+use Rattle.textures.specs.Count.{count, lowest}
 use Rattle.textures.specs.Table.{ranked}
-use Rattle.textures.proofs.Tables.{true-false}
 use Rattle.textures.proofs.Marks.{any-none, and-left, and-right}
 use Rattle.textures.proofs.Firsts.{count-next, count-grows, lowest-at, lowest-none}
 

@@ -1,14 +1,14 @@
 -- What the key of a name says of the name: its kind, and whether two stems are the same.
 -- Assumes nothing.
-use Prim.Native.Nat.{ℕ, zero, suc, _+_, _*_, _-_, _<_, _≤_}
+use Prim.Native.Nat.{ℕ, _+_, _*_, _<_, _≤_}
 use mathlib.Core.Path.{_≡_, refl, sym, ap, _∙_}
 use mathlib.Core.Bool.{Bool, true, false, _&&_, cond}
-use mathlib.Core.List.{List, [], _∷_, _++_}
+use mathlib.Core.List.{List}
 use native.Mathlib.Nat.{add-assoc}
 use native.Mathlib.Omega.{arith}
-use borrow.Author.Tests.{ltb-true, ltb-false, eq-eqb, ne-eqb, le-leb, lt-leb}
+use borrow.Author.Tests.{ltb-false, eq-eqb, ne-eqb, le-leb, lt-leb}
 use lib.Dec.{eqb, ltb, leb}
-use lib.ListN.{length, getD, drop, replicate}
+use lib.ListN.{getD, replicate}
 use Rattle.format.specs.Step.{Step, ok, refused}
 use Rattle.format.specs.declared.refusal.Refusal.{Refusal}
 use Rattle.records.specs.Number.{offsetAt}

@@ -5,29 +5,27 @@ use mathlib.Core.Path.{_≡_, refl, sym, ap, _∙_, subst}
 use mathlib.Core.Bool.{Bool, true, false, not, _&&_, _||_, cond}
 use mathlib.Core.List.{List, [], _∷_}
 use native.Mathlib.Omega.{arith}
-use borrow.Author.Tests.{eqb-true, eqb-false, eq-eqb, ne-eqb, ltb-true, ltb-false, lt-ltb, le-ltb, leb-true, le-leb}
+use borrow.Author.Tests.{eqb-true, eq-eqb, ne-eqb, lt-ltb, le-ltb, leb-true, le-leb}
 use lib.Dec.{eqb, ltb, leb}
 use lib.ListN.{getD}
-use Rattle.format.specs.Answer as Answer
-use Rattle.format.specs.Answer.{Answer, answer, refused, thenAnswer}
+use Rattle.format.specs.Answer.{answer, refused}
 use Rattle.format.specs.Step.{Step, ok}
 use Rattle.records.specs.Number.{offsetAt}
 use Rattle.records.specs.declared.number.OptionalOffset.{OptionalOffset}
 use Rattle.records.specs.declared.number.OptionalOffset.the-variants.{None, Some}
-use Rattle.textures.specs.Name.{chars, isAnimated, frameOf, stemOf, same, less, sameStem}
+use Rattle.textures.specs.Name.{chars, stemOf, same, less}
 use Rattle.textures.specs.Count.{any, count, lowest, nth}
-use Rattle.textures.specs.Group.{alike, isStatic, isFirst, precedes, placeOf, within, atPlace, frameBy}
+use Rattle.textures.specs.Group.{alike, isStatic, isFirst, precedes, placeOf, frameBy}
 use Rattle.textures.specs.Key.{keyAt}
 use Rattle.textures.specs.Kind.{passing, starts, ends, keyBy, keyOf, lettered, grouped, isFrame, framed, frames}
 use Rattle.textures.specs.Section.{nameOf, namesOf}
 use Rattle.textures.specs.Table.{isEarliest, Reached, ranked}
 use Rattle.textures.specs.declared.name.Key.{Key}
 use Rattle.textures.specs.declared.kind.Kind.the-variants.{Animated}
-use Rattle.textures.proofs.Digits.{value}
 use Rattle.textures.proofs.Keys.{same-is}
 use Rattle.textures.proofs.Tables.{true-false}
-use Rattle.textures.proofs.Marks.{any-none, and-left, and-right}
-use Rattle.textures.proofs.Firsts.{count-same, count-below, lowest-none, reached-nth}
+use Rattle.textures.proofs.Marks.{and-left, and-right}
+use Rattle.textures.proofs.Firsts.{count-same, reached-nth}
 use Rattle.textures.proofs.Frames.{count-alike, ranked-is, next-letter, no-place, is-place}
 use Rattle.textures.proofs.Numbers.{both, statics-are, first-is-earliest, nth-same}
 

@@ -8,7 +8,7 @@ use Rattle.format.specs.Step.{Step, ok, refused}
 use Rattle.records.specs.Number.{offsetAt}
 use Rattle.records.specs.declared.number.OptionalOffset.{OptionalOffset}
 use Rattle.records.specs.declared.number.OptionalOffset.the-variants.{None, Some}
-use Rattle.textures.specs.Name.{isAnimated, frameOf, isPrimary, isAlternate, isDigit, isLetter}
+use Rattle.textures.specs.Name.{isAnimated, frameOf, isPrimary, isAlternate}
 use Rattle.textures.specs.Key.{keyAt}
 use Rattle.textures.specs.declared.name.Key.{Key}
 use Rattle.textures.specs.declared.kind.Kind.{Kind}

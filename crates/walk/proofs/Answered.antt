@@ -1,6 +1,6 @@
 -- Demand 3: from a root that passed the tree check every walk and every trace is answered, and enters only nodes of the root's tree, none twice.
 -- One argument for every table, so for render and clip tables alike.
-use Prim.Native.Nat.{ℕ, _-_, _^_, _<_, _≤_}
+use Prim.Native.Nat.{ℕ, _^_, _<_, _≤_}
 use native.Mathlib.Omega.{arith}
 use mathlib.Core.List.{List}
 use mathlib.Core.Path.{_≡_, _∙_, ap}

@@ -1,6 +1,5 @@
 -- A trace along a drawn shape is answered. Where it goes on to the far part of a segment it goes on to the other child, so it enters no node twice.
-use Prim.Native.Nat.{ℕ, zero, suc, _≤_}
-use native.Mathlib.Omega.{arith}
+use Prim.Native.Nat.{ℕ, suc, _≤_}
 use mathlib.Core.Bool.{Bool, true, false, not, _||_, true≢false}
 use mathlib.Core.List.{List, _++_, List·Memᴰ, List·Memᴰ·append-cases}
 use mathlib.Core.Logic.{_⊎_, inl, inr}
@@ -13,7 +12,6 @@ use Rattle.format.specs.declared.contents.BspLeafContents.{BspLeafContents}
 use Rattle.math.specs.Plane as Pl
 use Rattle.math.specs.declared.Hyperplane.{Hyperplane}
 use Rattle.math.specs.declared.HyperplaneSide.{HyperplaneSide}
-use Rattle.math.specs.declared.HyperplaneSide.the-variants.{Positive, Negative}
 use Rattle.math.specs.declared.Vector3.{Vector3}
 use Rattle.math.specs.declared.PointIntersection.{PointIntersection as Crossing}
 use Rattle.math.specs.declared.LinePlaneIntersect.{LinePlaneIntersect}
@@ -26,7 +24,7 @@ use Rattle.walk.specs.Walk.{Outcome, done, enter, onto}
 use Rattle.walk.specs.Tracing.{joined, withFar, stops, nearOf, farOf, afterNear, withNear, across, recursiveTrace}
 use Rattle.walk.specs.Tree.{NoTwice, Reads, PlanesFit}
 use Rattle.walk.proofs.Lists.{append-once, once-left, once-right}
-use Rattle.walk.proofs.Shape.{Shape, tip, fork, top, height, nodesOf, recordOf, Drawn, Hangs, front-hangs, back-hangs, part, on-part, on-sides, part-within, parts-apart, by-shape}
+use Rattle.walk.proofs.Shape.{Shape, fork, top, height, nodesOf, recordOf, Drawn, Hangs, front-hangs, back-hangs, part, on-part, on-sides, part-within, parts-apart, by-shape}
 use Rattle.walk.proofs.AnsweredIn.{AnsweredIn, wider, entered-in, enters, end-in}
 use Rattle.walk.proofs.NoPanic.{joins, starts-at-child}
 

@@ -23,7 +23,6 @@ use Rattle.walk.specs.Walk.{Outcome, done, refused, withVisits, withPlan
 use Rattle.walk.specs.Tracing.{trace}
 use Rattle.walk.specs.Tree.{Reads, PlanesFit}
 use Rattle.walk.specs.TreeCheck.{treeCheck}
-use Rattle.walk.specs.Demand3.{Answered, AnsweredWithin}
 use Rattle.walk.proofs.Answered.{walk-answered, trace-answered}
 use Rattle.walk.proofs.Simulates.{Like, Same, Stands, Enters, Simulates, walks-same, traces-same}
 

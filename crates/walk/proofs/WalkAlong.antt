@@ -1,5 +1,5 @@
 -- A walk along a drawn shape is answered within its height.
-use Prim.Native.Nat.{ℕ, zero, suc, _≤_}
+use Prim.Native.Nat.{ℕ, suc, _≤_}
 use native.Mathlib.Omega.{arith}
 use mathlib.Core.List.{_++_}
 use mathlib.Core.Path.{_≡_}
@@ -9,13 +9,12 @@ use Rattle.format.specs.Answer.{answer}
 use Rattle.math.specs.Plane as Pl
 use Rattle.math.specs.declared.Hyperplane.{Hyperplane}
 use Rattle.math.specs.declared.HyperplaneSide.{HyperplaneSide}
-use Rattle.math.specs.declared.HyperplaneSide.the-variants.{Positive, Negative}
 use Rattle.math.specs.declared.Vector3.{Vector3}
 use Rattle.walk.specs.Table.{Child, Table}
 use Rattle.walk.specs.Walk.{Outcome, enter, onto, walk}
 use Rattle.walk.specs.Tree.{NoTwice, Reads}
 use Rattle.walk.proofs.Lists.{once-left, once-right}
-use Rattle.walk.proofs.Shape.{Shape, tip, fork, top, height, nodesOf, recordOf, Drawn, Hangs, front-hangs, back-hangs, part, on-part, on-sides, part-within, part-height, by-shape}
+use Rattle.walk.proofs.Shape.{Shape, fork, top, height, nodesOf, recordOf, Drawn, Hangs, front-hangs, back-hangs, part, on-part, on-sides, part-within, part-height, by-shape}
 use Rattle.walk.proofs.AnsweredIn.{AnsweredIn, wider, entered-in, enters, end-in}
 
 module _ {E A : Type 0} (T : Table E A) (R : Reads T) (p : Vector3) where

@@ -1,22 +1,18 @@
 -- One step of a group: its points are settled, or divided at a node.
-use Prim.Native.Nat.{ℕ, zero, suc, _+_, _-_, _*_, _<_, _≤_}
+use Prim.Native.Nat.{ℕ, zero, suc, _+_, _*_, _<_, _≤_}
 use native.Mathlib.Omega.{arith}
 use mathlib.Core.Bool.{Bool, true, false, cond, not}
 use mathlib.Core.List.{List, [], _∷_}
 use mathlib.Core.Path.{_≡_, refl, sym, _∙_, ap}
-use lib.Dec.{eqb, ltb}
 use lib.ListN.{length, set}
 use lib.Seq.{set-comm}
-use Rattle.format.specs.Answer as Ans
-use Rattle.format.specs.Answer.{Answer, answer}
 use Rattle.math.specs.Plane as Pl
 use Rattle.math.specs.declared.Vector3.{Vector3}
-use Rattle.math.specs.declared.Hyperplane.{Hyperplane}
 use Rattle.math.specs.declared.HyperplaneSide.{HyperplaneSide}
 use Rattle.math.specs.declared.HyperplaneSide.the-variants.{Positive, Negative}
 use Rattle.walk.specs.Table.{Child, node, end, Table, childOn}
-use Rattle.walk.specs.Walk.{Entered, enter}
-use Rattle.ways.specs.Groups.{kept, isFront, inFront, fronts, backs, fill, ifAny, Meets, settled, onward, entering, meets, byteStep, byteAt, readsStep, readsAt, bytesOf}
+use Rattle.walk.specs.Walk.{Entered}
+use Rattle.ways.specs.Groups.{kept, isFront, inFront, fronts, backs, fill, ifAny, Meets, settled, onward, meets, byteAt, readsStep, readsAt, bytesOf}
 
 -- ---- filling
 

@@ -1,7 +1,7 @@
 // Words in lists that a caller lends: a map record taken from 31 words and put into them, the words of floats, signed numbers and planes,
 // and an answer written to the front of a list.
 ghost use mathlib.Core.Path.{_≡_};
-ghost use Prim.Native.Nat.{_≤_, _+_, _*_};
+ghost use Prim.Native.Nat.{_≤_, _+_};
 ghost use lib.ListN.{length, getD};
 ghost use lib.Ieee.{nan};
 ghost use Rattle.words.specs.Words as Words;

@@ -6,7 +6,7 @@ use borrow.Author.Tests.{lt-ltb, le-ltb}
 use Rattle.format.specs.Answer.{Answer, answer, refused, thenAnswer}
 use Rattle.format.specs.declared.contents.BspLeafContents.{BspLeafContents}
 use Rattle.math.specs.declared.Vector3.{Vector3}
-use Rattle.words.specs.Words.{Left, beside, mapOf}
+use Rattle.words.specs.Words.{beside, mapOf}
 use Rattle.walk.specs.Table.{Table}
 use Rattle.walk.specs.TreeCheck.{Checked}
 use Rattle.walk.specs.BoxWalk.{boxContents}

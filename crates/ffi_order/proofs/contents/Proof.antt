@@ -1,10 +1,8 @@
 -- `ffi_order::contents` meets its contract. Assumes nothing.
-use mathlib.Core.List.{List}
 use mathlib.Core.Path.{ap, ap₂, _∙_}
 use borrow.Author.Tests.{lt-ltb, le-ltb}
 use Rattle.format.specs.Answer.{Answer, mapped}
 use Rattle.format.specs.declared.contents.BspLeafContents.{BspLeafContents}
-use Rattle.math.specs.declared.Vector3.{Vector3}
 use Rattle.words.specs.Words.{given}
 use Rattle.walk.specs.Table.{Table}
 use Rattle.ordered.specs.Same.{fileRows}

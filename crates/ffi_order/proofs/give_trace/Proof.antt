@@ -1,10 +1,7 @@
 -- `ffi_order::give_trace` meets its contract. Assumes nothing.
-use mathlib.Core.Path.{_≡_, refl}
-use native.Mathlib.Omega.{arith}
-use Prim.Native.Nat.{ℕ, _≤_}
+use mathlib.Core.Path.{refl}
 use lib.ListN.{length}
 use Rattle.words.proofs.Giving.{refuses, gives}
-use Rattle.phys.specs.declared.Trace.{Trace}
 use Rattle.hull.specs.Answers.{tracedAnswer}
 use Rattle.ffi_traces.specs.Layout.{traceWords}
 use Rattle.ffi_order.proofs.Laws.{long}

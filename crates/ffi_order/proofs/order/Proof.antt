@@ -1,8 +1,6 @@
 -- `ffi_order::order` meets its contract. Assumes nothing.
-use mathlib.Core.List.{List}
 use mathlib.Core.Path.{ap, ap₂, _∙_}
 use borrow.Author.Tests.{lt-ltb, le-ltb}
-use Rattle.words.specs.Words.{Written}
 use Rattle.math.specs.Vector.{vector, zero32}
 use Rattle.nodes.specs.Tables.{tableOf}
 use Rattle.walk.specs.Writing.{InOrder, orderNodes}

@@ -6,9 +6,8 @@ use borrow.Author.Tests.{lt-ltb, le-ltb}
 use Rattle.format.specs.Answer.{Answer, mapped}
 use Rattle.format.specs.declared.section.BspData.{BspData}
 use Rattle.words.specs.Words.{given, numberWords}
-use Rattle.textures.specs.Access.{frameTexture, staticTexture, textureOf}
-use Rattle.textures.specs.declared.answer.BspTexture.{BspTexture}
-use Rattle.ffi_textures.specs.Calls.{textureWords, bspTextureFrame}
+use Rattle.textures.specs.Access.{frameTexture}
+use Rattle.ffi_textures.specs.Calls.{bspTextureFrame}
 use Rattle.ffi_textures.proofs.frame.Statement.{statement}
 use Rattle.ffi_textures.proofs.frame.Tie as tie
 

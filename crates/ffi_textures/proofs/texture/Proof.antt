@@ -1,12 +1,11 @@
 -- `ffi_textures::texture` meets its contract. Assumes nothing.
 use borrow.Author.Needs.{needs}
-use Prim.Native.Nat.{ℕ}
 use mathlib.Core.Path.{ap, _∙_}
 use borrow.Author.Tests.{lt-ltb, le-ltb}
 use Rattle.format.specs.Answer.{Answer, mapped}
 use Rattle.format.specs.declared.section.BspData.{BspData}
-use Rattle.words.specs.Words.{given, numberWords}
-use Rattle.textures.specs.Access.{frameTexture, staticTexture, textureOf}
+use Rattle.words.specs.Words.{given}
+use Rattle.textures.specs.Access.{textureOf}
 use Rattle.textures.specs.declared.answer.BspTexture.{BspTexture}
 use Rattle.ffi_textures.specs.Calls.{textureWords, bspTexture}
 use Rattle.ffi_textures.proofs.texture.Statement.{statement}

@@ -1,6 +1,6 @@
 -- `faces::extents::span_over` meets its contract: the span of the entries left, from what is known so far, is the span of all.
 -- Assumes nothing.
-use Prim.Native.Nat.{_+_, _-_}
+use Prim.Native.Nat.{_+_}
 use mathlib.Core.Path.{_≡_, refl, sym, ap, _∙_}
 use native.Mathlib.Omega.{arith}
 use borrow.Author.Needs.{needs}

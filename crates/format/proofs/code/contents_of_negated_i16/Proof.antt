@@ -1,6 +1,5 @@
 -- `format::code::contents_of_negated_i16` meets its contract: the wider type agrees.
 -- Assumes nothing.
-use Prim.Native.Nat.{_<_}
 use mathlib.Core.Path.{refl}
 use native.Mathlib.Omega.{arith}
 use borrow.Author.Needs.{needs}

@@ -1,6 +1,6 @@
 -- `format::code::contents_of_negated_i32` meets its contract, by the distance of the number from -1.
 -- Assumes nothing.
-use Prim.Native.Nat.{_+_, _<_, _≤_}
+use Prim.Native.Nat.{_+_}
 use mathlib.Core.Path.{sym, _∙_, ap}
 use native.Mathlib.Omega.{arith}
 use borrow.Author.Needs.{needs}

@@ -1,6 +1,6 @@
 -- `walk_two` meets its contract. The loop's invariant (`Beside`): the two walks from the present words on, after the visits so far.
 -- Assumes nothing.
-use Prim.Native.Nat.{ℕ, _+_, _-_, _/_, _≤_}
+use Prim.Native.Nat.{_+_, _-_, _/_, _≤_}
 use native.Mathlib.Omega.{arith}
 use denote.Ref.{now}
 use lib.ListN.{length}

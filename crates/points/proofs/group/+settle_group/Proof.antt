@@ -2,15 +2,15 @@
 -- Assumes nothing.
 use Prim.Native.Nat.{ℕ, _+_, _-_, _<_, _≤_}
 use native.Mathlib.Omega.{arith}
-use mathlib.Core.Path.{_≡_, sym, _∙_, ap}
+use mathlib.Core.Path.{_≡_, _∙_}
 use mathlib.Core.List.{List}
 use lib.ListN.{length}
 use borrow.Author.Needs.{needs}
 use borrow.Rule.Slice.PartMut.{putMid}
 use borrow.Fn.Kinds.{In}
 use borrow.Fn.PlainCycle.{Measures, is, falls, and}
-use Rattle.points.specs.Going.{ontoChild, part, Divides, Settles}
-use Rattle.points.proofs.Downward.{went-settled, went-divided, few-reads}
+use Rattle.points.specs.Going.{ontoChild, part, Divides}
+use Rattle.points.proofs.Downward.{went-settled, went-divided}
 use Rattle.points.proofs.Halving.{Doing, doing-none, doing-ends, doing-on, lent-some, lent-room, few-so-far, few-at-end, is-inside, all-long, less-of, part-some, part-less, as-many}
 use Rattle.points.proofs.group.settle_group.Reads as self
 use Rattle.points.proofs.group.settle_group.Kinds as kinds

@@ -3,7 +3,6 @@
 use borrow.Author.Needs.{needs}
 use mathlib.Core.Path.{refl}
 use native.Mathlib.Omega.{arith}
-use denote.Ref.{now}
 use Rattle.textures.proofs.Accesses.{eight-is}
 use Rattle.textures.proofs.name.read_eight.Statement.{statement}
 use Rattle.textures.proofs.name.read_eight.Tie as tie

@@ -1,6 +1,5 @@
 -- `textures::number::mark_stems` meets its contract: the nodes with the stems of the textures so far are marked
 -- Assumes nothing.
-use borrow.Author.Needs.{needs}
 use Prim.Native.Nat.{_-_, _≤_}
 use mathlib.Core.Path.{_≡_, refl, _∙_}
 use native.Mathlib.Omega.{arith}
