@@ -1,11 +1,11 @@
-//! Every comparison, one after the other and over again with further seeds, until so many calls
+//! Every comparison of the calls, one after the other and over again with further seeds, until so many calls
 //! were compared; then which refusals each call gave (`coverage`).
 
 use crate::board::{Board, Plan};
-use crate::calls::{self, Calls};
+use crate::calls::Calls;
 use crate::{
-    accept, bodies, boxes, coverage, hand_made, joins, leaves, line, loads, made, order, place,
-    points, pvs, records, sky, team, textures, tree, walks,
+    accept, bodies, boxes, coverage, hand_made, joins, line, loads, made, order, place, points,
+    pvs, records, sky, team, textures, tree, walks,
 };
 
 type Mode = fn(&Calls, &Plan) -> Board;
@@ -33,25 +33,14 @@ const MODES: [(Mode, u64); 18] = [
 ];
 
 /// `plan.cases` is the number of calls. False if anything differed, if a call gave a refusal that it
-/// cannot give, or, unless the run is a quick one, if one that it can give was not met or a function
-/// was not compared.
+/// cannot give, or, unless the run is a quick one, if one that it can give was not met.
 pub fn run(plan: &Plan) -> bool {
-    let leaves = leaf_functions(plan);
     let board = compare(&Calls::linked(), plan);
     let equal = board.print();
     let faults = coverage::print(&board);
-    let linked = board.calls(calls::is_linked);
-    println!("{linked} calls of the library, {}", if equal { "0 differ" } else { "some differ" });
-    leaves && equal && faults.impossible.is_empty() && (plan.quick || faults.unmet.is_empty())
-}
-
-/// The float, vector, plane and trace functions in their quick form, if they are linked.
-fn leaf_functions(plan: &Plan) -> bool {
-    if !cfg!(feature = "ffi_math") {
-        println!("the library of the leaf functions is not linked: they are left out");
-        return plan.quick;
-    }
-    leaves::run(&leaves::Plan { quick: true, threads: 1, seed: plan.seed })
+    let differ = if equal { "0 differ" } else { "some differ" };
+    println!("{} calls of the library, {differ}", board.calls());
+    equal && faults.impossible.is_empty() && (plan.quick || faults.unmet.is_empty())
 }
 
 /// Rounds of every mode until the calls are enough.
@@ -61,7 +50,7 @@ pub fn compare(calls: &Calls, plan: &Plan) -> Board {
         for (mode, cases) in MODES {
             board.join(mode(calls, &Plan { from: round * cases, cases, ..plan.clone() }));
         }
-        if board.calls(|_| true) >= plan.cases {
+        if board.calls() >= plan.cases {
             break;
         }
     }

@@ -16,8 +16,7 @@ use maps::{floats, Layout, Seed};
 use richter::{Hull, Trace};
 
 use crate::board::Plan;
-use crate::calls;
-use crate::calls_stub::{LINE_WORDS, TRACE_WORDS};
+use crate::calls::{self, LINE_WORDS, TRACE_WORDS};
 use crate::texture_times;
 use crate::words;
 
@@ -78,22 +77,6 @@ pub fn run(plan: &Plan, folder: Option<&str>) -> bool {
     equal &= run_real(plan, folder);
     equal &= run_points(plan);
     texture_times::run();
-    for call in [
-        "bsp_load",
-        "bsp_contents",
-        "bsp_contents_points",
-        "bsp_pvs",
-        "bsp_pvs_team",
-        "bsp_tree_check",
-        "bsp_order",
-        "bsp_trace_line",
-        "bsp_accept",
-        "bsp_texture_numbers",
-    ] {
-        if !calls::is_linked(call) {
-            println!("{call} and its group are the stub's");
-        }
-    }
     equal
 }
 

@@ -6,7 +6,6 @@
 use std::collections::BTreeMap;
 use std::fmt::Debug;
 
-use crate::calls;
 use crate::words::Words;
 use maps::Seed;
 
@@ -147,10 +146,9 @@ impl Board {
         }
     }
 
-    /// How many calls were compared, of those whose name is told apart.
-    pub fn calls(&self, of: impl Fn(&str) -> bool) -> u64 {
-        let calls = self.lines.iter().filter(|line| line.is_call() && of(&line.name));
-        calls.map(|line| line.cases).sum()
+    /// How many calls were compared.
+    pub fn calls(&self) -> u64 {
+        self.lines.iter().filter(|line| line.is_call()).map(|line| line.cases).sum()
     }
 
     fn line(&mut self, name: &str, paper: bool) -> &mut Line {
@@ -283,11 +281,7 @@ impl Board {
     /// Prints the table; true if nothing differed and something ran.
     pub fn print(&self) -> bool {
         for line in &self.lines {
-            let stub = match line.is_call() && !calls::is_linked(&line.name) {
-                true => " (stub)",
-                false => "",
-            };
-            let name = format!("{}{stub}", line.title());
+            let name = line.title();
             println!("{name:<32} {:>10} cases {:>8} differ", line.cases, line.differed);
             if !line.refusals.is_empty() {
                 let parts: Vec<String> = line

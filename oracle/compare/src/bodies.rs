@@ -7,8 +7,7 @@ use maps::{make, Seed};
 
 use crate::asked::Asked;
 use crate::board::{file_shown, shown, Board, Plan, Sides};
-use crate::calls::Calls;
-use crate::calls_stub::{HULL_WORDS, SIZES_WORDS};
+use crate::calls::{Calls, HULL_WORDS, SIZES_WORDS};
 use crate::paper::bodies::{self, Bounds};
 use crate::paper::{self, fields::float_word};
 use crate::tables::{self, Made};

@@ -2,7 +2,6 @@
 //! should.
 
 use crate::board::{Agreed, Board, Line};
-use crate::calls;
 
 /// The numbers of document 01 and of the requests of document 02.
 pub const NUMBERS: [u32; 32] = [
@@ -79,7 +78,7 @@ const CAN: [(&str, &[u32]); 32] = [
 /// What is wrong with the cells of a table.
 #[derive(Debug, Default, PartialEq)]
 pub struct Faults {
-    /// Numbers that a call can give and that were not met, and calls that were not compared.
+    /// Numbers that a call can give and that were not met.
     pub unmet: Vec<String>,
     /// Numbers that it cannot give and did.
     pub impossible: Vec<String>,
@@ -89,14 +88,10 @@ fn line_of<'a>(board: &'a Board, call: &str) -> Option<&'a Line> {
     board.lines().iter().find(|line| line.is_call() && line.name == call)
 }
 
-/// The faults of every call. One that is not linked is one, unless `stubs` take its place.
-pub fn faults(board: &Board, stubs: bool) -> Faults {
+/// The faults of every call.
+pub fn faults(board: &Board) -> Faults {
     let mut faults = Faults::default();
     for (call, can) in CAN {
-        if !stubs && !calls::is_linked(call) {
-            faults.unmet.push(format!("{call} is not in the library and was not compared"));
-            continue;
-        }
         let line = line_of(board, call);
         for number in NUMBERS {
             let met = line.and_then(|line| line.agreed.get(&number)).is_some();
@@ -119,7 +114,7 @@ pub fn print(board: &Board) -> Faults {
     table(board, |agreed| agreed.rust);
     println!("\n19 is given by join, which is no call: the line `join (on paper)` has the program");
     println!("on paper beside the Rust, crates/phys the equation of the proved one.");
-    let faults = faults(board, false);
+    let faults = faults(board);
     for fault in &faults.unmet {
         println!("{fault}");
     }
@@ -135,10 +130,6 @@ fn table(board: &Board, count: impl Fn(&Agreed) -> u64) {
     println!("| call | answers | {} |", heads.join(" | "));
     println!("|{}", "---|".repeat(NUMBERS.len() + 2));
     for (call, can) in CAN {
-        if !calls::is_linked(call) {
-            println!("| `{call}` | not linked |{}", " |".repeat(NUMBERS.len()));
-            continue;
-        }
         let line = line_of(board, call);
         let times = |number: u32| {
             line.and_then(|line| line.agreed.get(&number)).map_or(0, &count).to_string()

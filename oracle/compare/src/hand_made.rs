@@ -8,8 +8,7 @@ use maps::{make, Seed};
 
 use crate::asked::Asked;
 use crate::board::{shown, Board, Plan, Side, Sides};
-use crate::calls::Calls;
-use crate::calls_stub::{HULL_WORDS, RECORD_WORDS};
+use crate::calls::{Calls, HULL_WORDS, RECORD_WORDS};
 use crate::paper::{self, record_size, tree, vis, MAP_WORDS, SECTIONS};
 use crate::tables::{self, Made};
 use crate::words::{self, Words};

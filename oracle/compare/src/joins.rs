@@ -2,12 +2,12 @@
 //! interface; the traces that the calls answer are joined by it, and 19 is given by it alone. The
 //! proved `join` is compared in `leaves`.
 
-use maps::Seed;
+use maps::{cases, Seed};
 
 use crate::board::{Board, Plan, Side};
 use crate::calls::Calls;
 use crate::paper::{plane, walk};
-use crate::{cases, words};
+use crate::words;
 
 pub fn compare(_: &Calls, plan: &Plan) -> Board {
     let mut board = Board::new();

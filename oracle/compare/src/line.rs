@@ -9,8 +9,7 @@ use maps::{floats, shape, Shape};
 
 use crate::asked::Asked;
 use crate::board::{shown, Board, Plan, Side, Sides};
-use crate::calls::Calls;
-use crate::calls_stub::{HULL_ASKED, LINE_WORDS};
+use crate::calls::{Calls, HULL_ASKED, LINE_WORDS};
 use crate::paper::{self, line, tree, walk};
 use crate::tables::{self, Made};
 use crate::walks::{bits_of, bounds, box_planes, hull_words, lent_hull, three, PATIENCE};

@@ -14,8 +14,7 @@ use maps::{floats, shape, Seed, Shape};
 
 use crate::asked::Asked;
 use crate::board::{Board, Plan, Side};
-use crate::calls::{self, Calls};
-use crate::calls_stub::{LINE_WORDS, TRACE_WORDS};
+use crate::calls::{self, Calls, LINE_WORDS, TRACE_WORDS};
 use crate::paper::records::Child;
 use crate::paper::{self, tree};
 use crate::tables::{self, Made};

@@ -1,4 +1,4 @@
-//! Compares the proved code with the published Rust. `oracle/run` builds and starts it.
+//! Compares the calls of the proved library with the published Rust. `oracle/run` builds and starts it.
 
 mod accept;
 mod all;
@@ -8,40 +8,31 @@ mod board;
 mod bodies;
 mod boxes;
 mod calls;
-mod calls_stub;
-mod cases;
 mod coverage;
-mod facts;
 mod faults;
 mod hand_made;
 mod joins;
 #[cfg_attr(not(feature = "peer"), allow(dead_code))]
 mod json;
-mod leaves;
 mod line;
 #[cfg(feature = "peer")]
 mod line_peer;
 mod loads;
 mod made;
-mod notes;
 mod order;
 mod paper;
 mod place;
 mod points;
-mod proved;
 mod pvs;
 mod queries;
 #[cfg(feature = "peer")]
 mod real;
 mod records;
 mod replay;
-mod root_time;
 mod sample;
 mod sizes;
 mod sky;
-mod stub;
 mod tables;
-mod tally;
 mod team;
 mod texture_times;
 mod textures;
@@ -90,14 +81,6 @@ impl Arguments {
         }
     }
 
-    fn leaves(&self) -> leaves::Plan {
-        leaves::Plan {
-            quick: self.has("--quick"),
-            threads: self.number("--threads", 1).clamp(1, 64),
-            seed: self.number("--seed", 1),
-        }
-    }
-
     /// The name of a file, which comes first.
     fn path(&self) -> &str {
         match self.0.first() {
@@ -116,8 +99,6 @@ fn wrong(message: &str) -> ! {
 fn run(mode: &str, given: &Arguments) -> bool {
     match mode {
         "all" => all::run(&given.plan(200_000_000)),
-        "leaves" => leaves::run(&given.leaves()),
-        "root-time" => root_time::run(),
         "records" => records::run(&given.plan(5_000)),
         "hand-made" => hand_made::run(&given.plan(10_000)),
         "walks" => walks::run(&given.plan(10_000)),
@@ -144,8 +125,6 @@ fn run(mode: &str, given: &Arguments) -> bool {
         "bench" => bench::run(&given.plan(30), given.text("--maps")),
         "bench-real" => bench::run_real(&given.plan(30), given.text("--maps")),
         "bench-points" => bench::run_points(&given.plan(30)),
-        "rust-facts" => facts::run(),
-        "notes" => notes::run(),
         _ => wrong("compare: a mode of oracle/run"),
     }
 }

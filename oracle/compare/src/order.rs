@@ -9,8 +9,7 @@ use maps::{shape, Shape};
 
 use crate::asked::Asked;
 use crate::board::{shown, Board, Plan, Side};
-use crate::calls::Calls;
-use crate::calls_stub::TRACE_WORDS;
+use crate::calls::{Calls, TRACE_WORDS};
 use crate::paper::walk::GAVE_UP;
 use crate::paper::{self, order};
 use crate::tables::{self, Made};

@@ -7,8 +7,7 @@
 use maps::{Layout, Seed};
 
 use crate::board::{file_shown, Board, Plan, Side, Sides};
-use crate::calls::Calls;
-use crate::calls_stub::VERSION;
+use crate::calls::{Calls, VERSION};
 use crate::loads::{self, Question};
 use crate::paper::place::{self, PLACE_WORDS};
 use crate::paper::{record_size, MAP_WORDS, TEXTURES};

@@ -6,8 +6,7 @@ use maps::{make, Seed};
 
 use crate::asked::Asked;
 use crate::board::{Board, Plan, Sides};
-use crate::calls::Calls;
-use crate::calls_stub::RECORD_WORDS;
+use crate::calls::{Calls, RECORD_WORDS};
 use crate::words::{self, Words};
 
 /// The records of a section that are asked for: all of them up to so many, else the first, the

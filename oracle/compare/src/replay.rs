@@ -1,8 +1,7 @@
 //! Reads a sample of the Rust's answers back and asks the calls the same (`sample` says its form).
 
 use crate::board::{Board, Side};
-use crate::calls::Calls;
-use crate::calls_stub::HULL_ASKED;
+use crate::calls::{Calls, HULL_ASKED};
 use crate::sample::*;
 use crate::words::Words;
 

@@ -19,10 +19,10 @@ use richter::{Hull, Map};
 
 use crate::records::{chosen, map_of_header};
 use crate::tables::{self, Made};
-use crate::tally::bits;
 use crate::walks::{bounds, box_planes, three};
 use crate::words::{self, Words};
 use crate::{faults, loads, replay};
+use maps::floats::bits;
 
 pub const LOAD: u64 = 1;
 pub const RECORD: u64 = 2;

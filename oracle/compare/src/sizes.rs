@@ -10,8 +10,7 @@ use richter::{Child, Hull};
 
 use crate::asked::Asked;
 use crate::board::{shown, Board, Side};
-use crate::calls::Calls;
-use crate::calls_stub::{HULL_ASKED, HULL_WORDS};
+use crate::calls::{Calls, HULL_ASKED, HULL_WORDS};
 use crate::paper::tree;
 use crate::words::{self, Words};
 

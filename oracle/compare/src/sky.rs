@@ -17,8 +17,7 @@ use richter::Refusal;
 
 use crate::asked::Asked;
 use crate::board::{shown, Board, Plan, Side};
-use crate::calls::Calls;
-use crate::calls_stub::{TRACE_WORDS, WALK_WORDS};
+use crate::calls::{Calls, TRACE_WORDS, WALK_WORDS};
 use crate::paper::{self, MAP_WORDS};
 use crate::records::map_of_header;
 use crate::tables::{self, Made};

@@ -13,7 +13,9 @@ const MOST: usize = 2_097_152;
 
 pub fn run() -> bool {
     let calls = Calls::linked();
-    println!("texture sections: seconds of the thread's processor time, of the usual one the least");
+    println!(
+        "texture sections: seconds of the thread's processor time, of the usual one the least"
+    );
     println!("of 20 turns of 200 calls, of the largest one call, of which the Rust's takes long");
     println!("{:28} {:>9} {:>10} {:>10} {:>12}", "section", "bytes", "load", "Rust", "all numbers");
     for (name, file, turns, times) in [

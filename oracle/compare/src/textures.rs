@@ -13,8 +13,7 @@ use richter::map::Frames;
 
 use crate::asked::Asked;
 use crate::board::{file_shown, shown, Board, Plan, Sides};
-use crate::calls::Calls;
-use crate::calls_stub::RECORD_WORDS;
+use crate::calls::{Calls, RECORD_WORDS};
 use crate::loads;
 use crate::paper::textures::{numbers, Name, TEXTURE_WORDS};
 use crate::paper::{self, MAP_WORDS};

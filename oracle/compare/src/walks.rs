@@ -12,8 +12,7 @@ use richter::Hull;
 
 use crate::asked::Asked;
 use crate::board::{shown, Board, Plan, Side, Sides};
-use crate::calls::Calls;
-use crate::calls_stub::{HULL_ASKED, HULL_WORDS, TRACE_WORDS, WALK_WORDS};
+use crate::calls::{Calls, HULL_ASKED, HULL_WORDS, TRACE_WORDS, WALK_WORDS};
 use crate::paper::{self, walk};
 use crate::tables::{self, Made};
 use crate::words::{self, Words};

@@ -4,7 +4,7 @@ use richter::map::{Map, RenderChild};
 use richter::{Answer, Child, Hull, Plane, Refusal, Trace};
 
 use crate::paper::{self, walk::UNKNOWN_SIZE};
-use crate::tally::bits;
+use maps::floats::bits;
 
 /// Words, or the number of a refusal.
 pub type Words = Result<Vec<u64>, u32>;

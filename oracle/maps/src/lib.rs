@@ -1,7 +1,8 @@
 //! Map files made from a seed, for the comparisons.
 //!
 //! - `seed`: numbers that follow from a seed
-//! - `floats`: floats with special ones among them
+//! - `floats`: floats with special ones among them; their bits
+//! - `cases`: vectors, planes and points with such floats in every place
 //! - `record`: the tables of a file, record by record, and the file that holds them
 //! - `shape`: node tables: balanced, chain, shared, looping, random
 //! - `make`: whole maps with chosen table sizes
@@ -10,6 +11,7 @@
 //! - `query`: points and segments
 //! - `sky`: contents that the published Rust refuses, put into a map
 
+pub mod cases;
 pub mod damage;
 pub mod floats;
 pub mod make;

@@ -14,8 +14,7 @@ use maps::{floats, Seed};
 use richter::{Hull, Map};
 
 use super::{segment, timed, INPUTS, PLAYERS};
-use crate::calls;
-use crate::calls_stub::TRACE_WORDS;
+use crate::calls::{self, TRACE_WORDS};
 use crate::words;
 
 /// The compiled maps, by the names of their sources.
@@ -83,7 +82,6 @@ struct Rows<'a> {
 }
 
 /// The map and a hull of the world as the crate has them.
-#[cfg(feature = "safe")]
 fn in_crate(file: &[u8], index: usize) -> (bsp29::Map<'_>, bsp29::Hull) {
     let map = bsp29::Map::load(file).expect("the map loads");
     let hull = map.hull(0, index).expect("a hull");
@@ -153,7 +151,6 @@ impl Rows<'_> {
             }
             sums
         };
-        #[cfg(feature = "safe")]
         let by_crate = {
             let (map, hull) = in_crate(self.file, index);
             move |points: &[[f32; 3]]| {
@@ -165,8 +162,6 @@ impl Rows<'_> {
                 sums
             }
         };
-        #[cfg(not(feature = "safe"))]
-        let by_crate = none();
         let name = format!("contents, hull {index}{kind}");
         let sides: [Side<[f32; 3]>; 3] =
             [Box::new(by_rust(&hull)), Box::new(by_c), Box::new(by_crate)];
@@ -188,7 +183,6 @@ impl Rows<'_> {
         let by_rust = move |points: &[[f32; 3]]| {
             (points.iter().map(|p| rust.bare_find_leaf(black_box(*p)) as u64).sum(), 0)
         };
-        #[cfg(feature = "safe")]
         let by_crate = {
             let (map, _) = in_crate(self.file, 0);
             move |points: &[[f32; 3]]| {
@@ -200,8 +194,6 @@ impl Rows<'_> {
                 sums
             }
         };
-        #[cfg(not(feature = "safe"))]
-        let by_crate = none();
         let sides: [Side<[f32; 3]>; 3] = [Box::new(by_rust), Box::new(by_c), Box::new(by_crate)];
         self.row(&format!("find_leaf{kind}"), points, sides);
     }
@@ -229,7 +221,6 @@ impl Rows<'_> {
             }
             (sum, 0)
         };
-        #[cfg(feature = "safe")]
         let by_crate = {
             let (map, hull) = in_crate(self.file, index);
             move |segments: &[[f32; 6]]| {
@@ -242,8 +233,6 @@ impl Rows<'_> {
                 sums
             }
         };
-        #[cfg(not(feature = "safe"))]
-        let by_crate = none();
         let name = format!("trace, hull {index}{kind}");
         let sides: [Side<[f32; 6]>; 3] = [Box::new(by_rust), Box::new(by_c), Box::new(by_crate)];
         self.row(&name, segments, sides);
@@ -252,9 +241,8 @@ impl Rows<'_> {
     /// Times the sides by turns on every part of the inputs and prints the sums of the least times.
     fn row<T>(&mut self, name: &str, inputs: &[T], mut sides: [Side<T>; 3]) {
         let told = sides.each_mut().map(|side| side(inputs));
-        let safe = cfg!(feature = "safe");
         // the crate's own numbers of contents need not be the codes
-        let equal = told[0].0 == told[1].0 && (!safe || told[1].1 == told[2].1);
+        let equal = told[0].0 == told[1].0 && told[1].1 == told[2].1;
         let parts: Vec<&[T]> = inputs.chunks(PART).collect();
         let mut least = vec![[f64::MAX; 3]; parts.len()];
         for _ in 0..self.slices {
@@ -271,14 +259,12 @@ impl Rows<'_> {
         let count = inputs.len() as f64;
         let [rust, by_c, by_crate] =
             [0, 1, 2].map(|side| least.iter().map(|least| least[side]).sum::<f64>() / count);
-        let of_crate = |text: String| if safe { text } else { "-".to_string() };
         println!(
-            "{:<10} {name:<26} {:>7.1} {rust:>8.1} {by_c:>8.1} {:>7.2} {:>8} {:>7}{}",
+            "{:<10} {name:<26} {:>7.1} {rust:>8.1} {by_c:>8.1} {:>7.2} {by_crate:>8.1} {:>7.2}{}",
             self.name,
             told[1].1 as f64 / count,
             by_c / rust,
-            of_crate(format!("{by_crate:.1}")),
-            of_crate(format!("{:.2}", by_crate / rust)),
+            by_crate / rust,
             if equal { "" } else { "  the answers differ" }
         );
         self.equal &= equal;
@@ -287,10 +273,4 @@ impl Rows<'_> {
 
 fn by_rust(hull: &Hull) -> impl FnMut(&[[f32; 3]]) -> (u64, u64) + '_ {
     |points| (points.iter().map(|p| hull.bare_contents(black_box(*p)) as u64).sum(), 0)
-}
-
-/// Without the crate there is no third side.
-#[cfg(not(feature = "safe"))]
-fn none<T>() -> impl FnMut(&[T]) -> (u64, u64) {
-    |_| (0, 0)
 }

@@ -7,7 +7,7 @@
 
 use crate::asked::Asked;
 use crate::board::{Board, Side};
-use crate::calls_stub::RECORD_WORDS;
+use crate::calls::RECORD_WORDS;
 use crate::json::Json;
 use crate::paper::plane::Plane;
 use crate::paper::textures::TEXTURE_WORDS;

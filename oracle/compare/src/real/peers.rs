@@ -12,7 +12,7 @@ use richter::map::Map;
 use super::Place;
 use crate::asked::Asked;
 use crate::board::{Board, Side};
-use crate::calls_stub::{LINE_WORDS, WALK_WORDS};
+use crate::calls::{LINE_WORDS, WALK_WORDS};
 use crate::line;
 use crate::line_peer::{is_tame, Peer, PeerNode, PeerPlane};
 use crate::paper::{self, fields::float_word};

@@ -5,7 +5,8 @@
 use std::hint::black_box;
 use std::time::Instant;
 
-use crate::cases::Seed;
+use maps::Seed;
+
 use crate::proved::Leaves;
 
 const INPUTS: usize = 4096;

@@ -58,22 +58,3 @@ impl Tally {
         }
     }
 }
-
-/// The bits of a float, every NaN as one. The test is on the bits: rustc 1.95 was seen to drop the
-/// choice `if x.is_nan() { 0x7fc00000 } else { x.to_bits() }` behind an inlined root.
-#[inline(always)]
-pub fn bits(x: f32) -> u32 {
-    let bits = x.to_bits();
-    if bits & 0x7fff_ffff > 0x7f80_0000 {
-        0x7fc0_0000
-    } else {
-        bits
-    }
-}
-
-/// Floats for a message: value and bits.
-pub fn show(floats: &[f32]) -> String {
-    let parts: Vec<String> =
-        floats.iter().map(|x| format!("{:e} ({:08x})", x, x.to_bits())).collect();
-    parts.join(", ")
-}

@@ -4,12 +4,13 @@
 //! the end's point, 0 for a terminal end or another number for a boundary, its ratio and plane.
 //! A code that names no contents counts as 1, and a word past the list's end as 0.
 
+use maps::cases::{self, Seed, Vector, CORE, SPECIAL};
+use maps::floats::bits;
 use richter::{Plane, Refusal, Trace};
 
-use super::{part, word, words, Differs, Plan, PARTS};
-use crate::cases::{self, Seed, Vector, CORE, SPECIAL};
+use crate::compare::{combinations, part, plane_words, word, words, Differs, Plan, PARTS};
 use crate::proved::Leaves;
-use crate::tally::{bits, Tally};
+use crate::tally::Tally;
 
 type Words = [u32; 16];
 
@@ -49,7 +50,7 @@ fn trace_words(t: Trace) -> Words {
     if let Some((ratio, plane)) = t.boundary {
         words[9] = 1;
         words[10] = bits(ratio);
-        words[11..].copy_from_slice(&super::plane_words(plane));
+        words[11..].copy_from_slice(&plane_words(plane));
     }
     words
 }
@@ -229,7 +230,7 @@ pub fn adjust(proved: &Leaves, plan: &Plan) -> Tally {
         let differs = words(f, |w| word(&r, w), &TRACE_WORDS);
         tally.count(differs.is_none(), || format!("{t:x?} by {o:?}: {}", differs.unwrap()));
     };
-    super::combinations::<6>(|v| {
+    combinations::<6>(|v| {
         let (start, end) = ([v[0], v[1], v[2]], [v[1], v[2], v[0]]);
         one(&plain(2, 1, start, end, 1), [v[3], v[4], v[5]]);
     });

@@ -1,7 +1,7 @@
 //! Seeded vectors, planes and points, with special floats in every place.
 
-pub use maps::floats::{float, half, normal, nudged, CORE, SPECIAL};
-pub use maps::Seed;
+pub use crate::floats::{float, half, normal, nudged, CORE, SPECIAL};
+pub use crate::Seed;
 
 pub type Vector = [f32; 3];
 

@@ -7,9 +7,8 @@
 
 macro_rules! functions {
     ($($field:ident = $name:ident: fn($($argument:ident: $type:ty),*) -> $answer:ty;)*) => {
-        #[cfg(feature = "ffi_math")]
         extern "C" {
-            $(fn $name($($argument: $type),*) -> $answer;)*
+            $(pub fn $name($($argument: $type),*) -> $answer;)*
         }
 
         /// The functions compared, by pointer, so that a test can put a wrong one in a place.
@@ -19,19 +18,8 @@ macro_rules! functions {
         }
 
         impl Leaves {
-            #[cfg(feature = "ffi_math")]
             pub fn linked() -> Leaves {
                 Leaves { $($field: $name,)* }
-            }
-
-            #[cfg(not(feature = "ffi_math"))]
-            pub fn linked() -> Leaves {
-                Leaves::stub()
-            }
-
-            #[allow(dead_code)]
-            pub fn stub() -> Leaves {
-                Leaves { $($field: crate::stub::$name,)* }
             }
         }
     };
