@@ -1,48 +1,23 @@
 //! Compares the calls of the proved library with the published Rust. `oracle/run` builds and starts it.
+//!
+//! - `calls`: the library's calls, what is asked of them, and the Rust's answers in their words
+//! - `cases`: maps made for the comparisons
+//! - `paper`: the papers read as a plain program
+//! - `modes`: the comparisons
+//! - `report`: what a run says
+//! - `times`: the benchmark
 
-mod accept;
-mod all;
-mod asked;
-mod bench;
-mod board;
-mod bodies;
-mod boxes;
 mod calls;
-mod coverage;
-mod faults;
-mod hand_made;
-mod joins;
-#[cfg_attr(not(feature = "peer"), allow(dead_code))]
-mod json;
-mod line;
-#[cfg(feature = "peer")]
-mod line_peer;
-mod loads;
-mod made;
-mod order;
+mod cases;
+mod modes;
 mod paper;
-mod place;
-mod points;
-mod pvs;
-mod queries;
-#[cfg(feature = "peer")]
-mod real;
-mod records;
-mod replay;
-mod sample;
-mod sizes;
-mod sky;
-mod tables;
-mod team;
-mod texture_times;
-mod textures;
-mod tree;
-mod walks;
-mod words;
-#[cfg(test)]
-mod wrong;
+mod report;
+mod times;
 
 use std::process::exit;
+
+use modes::*;
+use times::{bench, textures as texture_times};
 
 /// `load` reserves room for every record that a file names.
 #[global_allocator]
@@ -71,9 +46,9 @@ impl Arguments {
     }
 
     /// A tenth of the usual cases for a quick run.
-    fn plan(&self, usual: u64) -> board::Plan {
+    fn plan(&self, usual: u64) -> report::board::Plan {
         let usual = if self.has("--quick") { usual / 10 } else { usual };
-        board::Plan {
+        report::board::Plan {
             cases: self.number("--cases", usual),
             from: self.number("--from", 0),
             seed: self.number("--seed", 1),
