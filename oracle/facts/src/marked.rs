@@ -25,7 +25,7 @@ fn smallest(t: &mut Trials) {
     let none = Tables { models: vec![], ..Tables::smallest() };
     t.check("", "no model", "refused 6", loads(&plain(&none)));
     t.check("", "the 193-byte map", "loads", loads(&smallest));
-    let map = load(&smallest).ok().expect("the 193-byte map loads");
+    let map = load(&smallest).expect("the 193-byte map loads");
     let hull = map.hull(0, 1).expect("hull 1");
     t.check(
         "",

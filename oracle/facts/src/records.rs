@@ -13,7 +13,7 @@ pub fn records(t: &mut Trials) {
         record::Model { leaves: i32::MAX, roots: [1, 2, 7, 0], ..model },
         record::Model { leaves: 5, ..model },
     ];
-    let map = load(&plain(&tables)).ok().expect("loads");
+    let map = load(&plain(&tables)).expect("loads");
     let entries: Vec<String> =
         map.edgelist().iter().map(|e| format!("{} {}", e.direction, e.index)).collect();
     t.check(

@@ -72,7 +72,7 @@ pub fn row(bytes: &[u8]) -> richter::Map {
     let leaf = leaf(0);
     let tables =
         Tables { visibility: bytes.to_vec(), leaves: vec![leaf, leaf], ..Tables::smallest() };
-    load(&tables.file(&Layout::plain())).ok().expect("a map with a row loads")
+    load(&tables.file(&Layout::plain())).expect("a map with a row loads")
 }
 
 pub fn leaf(visibility: i32) -> record::Leaf {

@@ -145,7 +145,7 @@ fn joins(t: &mut Trials) {
 }
 
 pub fn visibility(t: &mut Trials) {
-    let none = load(&plain(&Tables::smallest())).ok().expect("loads");
+    let none = load(&plain(&Tables::smallest())).expect("loads");
     t.check("", "leaf 0 of no leaves", "[]", list(none.get_pvs(0, 100)));
     t.check("", "leaf 1 of no leaves", "refused 20", list(none.get_pvs(1, 0)));
     let map = |visibility: i32| {
@@ -154,7 +154,7 @@ pub fn visibility(t: &mut Trials) {
             leaves: vec![leaf(visibility); 2],
             ..Tables::smallest()
         };
-        load(&plain(&tables)).ok().expect("loads")
+        load(&plain(&tables)).expect("loads")
     };
     t.check("", "an offset past the data, count 0", "refused 33", list(map(3).get_pvs(1, 0)));
     t.check("", "an offset at the data's end, count 1", "[]", list(map(2).get_pvs(1, 1)));

@@ -453,20 +453,7 @@ fn segments(
             )
         });
     };
-    // axis planes: every dist, two coordinates and the same elsewhere
-    for kind in 0..3 {
-        for dist in SPECIAL {
-            for from in SPECIAL {
-                for to in SPECIAL {
-                    let plane = PlaneCase { kind, normal: [0.0; 3], dist };
-                    let (mut a, mut b) = ([1.0, 2.0, 4.0], [3.0, -5.0, 7.0]);
-                    a[kind as usize] = from;
-                    b[kind as usize] = to;
-                    one(plane, a, b);
-                }
-            }
-        }
-    }
+    on_axes(&mut one);
     if !plan.quick {
         combinations::<7>(|v| {
             let plane = PlaneCase { kind: 3, normal: [v[0], v[1], v[2]], dist: v[3] };
@@ -485,6 +472,23 @@ fn segments(
         one(plane, a, b);
     }
     tally
+}
+
+/// Axis planes: every dist, two coordinates and the same elsewhere.
+fn on_axes(one: &mut impl FnMut(PlaneCase, Vector, Vector)) {
+    for kind in 0..3 {
+        for dist in SPECIAL {
+            for from in SPECIAL {
+                for to in SPECIAL {
+                    let plane = PlaneCase { kind, normal: [0.0; 3], dist };
+                    let (mut a, mut b) = ([1.0, 2.0, 4.0], [3.0, -5.0, 7.0]);
+                    a[kind as usize] = from;
+                    b[kind as usize] = to;
+                    one(plane, a, b);
+                }
+            }
+        }
+    }
 }
 
 fn point_dist(proved: &Leaves, plan: &Plan) -> Tally {

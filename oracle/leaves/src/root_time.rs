@@ -62,39 +62,42 @@ pub fn run() -> bool {
         "inputs", "calls", "proved", "Rust inline", "Rust called", "ratio inline", "ratio called"
     );
     for (name, inputs) in &kinds {
-        let mut least = [[f64::MAX; 3]; 2];
-        for _ in 0..SLICES {
-            let slice = [
-                [
-                    independent(inputs, |x| unsafe { proved(x) }),
-                    independent(inputs, |x| x.sqrt()),
-                    independent(inputs, |x| called(x)),
-                ],
-                [
-                    dependent(inputs, |x| unsafe { proved(x) }),
-                    dependent(inputs, |x| x.sqrt()),
-                    dependent(inputs, |x| called(x)),
-                ],
-            ];
-            for way in 0..2 {
-                for side in 0..3 {
-                    least[way][side] = least[way][side].min(slice[way][side]);
-                }
-            }
-        }
+        let least = least(inputs, proved, called);
         for (way, calls) in ["independent", "dependent"].iter().enumerate() {
             let [p, inline, called] = least[way];
             println!(
-                "{:<12} {:<12} {:>8.2} {:>12.2} {:>12.2} {:>14.2} {:>14.2}",
-                name,
-                calls,
-                p,
-                inline,
-                called,
+                "{name:<12} {calls:<12} {p:>8.2} {inline:>12.2} {called:>12.2} {:>14.2} {:>14.2}",
                 p / inline,
                 p / called
             );
         }
     }
     true
+}
+
+/// The least times of all slices: calls of both kinds, of the proved root, of Rust's inlined and called.
+fn least(
+    inputs: &[f32],
+    proved: unsafe extern "C" fn(f32) -> f32,
+    called: extern "C" fn(f32) -> f32,
+) -> [[f64; 3]; 2] {
+    let mut least = [[f64::MAX; 3]; 2];
+    for _ in 0..SLICES {
+        let slice = [
+            [
+                independent(inputs, |x| unsafe { proved(x) }),
+                independent(inputs, |x| x.sqrt()),
+                independent(inputs, |x| called(x)),
+            ],
+            [
+                dependent(inputs, |x| unsafe { proved(x) }),
+                dependent(inputs, |x| x.sqrt()),
+                dependent(inputs, |x| called(x)),
+            ],
+        ];
+        for (least, times) in least.as_flattened_mut().iter_mut().zip(slice.as_flattened()) {
+            *least = least.min(*times);
+        }
+    }
+    least
 }

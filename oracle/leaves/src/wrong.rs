@@ -20,7 +20,7 @@ macro_rules! wrong {
     ($test:ident, $field:ident, $name:literal, |$($a:ident: $t:ty),*| -> $answer:ty $body:block) => {
         #[test]
         fn $test() {
-            #[allow(unused_variables, clippy::too_many_arguments)]
+            #[allow(unused_variables, clippy::too_many_arguments, clippy::neg_cmp_op_on_partial_ord)]
             unsafe extern "C" fn wrong($($a: $t),*) -> $answer $body
             assert_eq!(blamed(&Leaves { $field: wrong, ..Leaves::linked() }), [$name]);
         }

@@ -123,23 +123,22 @@ pub fn normal(seed: &mut Seed) -> [f32; 3] {
         }
     }
     match seed.below(12) {
-        0 | 1 => {
-            zeros[axis] = 1.0;
-            zeros
-        }
-        2 => {
-            zeros[axis] = -1.0;
-            zeros
-        }
-        3 => {
-            zeros[axis] = nudged(seed, 1.0, 3);
-            zeros
-        }
+        0 | 1 => zeros[axis] = 1.0,
+        2 => zeros[axis] = -1.0,
+        3 => zeros[axis] = nudged(seed, 1.0, 3),
         4 => {
             zeros[axis] = 1.0;
             zeros[(axis + 1) % 3] = float(seed);
-            zeros
         }
+        10 => zeros[axis] = float(seed),
+        kind => return slanted(seed, kind),
+    }
+    zeros
+}
+
+/// The normals that lie along no axis.
+fn slanted(seed: &mut Seed, kind: u64) -> [f32; 3] {
+    match kind {
         5 | 6 => unit(seed),
         7 => {
             let n = unit(seed);
@@ -149,17 +148,11 @@ pub fn normal(seed: &mut Seed) -> [f32; 3] {
             // the lengths at which a square or its root leaves the numbers
             let low = if seed.once_in(2) { 62 } else { -76 };
             let size = 2.0f32.powi(low + seed.below(5) as i32);
-            let n = unit(seed);
-            [n[0] * size, n[1] * size, n[2] * size]
+            unit(seed).map(|x| x * size)
         }
         9 => {
             let size = 2.0f32.powi(seed.below(250) as i32 - 125);
-            let n = unit(seed);
-            [n[0] * size, n[1] * size, n[2] * size]
-        }
-        10 => {
-            zeros[axis] = float(seed);
-            zeros
+            unit(seed).map(|x| x * size)
         }
         _ => [float(seed), float(seed), float(seed)],
     }

@@ -80,11 +80,28 @@ fn shorts(seed: &mut Seed) -> [i16; 3] {
 
 /// Tables and a layout for them. The file loads.
 pub fn make(seed: &mut Seed, plan: &Plan) -> (Tables, Layout) {
-    let mut tables = Tables::default();
-    tables.planes = (0..plan.planes).map(|_| shape::plane(seed, plan.wild)).collect();
+    let planes = (0..plan.planes).map(|_| shape::plane(seed, plan.wild)).collect();
+    let mut tables = Tables { planes, ..Tables::default() };
     textures(seed, plan, &mut tables);
     tables.visibility = visibility(seed, plan.visibility);
-    tables.render_nodes = shape::nodes(seed, plan.render_shape, plan.render_nodes, plan.planes)
+    tables.render_nodes = render_nodes(seed, plan);
+    faces(seed, plan, &mut tables);
+    tables.lightmaps = (0..plan.lightmaps).map(|_| seed.next() as u8).collect();
+    tables.clip_nodes = clip_nodes(seed, plan);
+    tables.leaves = (0..plan.leaves).map(|_| leaf(seed, plan)).collect();
+    tables.facelist = (0..plan.faces * 2).map(|_| seed.next() as u16).collect();
+    tables.models = (0..plan.models).map(|_| model(seed, plan)).collect();
+
+    let mut layout = Layout::plain();
+    tables.entities = entities(seed);
+    if plan.odd_layout {
+        odd(seed, &mut tables, &mut layout);
+    }
+    (tables, layout)
+}
+
+fn render_nodes(seed: &mut Seed, plan: &Plan) -> Vec<RenderNode> {
+    shape::nodes(seed, plan.render_shape, plan.render_nodes, plan.planes)
         .into_iter()
         .map(|node| RenderNode {
             plane: node.plane as i32,
@@ -99,10 +116,11 @@ pub fn make(seed: &mut Seed, plan: &Plan) -> (Tables, Layout) {
             face: small(seed).max(0),
             faces: seed.next() as u16,
         })
-        .collect();
-    faces(seed, plan, &mut tables);
-    tables.lightmaps = (0..plan.lightmaps).map(|_| seed.next() as u8).collect();
-    tables.clip_nodes = shape::nodes(seed, plan.clip_shape, plan.clip_nodes, plan.planes)
+        .collect()
+}
+
+fn clip_nodes(seed: &mut Seed, plan: &Plan) -> Vec<ClipNode> {
+    shape::nodes(seed, plan.clip_shape, plan.clip_nodes, plan.planes)
         .into_iter()
         .map(|node| ClipNode {
             plane: match plan.wild {
@@ -117,33 +135,25 @@ pub fn make(seed: &mut Seed, plan: &Plan) -> (Tables, Layout) {
                 Child::End => -(some(seed, &CONTENTS) as i16),
             }),
         })
-        .collect();
-    tables.leaves = (0..plan.leaves)
-        .map(|_| Leaf {
-            contents: -some(seed, &CONTENTS),
-            visibility: match seed.below(8) {
-                0 => -1,
-                1 => plan.visibility as i32 + seed.below(3) as i32 - 1,
-                2 if plan.wild > 0 => seed.below(1 << 31) as i32,
-                _ => seed.below(plan.visibility as u64 + 1) as i32,
-            }
-            .max(-1),
-            min: shorts(seed),
-            max: shorts(seed),
-            facelist: seed.next() as u16,
-            faces: seed.next() as u16,
-            sounds: (seed.next() as u32).to_le_bytes(),
-        })
-        .collect();
-    tables.facelist = (0..plan.faces * 2).map(|_| seed.next() as u16).collect();
-    tables.models = (0..plan.models).map(|_| model(seed, plan)).collect();
+        .collect()
+}
 
-    let mut layout = Layout::plain();
-    tables.entities = entities(seed);
-    if plan.odd_layout {
-        odd(seed, &mut tables, &mut layout);
+fn leaf(seed: &mut Seed, plan: &Plan) -> Leaf {
+    Leaf {
+        contents: -some(seed, &CONTENTS),
+        visibility: match seed.below(8) {
+            0 => -1,
+            1 => plan.visibility as i32 + seed.below(3) as i32 - 1,
+            2 if plan.wild > 0 => seed.below(1 << 31) as i32,
+            _ => seed.below(plan.visibility as u64 + 1) as i32,
+        }
+        .max(-1),
+        min: shorts(seed),
+        max: shorts(seed),
+        facelist: seed.next() as u16,
+        faces: seed.next() as u16,
+        sounds: (seed.next() as u32).to_le_bytes(),
     }
-    (tables, layout)
 }
 
 fn model(seed: &mut Seed, plan: &Plan) -> Model {
@@ -156,7 +166,7 @@ fn model(seed: &mut Seed, plan: &Plan) -> Model {
     };
     let (min, max, origin) = (floats(), floats(), floats());
     let mut root = |count: usize| match seed.below(8) {
-        0 | 1 | 2 => 0,
+        0..=2 => 0,
         3 => count as i32,
         4 if plan.wild > 0 => seed.below(1 << 31) as i32,
         _ => seed.below(count as u64 + 1) as i32,
@@ -231,10 +241,10 @@ fn textures(seed: &mut Seed, plan: &Plan, tables: &mut Tables) {
         data.extend_from_slice(&name);
         data.extend_from_slice(&width.to_le_bytes());
         data.extend_from_slice(&height.to_le_bytes());
-        let mut at = 40;
+        let mut at = 40u32;
         let mut pixels = 0;
         for level in 0..4 {
-            data.extend_from_slice(&(at as u32).to_le_bytes());
+            data.extend_from_slice(&at.to_le_bytes());
             let size = (width >> level) * (height >> level);
             at += size;
             pixels += size;
@@ -267,81 +277,15 @@ fn faces(seed: &mut Seed, plan: &Plan, tables: &mut Tables) {
             texture: seed.below(plan.textures as u64) as i32,
             flags: 0,
         };
-        match seed.below(if plan.wild == 0 { 2 } else { 4 }) {
-            0 => {
-                for _ in 0..corners {
-                    tables.vertices.push([
-                        floats::coordinate(seed, 0),
-                        floats::coordinate(seed, 0),
-                        floats::float(seed),
-                    ]);
-                }
-                // 0 times any float that is no number is NaN; keep those out of s and t
-                texinfo.s[2] = 0.0;
-                for vertex in &mut tables.vertices[first_vertex..] {
-                    if !vertex[2].is_finite() {
-                        vertex[2] = 3.5;
-                    }
-                }
-            }
-            1 => {
-                // an exact difference, at and around the ones where the product wraps; one that
-                // is too large goes with the special flag
-                let difference =
-                    some(seed, &[0, 1, 124, 125, 2046, 2048, 4096, 4221, 8192, 32_766, 40_000])
-                        + seed.below(3) as u32;
-                texinfo.flags = (!allowed(difference) || seed.once_in(4)) as i32;
-                texinfo.s = [1.0, 0.0, 0.0, 0.0];
-                texinfo.t = [0.0; 4];
-                for corner in 0..corners {
-                    let x = if corner == 1 { 16.0 * difference as f32 } else { 0.0 };
-                    tables.vertices.push([x, 1.0, 2.0]);
-                }
-            }
-            2 => {
-                // no number anywhere in s: accepted with extent 0
-                texinfo.s[3] = f32::NAN;
-                texinfo.t = [0.0; 4];
-                for _ in 0..corners {
-                    tables.vertices.push([1.0, 2.0, floats::coordinate(seed, 0)]);
-                }
-            }
-            _ => {
-                let mut four = || {
-                    [
-                        floats::float(seed),
-                        floats::float(seed),
-                        floats::float(seed),
-                        floats::float(seed),
-                    ]
-                };
-                texinfo.s = four();
-                texinfo.t = four();
-                texinfo.flags = 1;
-                for _ in 0..corners {
-                    let scale = some(seed, &[1.0, 100.0, 60_000.0]);
-                    tables.vertices.push([
-                        floats::coordinate(seed, plan.wild) * scale,
-                        floats::coordinate(seed, plan.wild),
-                        floats::coordinate(seed, plan.wild),
-                    ]);
-                }
-            }
-        }
+        let vertices = match seed.below(if plan.wild == 0 { 2 } else { 4 }) {
+            0 => small_face(seed, corners),
+            1 => exact_face(seed, corners, &mut texinfo),
+            2 => numberless_face(seed, corners, &mut texinfo),
+            _ => any_face(seed, plan, corners, &mut texinfo),
+        };
+        tables.vertices.extend(vertices);
         let edge = tables.edgelist.len() as i32;
-        for corner in 0..corners {
-            let vertex = (first_vertex + corner) as u16;
-            let number = tables.edges.len() as i32;
-            // the vertex on the other side is not looked at and may be outside
-            let other = if seed.once_in(4) { 65_535 } else { first_vertex as u16 };
-            if number > 0 && seed.once_in(2) {
-                tables.edges.push([other, vertex]);
-                tables.edgelist.push(-number);
-            } else {
-                tables.edges.push([vertex, other]);
-                tables.edgelist.push(number);
-            }
-        }
+        edges(seed, first_vertex, corners, tables);
         tables.texinfos.push(texinfo);
         tables.faces.push(Face {
             // a plane number equal to the plane count is accepted
@@ -359,6 +303,66 @@ fn faces(seed: &mut Seed, plan: &Plan, tables: &mut Tables) {
         tables.edgelist.extend([i32::MIN, i32::MAX, -1, 0]);
         tables.vertices.push([f32::NAN, f32::INFINITY, -0.0]);
         tables.edges.push([65_535, 65_535]);
+    }
+}
+
+/// The corners of a small face. 0 times any float that is no number is NaN; those are kept out of s
+/// and t.
+fn small_face(seed: &mut Seed, corners: usize) -> Vec<[f32; 3]> {
+    let mut corner = || {
+        let (x, y) = (floats::coordinate(seed, 0), floats::coordinate(seed, 0));
+        let z = floats::float(seed);
+        [x, y, if z.is_finite() { z } else { 3.5 }]
+    };
+    (0..corners).map(|_| corner()).collect()
+}
+
+/// An exact difference, at and around the ones where the product wraps; one that is too large goes
+/// with the special flag.
+fn exact_face(seed: &mut Seed, corners: usize, texinfo: &mut TexInfo) -> Vec<[f32; 3]> {
+    let difference = some(seed, &[0, 1, 124, 125, 2046, 2048, 4096, 4221, 8192, 32_766, 40_000])
+        + seed.below(3) as u32;
+    texinfo.flags = (!allowed(difference) || seed.once_in(4)) as i32;
+    texinfo.s = [1.0, 0.0, 0.0, 0.0];
+    texinfo.t = [0.0; 4];
+    let x = |corner| if corner == 1 { 16.0 * difference as f32 } else { 0.0 };
+    (0..corners).map(|corner| [x(corner), 1.0, 2.0]).collect()
+}
+
+/// No number anywhere in s: accepted with extent 0.
+fn numberless_face(seed: &mut Seed, corners: usize, texinfo: &mut TexInfo) -> Vec<[f32; 3]> {
+    texinfo.s[3] = f32::NAN;
+    texinfo.t = [0.0; 4];
+    (0..corners).map(|_| [1.0, 2.0, floats::coordinate(seed, 0)]).collect()
+}
+
+/// Any floats, under the special flag.
+fn any_face(seed: &mut Seed, plan: &Plan, corners: usize, texinfo: &mut TexInfo) -> Vec<[f32; 3]> {
+    texinfo.s = [0; 4].map(|_| floats::float(seed));
+    texinfo.t = [0; 4].map(|_| floats::float(seed));
+    texinfo.flags = 1;
+    let mut corner = || {
+        let scale = some(seed, &[1.0, 100.0, 60_000.0]);
+        let [x, y, z] = [0; 3].map(|_| floats::coordinate(seed, plan.wild));
+        [x * scale, y, z]
+    };
+    (0..corners).map(|_| corner()).collect()
+}
+
+/// The edges of a face from this vertex on, and its entries in the edge list.
+fn edges(seed: &mut Seed, first_vertex: usize, corners: usize, tables: &mut Tables) {
+    for corner in 0..corners {
+        let vertex = (first_vertex + corner) as u16;
+        let number = tables.edges.len() as i32;
+        // the vertex on the other side is not looked at and may be outside
+        let other = if seed.once_in(4) { 65_535 } else { first_vertex as u16 };
+        if number > 0 && seed.once_in(2) {
+            tables.edges.push([other, vertex]);
+            tables.edgelist.push(-number);
+        } else {
+            tables.edges.push([vertex, other]);
+            tables.edgelist.push(number);
+        }
     }
 }
 

@@ -186,9 +186,9 @@ impl Tables {
             places[section] = (out.len() as u32, sections[section].len() as u32);
             out.extend_from_slice(&sections[section]);
         }
-        for section in 0..SECTIONS {
-            if let (0, Some(offset)) = (places[section].1, layout.empty[section]) {
-                places[section].0 = offset;
+        for (place, empty) in places.iter_mut().zip(layout.empty) {
+            if let (0, Some(offset)) = (place.1, empty) {
+                place.0 = offset;
             }
         }
         // an empty entity section is accepted only at or past the file's end

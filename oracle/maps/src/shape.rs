@@ -59,18 +59,21 @@ pub fn plane(seed: &mut Seed, wild: u64) -> Plane {
 
 /// A table of `count` nodes over `planes` planes.
 pub fn nodes(seed: &mut Seed, shape: Shape, count: usize, planes: usize) -> Vec<Node> {
-    let mut table: Vec<Node> = match shape {
-        Shape::Balanced | Shape::Looping => {
-            let mut table = Vec::with_capacity(count);
-            if count > 0 {
-                halve(seed, count, planes, &mut table);
+    match shape {
+        Shape::Balanced => balanced(seed, count, planes),
+        Shape::Looping => {
+            let mut table = balanced(seed, count, planes);
+            for node in &mut table {
+                if seed.once_in(6) {
+                    let side = seed.below(2) as usize;
+                    node.children[side] = Child::Node(seed.below(count as u64) as usize);
+                }
             }
             table
         }
         Shape::Chain => (0..count)
             .map(|at| {
-                let next = if at + 1 < count { Child::Node(at + 1) } else { Child::End };
-                let mut children = [next, Child::End];
+                let mut children = [next(at, count), Child::End];
                 if seed.once_in(2) {
                     children.swap(0, 1);
                 }
@@ -78,36 +81,41 @@ pub fn nodes(seed: &mut Seed, shape: Shape, count: usize, planes: usize) -> Vec<
             })
             .collect(),
         Shape::Shared => (0..count)
-            .map(|at| {
-                let next = if at + 1 < count { Child::Node(at + 1) } else { Child::End };
-                Node { plane: some_plane(seed, planes), children: [next; 2] }
-            })
+            .map(|at| Node { plane: some_plane(seed, planes), children: [next(at, count); 2] })
             .collect(),
-        Shape::Random => (0..count)
-            .map(|_| {
-                let mut child = || match seed.below(4) {
-                    0 => Child::End,
-                    1 if seed.once_in(8) => Child::Node(seed.below(32_768) as usize),
-                    _ => Child::Node(seed.below(count as u64 + 1) as usize),
-                };
-                let children = [child(), child()];
-                let mut plane = some_plane(seed, planes);
-                if seed.once_in(40) {
-                    plane = planes + seed.below(3) as usize;
-                }
-                Node { plane, children }
-            })
-            .collect(),
-    };
-    if shape == Shape::Looping {
-        for at in 0..count {
-            if seed.once_in(6) {
-                let side = seed.below(2) as usize;
-                table[at].children[side] = Child::Node(seed.below(count as u64) as usize);
-            }
-        }
+        Shape::Random => (0..count).map(|_| random(seed, count, planes)).collect(),
+    }
+}
+
+fn balanced(seed: &mut Seed, count: usize, planes: usize) -> Vec<Node> {
+    let mut table = Vec::with_capacity(count);
+    if count > 0 {
+        halve(seed, count, planes, &mut table);
     }
     table
+}
+
+/// The node after this one, or the end.
+fn next(at: usize, count: usize) -> Child {
+    if at + 1 < count {
+        Child::Node(at + 1)
+    } else {
+        Child::End
+    }
+}
+
+fn random(seed: &mut Seed, count: usize, planes: usize) -> Node {
+    let mut child = || match seed.below(4) {
+        0 => Child::End,
+        1 if seed.once_in(8) => Child::Node(seed.below(32_768) as usize),
+        _ => Child::Node(seed.below(count as u64 + 1) as usize),
+    };
+    let children = [child(), child()];
+    let mut plane = some_plane(seed, planes);
+    if seed.once_in(40) {
+        plane = planes + seed.below(3) as usize;
+    }
+    Node { plane, children }
 }
 
 fn some_plane(seed: &mut Seed, planes: usize) -> usize {
@@ -126,9 +134,9 @@ fn halve(seed: &mut Seed, count: usize, planes: usize, table: &mut Vec<Node>) ->
     // near the middle
     let front = rest / 2 + if rest > 4 { seed.below(3) as usize } else { 0 };
     let parts = [front, rest - front];
-    for side in 0..2 {
-        if parts[side] > 0 {
-            table[at].children[side] = Child::Node(halve(seed, parts[side], planes, table));
+    for (side, part) in parts.into_iter().enumerate() {
+        if part > 0 {
+            table[at].children[side] = Child::Node(halve(seed, part, planes, table));
         }
     }
     at

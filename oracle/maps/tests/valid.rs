@@ -2,7 +2,7 @@
 
 use maps::{make, record, Plan, Seed, Tables};
 use richter::map::RenderChild;
-use richter::{load, Child};
+use richter::{load, Child, Map};
 
 #[global_allocator]
 static ROOM: richter::room::Room = richter::room::Room;
@@ -11,7 +11,7 @@ static ROOM: richter::room::Room = richter::room::Room;
 fn the_smallest_map_has_193_bytes_and_loads() {
     let file = Tables::smallest().file(&maps::Layout::plain());
     assert_eq!(file.len(), 193);
-    let map = load(&file).ok().expect("loads");
+    let map = load(&file).expect("loads");
     assert_eq!(map.models().len(), 1);
     assert_eq!(map.entities(), [0]);
 }
@@ -32,34 +32,8 @@ fn every_made_map_loads_and_holds_its_tables() {
         assert_eq!(map.vertices().len(), tables.vertices.len());
         assert_eq!(map.visibility(), tables.visibility);
         assert_eq!(map.lightmaps(), tables.lightmaps);
-        let nodes = map.render_nodes();
-        assert_eq!(nodes.len(), tables.render_nodes.len());
-        for (node, made) in nodes.iter().zip(&tables.render_nodes) {
-            assert_eq!(node.plane, made.plane as usize);
-            for side in 0..2 {
-                let child = made.children[side] as i32;
-                let expected = if child < 0 {
-                    RenderChild::Leaf((-1 - child) as usize)
-                } else {
-                    RenderChild::Node(child as usize)
-                };
-                assert_eq!(node.children[side], expected);
-            }
-        }
-        let nodes = map.clip_nodes();
-        assert_eq!(nodes.len(), tables.clip_nodes.len());
-        for (node, made) in nodes.iter().zip(&tables.clip_nodes) {
-            assert_eq!(node.plane, made.plane as usize);
-            for side in 0..2 {
-                let child = made.children[side] as i32;
-                let expected = if child < 0 {
-                    Child::Contents(-child as u32)
-                } else {
-                    Child::Node(child as usize)
-                };
-                assert_eq!(node.children[side], expected);
-            }
-        }
+        render_nodes_are(&map, &tables);
+        clip_nodes_are(&map, &tables);
         assert_eq!(map.texinfos().len(), tables.texinfos.len());
         for (texinfo, made) in map.texinfos().iter().zip(&tables.texinfos) {
             assert_eq!(texinfo.texture, made.texture as usize);
@@ -70,6 +44,40 @@ fn every_made_map_loads_and_holds_its_tables() {
         assert_eq!(map.edges(), tables.edges);
         assert_eq!(map.edgelist().len(), tables.edgelist.len());
         assert_eq!(map.models().len(), tables.models.len());
+    }
+}
+
+fn render_nodes_are(map: &Map, tables: &Tables) {
+    let nodes = map.render_nodes();
+    assert_eq!(nodes.len(), tables.render_nodes.len());
+    for (node, made) in nodes.iter().zip(&tables.render_nodes) {
+        assert_eq!(node.plane, made.plane as usize);
+        for side in 0..2 {
+            let child = made.children[side] as i32;
+            let expected = if child < 0 {
+                RenderChild::Leaf((-1 - child) as usize)
+            } else {
+                RenderChild::Node(child as usize)
+            };
+            assert_eq!(node.children[side], expected);
+        }
+    }
+}
+
+fn clip_nodes_are(map: &Map, tables: &Tables) {
+    let nodes = map.clip_nodes();
+    assert_eq!(nodes.len(), tables.clip_nodes.len());
+    for (node, made) in nodes.iter().zip(&tables.clip_nodes) {
+        assert_eq!(node.plane, made.plane as usize);
+        for side in 0..2 {
+            let child = made.children[side] as i32;
+            let expected = if child < 0 {
+                Child::Contents(-child as u32)
+            } else {
+                Child::Node(child as usize)
+            };
+            assert_eq!(node.children[side], expected);
+        }
     }
 }
 

@@ -278,24 +278,10 @@ fn answered(board: &mut Board, asked: &Asked, seed: &mut Seed, rust: &richter::M
     };
     for model in 0..rust.models().len() {
         for index in 0..3 {
-            let hull = match rust.hull(model, index) {
-                Ok(hull) => hull,
-                Err(refusal) => {
-                    let text = || format!("hull {index} of model {model}");
-                    note("Rust, hulls of what passed", Some(refusal), &text);
-                    continue;
-                }
-            };
-            for _ in 0..ASKED {
-                let (p, s) = (tables::point(seed, &planes), tables::segment(seed, &planes));
-                let text =
-                    || format!("hull {index} of model {model}, point {}", walks::bits_of(&p));
-                let value = hull.contents_at_point(p).value;
-                note("Rust, contents of what passed", value.err(), &text);
-                let text =
-                    || format!("hull {index} of model {model}, segment {}", walks::bits_of(&s));
-                let value = hull.trace([s[0], s[1], s[2]], [s[3], s[4], s[5]]).value;
-                note("Rust, traces of what passed", value.err(), &text);
+            let text = || format!("hull {index} of model {model}");
+            match rust.hull(model, index) {
+                Ok(hull) => hull_answered(&mut note, seed, &planes, &hull, &text),
+                Err(refusal) => note("Rust, hulls of what passed", Some(refusal), &text),
             }
         }
     }
@@ -311,5 +297,23 @@ fn answered(board: &mut Board, asked: &Asked, seed: &mut Seed, rust: &richter::M
         let row = rust.get_pvs(leaf, count);
         let text = || format!("leaf {leaf}, leaf count {count}");
         note("Rust, rows of what passed", row.err(), &text);
+    }
+}
+
+/// Walks and traces of one hull.
+fn hull_answered(
+    note: &mut impl FnMut(&str, Option<richter::Refusal>, &dyn Fn() -> String),
+    seed: &mut Seed,
+    planes: &[maps::record::Plane],
+    hull: &richter::Hull,
+    name: &dyn Fn() -> String,
+) {
+    for _ in 0..ASKED {
+        let (p, s) = (tables::point(seed, planes), tables::segment(seed, planes));
+        let text = || format!("{}, point {}", name(), walks::bits_of(&p));
+        note("Rust, contents of what passed", hull.contents_at_point(p).value.err(), &text);
+        let text = || format!("{}, segment {}", name(), walks::bits_of(&s));
+        let value = hull.trace([s[0], s[1], s[2]], [s[3], s[4], s[5]]).value;
+        note("Rust, traces of what passed", value.err(), &text);
     }
 }

@@ -60,13 +60,8 @@ fn on_world(board: &mut Board, calls: &Calls, seed: &mut Seed, case: u64) {
     }
 }
 
-/// Small trees, chains around 512 nodes, shared branches and tables with loops, children and planes
-/// outside; now and then with a map record made by hand.
-fn on_table(board: &mut Board, calls: &Calls, seed: &mut Seed, case: u64) {
-    let wild = [0, 2, 8][seed.below(3) as usize];
-    let planes = tables::few_planes(seed, wild);
-    let p = tables::point(seed, &planes);
-    let nodes = match seed.below(10) {
+fn some_nodes(seed: &mut Seed, planes: &[Plane], p: [f32; 3]) -> Vec<shape::Node> {
+    match seed.below(10) {
         0 => tables::small_any(seed, planes.len()),
         1 => {
             let count = 1 + seed.below(40) as usize;
@@ -74,14 +69,23 @@ fn on_table(board: &mut Board, calls: &Calls, seed: &mut Seed, case: u64) {
         }
         2 if seed.once_in(4) => {
             let count = 509 + seed.below(6) as usize;
-            tables::chain_along(seed, &planes, count, p)
+            tables::chain_along(seed, planes, count, p)
         }
         2 => shape::nodes(seed, Shape::Chain, 40, planes.len()),
         _ => {
             let count = 1 + seed.below(20) as usize;
             shape::nodes(seed, Shape::Balanced, count, planes.len())
         }
-    };
+    }
+}
+
+/// Small trees, chains around 512 nodes, shared branches and tables with loops, children and planes
+/// outside; now and then with a map record made by hand.
+fn on_table(board: &mut Board, calls: &Calls, seed: &mut Seed, case: u64) {
+    let wild = [0, 2, 8][seed.below(3) as usize];
+    let planes = tables::few_planes(seed, wild);
+    let p = tables::point(seed, &planes);
+    let nodes = some_nodes(seed, &planes, p);
     let made = tables::of_nodes(seed, planes, &nodes);
     let loads = richter::load(&made.file).is_ok();
     let mut map = made.map;

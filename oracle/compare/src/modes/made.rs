@@ -114,8 +114,12 @@ fn as_said(board: &mut Board, seed: &mut Seed, (start, count): (u32, u64), file:
 
 /// The first thing in which the Rust's tables are not what the numbers say.
 fn records_differ(map: &richter::Map, start: u32, count: u64) -> Option<String> {
-    let numbers = made::numbers(start, count);
-    let count = count as usize;
+    nodes_differ(map, made::numbers(start, count)).or_else(|| rest_differs(map, count as usize))
+}
+
+/// The same of planes and nodes.
+fn nodes_differ(map: &richter::Map, numbers: Vec<u32>) -> Option<String> {
+    let count = numbers.len();
     let (planes, render, clip) = (map.planes(), map.render_nodes(), map.clip_nodes());
     if [planes.len(), render.len(), clip.len()] != [count; 3] {
         return Some("a count".to_string());
@@ -139,6 +143,11 @@ fn records_differ(map: &richter::Map, start: u32, count: u64) -> Option<String> 
             return Some(format!("clip node {at}"));
         }
     }
+    None
+}
+
+/// The same of leaves, the model and the other sections.
+fn rest_differs(map: &richter::Map, count: usize) -> Option<String> {
     let leaves = map.leaves();
     let bare = |leaf: &richter::map::Leaf| {
         leaf.vis_offset.is_none() && leaf.facelist_id == 0 && leaf.facelist_count == 0

@@ -139,8 +139,8 @@ fn some_points(seed: &mut Seed, planes: &[Plane]) -> Vec<f32> {
         if seed.once_in(8) {
             centre = tables::point(seed, planes);
         }
-        for at in 0..3 {
-            floats.push(centre[at] + near * floats::half(seed));
+        for x in centre {
+            floats.push(x + near * floats::half(seed));
         }
         if seed.once_in(30) {
             let last = floats.len() - 1 - seed.below(3) as usize;
@@ -188,21 +188,10 @@ pub fn one(
         true => Err(22),
         false => points::contents_points(&asked.paper(), &on_page, &points),
     });
-    let mut side = Side::Paper;
-    let asks = !matches!(expected, Err(22 | 24));
-    if let (Some(rust), true) = (rust, asks) {
-        let points: Vec<[f32; 3]> = floats.chunks(3).map(three).collect();
-        if let Some(said) = by_the_rust(rust, &points) {
-            side = Side::Rust;
-            let page = expected.clone().map(|(codes, _)| codes);
-            let difference =
-                (page != said).then(|| format!("paper {}, Rust {}", shown(&page), shown(&said)));
-            board.count_paper(CALL, difference, input);
-        }
-        if let Ok((_, reads)) = &expected {
-            nodes_met(board, asked, (&on_page, rust), &points, *reads, input);
-        }
-    }
+    let side = match (rust, &expected) {
+        (None, _) | (_, Err(22 | 24)) => Side::Paper,
+        (Some(rust), _) => beside(board, asked, (&on_page, rust), floats, &expected, input),
+    };
     let mut wanted = vec![0xa5; lent];
     if let Ok((codes, _)) = &expected {
         wanted[..codes.len()].copy_from_slice(codes);
@@ -214,6 +203,30 @@ pub fn one(
         format!("answers {refusal} {out:?} {}, expected {}", shown(&list), shown(&expected))
     });
     board.count(CALL, (refusal, side), difference, input);
+}
+
+/// The program on paper beside the Rust: whose answer counts.
+fn beside(
+    board: &mut Board,
+    asked: &Asked,
+    hulls: (&walk::Hull, &Hull),
+    floats: &[f32],
+    expected: &Result<(Vec<u8>, u64), u32>,
+    input: impl Fn() -> (usize, String),
+) -> Side {
+    let points: Vec<[f32; 3]> = floats.chunks(3).map(three).collect();
+    let mut side = Side::Paper;
+    if let Some(said) = by_the_rust(hulls.1, &points) {
+        side = Side::Rust;
+        let page = expected.clone().map(|(codes, _)| codes);
+        let difference =
+            (page != said).then(|| format!("paper {}, Rust {}", shown(&page), shown(&said)));
+        board.count_paper(CALL, difference, &input);
+    }
+    if let Ok((_, reads)) = expected {
+        nodes_met(board, asked, hulls, &points, *reads, input);
+    }
+    side
 }
 
 /// Where the root passes the tree check, the reads are the different nodes of the Rust's walks.

@@ -91,7 +91,7 @@ fn groups_differ(page: &paper::Map, rust: &richter::Map) -> Option<String> {
         found.sort();
         found
     };
-    let mut wanted: BTreeMap<Name, Frames> = BTreeMap::new();
+    let mut wanted: Groups = BTreeMap::new();
     for (at, name) in names.iter().enumerate().filter(|(_, name)| name.first() == Some(&b'+')) {
         let number = numbers[at];
         let both = Frames::Animated { primary: frames(number, 0), alternate: frames(number, 1) };
@@ -105,18 +105,29 @@ fn groups_differ(page: &paper::Map, rust: &richter::Map) -> Option<String> {
             return Some(format!("static texture {number}: Rust {name:?}"));
         }
     }
-    let mut found = BTreeMap::new();
-    for (name, frames) in moving {
-        let mut frames = frames.clone();
-        if let Frames::Animated { primary, alternate } = &mut frames {
-            primary.sort();
-            alternate.sort();
-        }
-        found.insert(name.as_bytes().to_vec(), frames);
-    }
+    let found: Groups = moving.iter().map(in_order).collect();
     if found != wanted || fixed.len() + moving.len() != statics as usize + wanted.len() {
         return Some(format!("groups: Rust {}, paper {}", shown(&found), shown(&wanted)));
     }
+    infos_differ(rust, &names, &numbers)
+}
+
+/// The groups of frames by their stems.
+type Groups = BTreeMap<Name, Frames>;
+
+/// A group of the Rust's with its frames in order.
+fn in_order((name, frames): &(String, Frames)) -> (Name, Frames) {
+    let mut frames = frames.clone();
+    if let Frames::Animated { primary, alternate } = &mut frames {
+        primary.sort();
+        alternate.sort();
+    }
+    (name.as_bytes().to_vec(), frames)
+}
+
+/// The texture infos' own numbers in the Rust beside those on paper.
+fn infos_differ(rust: &richter::Map, names: &[Name], numbers: &[u64]) -> Option<String> {
+    let textures = rust.textures();
     for (info, own) in rust.texinfos().iter().zip(rust.own_texture_numbers()) {
         let name = &names[info.texture];
         let same = match name.first() {

@@ -92,8 +92,7 @@ fn both_calls(
     (answers, lists): (&str, &str),
     words: usize,
     found: (Found, Found),
-    call: impl FnOnce(&mut [u64]) -> u32,
-    list_call: impl FnOnce(&mut [u32], &mut [u64]) -> u32,
+    (call, list_call): (impl FnOnce(&mut [u64]) -> u32, impl FnOnce(&mut [u32], &mut [u64]) -> u32),
     input: impl Fn() -> (usize, String),
 ) {
     let (rust, paper) = found;
@@ -136,8 +135,10 @@ pub fn contents(
         ("bsp_contents", "bsp_contents_nodes"),
         WALK_WORDS,
         (rust, paper),
-        |out| (calls.contents)(file, map, hull, &p, out),
-        |list, out| (calls.contents_nodes)(file, map, hull, &p, list, out),
+        (
+            |out| (calls.contents)(file, map, hull, &p, out),
+            |list, out| (calls.contents_nodes)(file, map, hull, &p, list, out),
+        ),
         || asked.input(format!("hull {}, point {}", shown(&hull), bits_of(&p))),
     );
 }
@@ -175,8 +176,10 @@ pub fn trace(
         ("bsp_trace", "bsp_trace_nodes"),
         TRACE_WORDS,
         (found.flatten(), paper),
-        |out| (calls.trace)(file, map, hull, &segment, out),
-        |list, out| (calls.trace_nodes)(file, map, hull, &segment, list, out),
+        (
+            |out| (calls.trace)(file, map, hull, &segment, out),
+            |list, out| (calls.trace_nodes)(file, map, hull, &segment, list, out),
+        ),
         input,
     );
 }
@@ -242,8 +245,10 @@ pub fn find_leaf(
         ("bsp_find_leaf", "bsp_find_leaf_nodes"),
         WALK_WORDS,
         (rust, paper),
-        |out| (calls.find_leaf)(file, map, root, &p, out),
-        |list, out| (calls.find_leaf_nodes)(file, map, root, &p, list, out),
+        (
+            |out| (calls.find_leaf)(file, map, root, &p, out),
+            |list, out| (calls.find_leaf_nodes)(file, map, root, &p, list, out),
+        ),
         || asked.input(format!("root {root}, point {}", bits_of(&p))),
     );
 }
@@ -323,8 +328,8 @@ pub fn from_roots(
     s: [f32; 6],
 ) {
     let counts = [paper::RENDER_NODES, paper::CLIP_NODES].map(|at| asked.paper().count(at));
-    for table in 0..2 {
-        let root = tables::root(seed, counts[table]);
+    for (table, count) in counts.into_iter().enumerate() {
+        let root = tables::root(seed, count);
         let words = hull_words(seed, table as u64, root);
         let hull = rust.table(table).with_root(root as usize);
         contents(board, asked, seed, &words, Some(&hull), p);

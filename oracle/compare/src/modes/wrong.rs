@@ -72,8 +72,9 @@ fn a_sample_is_replayed() {
     let board = replay::replay(&Calls::linked(), &sample.text);
     assert_eq!(board.blamed(), Vec::<String>::new());
     assert_eq!(board.lines().len(), 13);
-    let trace: fn(&[u8], &[u32], &[u64], &[f32], &mut [u64]) -> u32 =
-        |f, m, h, s, o| changed(calls::trace(f, m, h, s, o), o, |o| o[0] += (o[0] == 6) as u64);
+    fn trace(f: &[u8], m: &[u32], h: &[u64], s: &[f32], o: &mut [u64]) -> u32 {
+        changed(calls::trace(f, m, h, s, o), o, |o| o[0] += (o[0] == 6) as u64)
+    }
     let board = replay::replay(&Calls { trace, ..Calls::linked() }, &sample.text);
     assert_eq!(board.blamed(), ["bsp_trace"]);
 }

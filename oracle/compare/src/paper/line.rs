@@ -109,20 +109,9 @@ impl Checking<'_> {
     }
 
     /// The recursive hull check: whether tracing may go on.
+    #[allow(clippy::manual_clamp)] // as the published text has it
     fn check(&mut self, child: Child, left: usize, part: Part) -> Answer<bool> {
-        let Child::Node(at) = child else {
-            match self.nodes.end(child)? {
-                SOLID => self.line.start_solid = true,
-                contents => {
-                    self.line.all_solid = false;
-                    match contents {
-                        EMPTY => self.line.in_open = true,
-                        _ => self.line.in_water = true,
-                    }
-                }
-            }
-            return Ok(true);
-        };
+        let Child::Node(at) = child else { return self.meet(child) };
         let (children, plane) = self.node(at, left)?;
         let (t1, t2) = (plane.point_dist(part.p1), plane.point_dist(part.p2));
         let near = side(t1);
@@ -137,7 +126,7 @@ impl Checking<'_> {
         if frac > 1.0 {
             frac = 1.0;
         }
-        let (mut midf, mut mid) = part.at(frac);
+        let (midf, mid) = part.at(frac);
         if !self.check(children[near], left - 1, Part { p2f: midf, p2: mid, ..part })? {
             return Ok(false);
         }
@@ -151,6 +140,28 @@ impl Checking<'_> {
             0 => (plane.normal(), plane.dist),
             _ => (plane.normal().map(|x| 0.0 - x), 0.0 - plane.dist),
         };
+        self.back_off(part, frac)?;
+        Ok(false)
+    }
+
+    /// An end of the tree: what it sets, and that tracing may go on.
+    fn meet(&mut self, child: Child) -> Answer<bool> {
+        match self.nodes.end(child)? {
+            SOLID => self.line.start_solid = true,
+            contents => {
+                self.line.all_solid = false;
+                match contents {
+                    EMPTY => self.line.in_open = true,
+                    _ => self.line.in_water = true,
+                }
+            }
+        }
+        Ok(true)
+    }
+
+    /// The impact, backed off until it lies in no solid.
+    fn back_off(&mut self, part: Part, mut frac: f32) -> Answer<()> {
+        let (mut midf, mut mid) = part.at(frac);
         while self.contents(Child::Node(self.root), mid)? == SOLID {
             frac -= STEP;
             if frac.is_nan() || frac < 0.0 {
@@ -159,7 +170,7 @@ impl Checking<'_> {
             (midf, mid) = part.at(frac);
         }
         (self.line.fraction, self.line.end) = (midf, mid);
-        Ok(false)
+        Ok(())
     }
 }
 

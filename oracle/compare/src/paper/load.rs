@@ -64,7 +64,7 @@ pub fn entry(r: &mut Reader, section: usize) -> Answer<(u32, u32)> {
     if size < 0 {
         return Err(4);
     }
-    if size as u64 % record_size(section) != 0 {
+    if !(size as u64).is_multiple_of(record_size(section)) {
         return Err(5);
     }
     Ok((offset as u32, size as u32))

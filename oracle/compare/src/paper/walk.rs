@@ -153,7 +153,7 @@ impl Nodes<'_> {
         match self.table {
             Table::Box(mins, maxs) => {
                 let axis = index as usize / 2;
-                let bound = if index % 2 == 0 { maxs } else { mins };
+                let bound = if index.is_multiple_of(2) { maxs } else { mins };
                 Ok(Plane::axis(axis, bound[axis]))
             }
             _ if index >= self.map.count(PLANES) => Err(30),
@@ -180,7 +180,7 @@ pub fn box_node(index: u64) -> Node {
     let next = Child::Node(index + 1);
     let children = match index {
         5 => [solid, empty],
-        _ if index % 2 == 0 => [empty, next],
+        _ if index.is_multiple_of(2) => [empty, next],
         _ => [next, empty],
     };
     Node { plane: index, children }

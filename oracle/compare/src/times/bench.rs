@@ -318,18 +318,27 @@ fn contents(
         assert_eq!(calls::contents(file, map, words, p, &mut out), 0, "contents");
         visits += out[1];
     }
-    let ours = || {
-        let mut sum = 0;
-        for p in points {
-            let point = black_box(*p);
-            calls::contents(file, map, words, &point, &mut out);
-            sum += out[0];
-        }
-        sum
-    };
-    let mut rust = || points.iter().map(|p| hull.bare_contents(black_box(*p)) as u64).sum();
+    let ours = || walked((file, map, words), points);
+    let mut rust = || rust_walked(hull, points);
     let name = format!("contents, {nodes}");
     table.line(&name, (points.len(), visits), ours, Some(&mut rust));
+}
+
+/// The contents by the file, summed.
+fn walked((file, map, words): Lent, points: &[[f32; 3]]) -> u64 {
+    let mut out = [0; 2];
+    let mut sum = 0;
+    for p in points {
+        let point = black_box(*p);
+        calls::contents(file, map, words, &point, &mut out);
+        sum += out[0];
+    }
+    sum
+}
+
+/// The same of the Rust.
+fn rust_walked(hull: &Hull, points: &[[f32; 3]]) -> u64 {
+    points.iter().map(|p| hull.bare_contents(black_box(*p)) as u64).sum()
 }
 
 fn traces(
@@ -341,7 +350,6 @@ fn traces(
 ) {
     let mut out = [0; TRACE_WORDS];
     let mut visits = 0;
-    let ends = |s: &[f32; 6]| ([s[0], s[1], s[2]], [s[3], s[4], s[5]]);
     for s in segments {
         assert_eq!(calls::trace(file, map, words, s, &mut out), 0, "trace");
         visits += out[0];
@@ -353,25 +361,36 @@ fn traces(
             break;
         }
     }
-    let ours = || {
-        let mut sum = 0;
-        for s in segments {
-            let segment = black_box(*s);
-            calls::trace(file, map, words, &segment, &mut out);
-            sum += out[2];
-        }
-        sum
-    };
-    let mut rust = || {
-        let mut sum = 0;
-        for s in segments {
-            let (start, end) = ends(black_box(s));
-            sum += black_box(hull.bare_trace(start, end)).start_solid() as u64;
-        }
-        sum
-    };
+    let ours = || traced((file, map, words), segments);
+    let mut rust = || rust_traced(hull, segments);
     let name = format!("trace, {name}");
     table.line(&name, (segments.len(), visits), ours, Some(&mut rust));
+}
+
+fn ends(s: &[f32; 6]) -> ([f32; 3], [f32; 3]) {
+    ([s[0], s[1], s[2]], [s[3], s[4], s[5]])
+}
+
+/// The traces by the file: the sum of one word of each.
+fn traced((file, map, words): Lent, segments: &[[f32; 6]]) -> u64 {
+    let mut out = [0; TRACE_WORDS];
+    let mut sum = 0;
+    for s in segments {
+        let segment = black_box(*s);
+        calls::trace(file, map, words, &segment, &mut out);
+        sum += out[2];
+    }
+    sum
+}
+
+/// The same of the Rust.
+fn rust_traced(hull: &Hull, segments: &[[f32; 6]]) -> u64 {
+    let mut sum = 0;
+    for s in segments {
+        let (start, end) = ends(black_box(s));
+        sum += black_box(hull.bare_trace(start, end)).start_solid() as u64;
+    }
+    sum
 }
 
 /// Whole-line traces, ours alone: the Rust has none. Beside them stands our own `bsp_trace` of the
@@ -392,16 +411,7 @@ fn lines(table: &mut Table, (file, map, words): Lent, name: &str, segments: &[[f
             }
             sum
         }));
-        let mut other = [0; TRACE_WORDS];
-        least[1] = least[1].min(timed(&mut || {
-            let mut sum = 0;
-            for s in segments {
-                let segment = black_box(*s);
-                calls::trace(file, map, words, &segment, &mut other);
-                sum += other[2];
-            }
-            sum
-        }));
+        least[1] = least[1].min(timed(&mut || traced((file, map, words), segments)));
     }
     table.row(&format!("*line, {name}"), (segments.len(), segments.len() as u64), least, true);
 }
@@ -480,17 +490,8 @@ fn order_contents(
         }
         sum
     };
-    let mut rust =
-        |points: &[[f32; 3]]| points.iter().map(|p| hull.bare_contents(black_box(*p)) as u64).sum();
-    let mut other = |points: &[[f32; 3]]| {
-        let mut sum = 0;
-        for p in points {
-            let point = black_box(*p);
-            calls::contents(file, map, words, &point, &mut by_file);
-            sum += by_file[0];
-        }
-        sum
-    };
+    let mut rust = |points: &[[f32; 3]]| rust_walked(hull, points);
+    let mut other = |points: &[[f32; 3]]| walked((file, map, words), points);
     let name = format!("order contents, {nodes}");
     let names = [&name, "  beside the file"];
     three_sides(table, names, points, visits, [&mut ours, &mut rust, &mut other]);
@@ -506,7 +507,6 @@ fn order_traces(
 ) {
     let (mut out, mut by_file) = ([0; TRACE_WORDS], [0; TRACE_WORDS]);
     let mut visits = 0;
-    let ends = |s: &[f32; 6]| ([s[0], s[1], s[2]], [s[3], s[4], s[5]]);
     for s in segments {
         assert_eq!(calls::order_trace(file, map, list, 0, s, &mut out), 0, "trace");
         calls::trace(file, map, words, s, &mut by_file);
@@ -522,23 +522,8 @@ fn order_traces(
         }
         sum
     };
-    let mut rust = |segments: &[[f32; 6]]| {
-        let mut sum = 0;
-        for s in segments {
-            let (start, end) = ends(black_box(s));
-            sum += black_box(hull.bare_trace(start, end)).start_solid() as u64;
-        }
-        sum
-    };
-    let mut other = |segments: &[[f32; 6]]| {
-        let mut sum = 0;
-        for s in segments {
-            let segment = black_box(*s);
-            calls::trace(file, map, words, &segment, &mut by_file);
-            sum += by_file[2];
-        }
-        sum
-    };
+    let mut rust = |segments: &[[f32; 6]]| rust_traced(hull, segments);
+    let mut other = |segments: &[[f32; 6]]| traced((file, map, words), segments);
     let name = format!("order trace, {name}");
     let names = [&name, "  beside the file"];
     three_sides(table, names, segments, visits, [&mut ours, &mut rust, &mut other]);
@@ -614,66 +599,77 @@ fn team(table: &mut Table, seed: &mut Seed, (file, map): (&[u8], &[u32]), count:
     let teams: Vec<[u64; 16]> =
         (0..TEAMS).map(|_| [0; 16].map(|_| 1 + seed.below(count))).collect();
     let mut list = vec![0u32; 16 * count as usize];
-    let mut out = [0; 1];
-    let mut entries = 0;
-    for leaves in &teams {
-        let refusal = calls::pvs_team(file, map, leaves, count, &mut list, &mut out);
-        assert_eq!(refusal, 0, "pvs_team");
-        entries += out[0];
-    }
-    // every entry counts with its place
-    let sum_of = |list: &[u32]| {
-        let places = list.iter().enumerate();
-        places.map(|(place, leaf)| (1 + place as u64) * *leaf as u64).sum::<u64>()
-    };
-    let mut pooled = || {
-        let mut sum = 0;
-        for leaves in &teams {
-            calls::pvs_team(file, map, black_box(leaves), count, &mut list, &mut out);
-            sum += sum_of(&list[..out[0] as usize]);
-        }
-        sum
-    };
+    let (_, entries) = pooled((file, map), &teams, count, &mut list);
+    let mut ours = || pooled((file, map), &teams, count, &mut list).0;
     let mut lists = vec![0u32; 16 * count as usize];
-    let mut told = [0; 1];
-    let mut single = |leaves: &[u64; 16], lists: &mut Vec<u32>| {
-        lists.resize(16 * count as usize, 0);
-        let mut filled = 0;
-        for leaf in leaves {
-            let room = &mut lists[filled..];
-            assert_eq!(calls::pvs(file, map, black_box(*leaf), count, room, &mut told), 0);
-            filled += told[0] as usize;
-        }
-        lists.truncate(filled);
-    };
     let mut sorted = || {
         let mut sum = 0;
         for leaves in &teams {
-            single(leaves, &mut lists);
+            one_by_one((file, map), leaves, count, &mut lists);
             lists.sort_unstable();
             lists.dedup();
-            sum += sum_of(&lists);
+            sum += placed(&lists);
         }
         sum
     };
-    table.line("team, sorted", (TEAMS, entries), &mut pooled, Some(&mut sorted));
-    let mut marks = vec![0u8; count as usize];
-    let mut pool = Vec::new();
+    table.line("team, sorted", (TEAMS, entries), &mut ours, Some(&mut sorted));
+    let (mut marks, mut pool) = (vec![0; count as usize], Vec::new());
     let mut marked = || {
         let mut sum = 0;
         for leaves in &teams {
-            single(leaves, &mut lists);
-            marks.fill(0);
-            for leaf in &lists {
-                marks[*leaf as usize] = 1;
-            }
-            pool.clear();
-            pool.extend((0..count as u32).filter(|leaf| marks[*leaf as usize] == 1));
-            sum += sum_of(&pool);
+            one_by_one((file, map), leaves, count, &mut lists);
+            mark(&lists, &mut marks, &mut pool);
+            sum += placed(&pool);
         }
         sum
     };
-    table.line("team, marked", (TEAMS, entries), &mut pooled, Some(&mut marked));
+    table.line("team, marked", (TEAMS, entries), &mut ours, Some(&mut marked));
+}
+
+/// The pooled lists of teams: their sum, and how many entries they have.
+fn pooled(
+    (file, map): (&[u8], &[u32]),
+    teams: &[[u64; 16]],
+    count: u64,
+    list: &mut [u32],
+) -> (u64, u64) {
+    let (mut sum, mut entries, mut out) = (0, 0, [0; 1]);
+    for leaves in teams {
+        let refusal = calls::pvs_team(file, map, black_box(leaves), count, list, &mut out);
+        assert_eq!(refusal, 0, "pvs_team");
+        sum += placed(&list[..out[0] as usize]);
+        entries += out[0];
+    }
+    (sum, entries)
+}
+
+/// The sum of a list in which every entry counts with its place.
+fn placed(list: &[u32]) -> u64 {
+    let places = list.iter().enumerate();
+    places.map(|(place, leaf)| (1 + place as u64) * *leaf as u64).sum()
+}
+
+/// The lists of 16 players, one after the other.
+fn one_by_one((file, map): (&[u8], &[u32]), leaves: &[u64; 16], count: u64, lists: &mut Vec<u32>) {
+    let mut told = [0; 1];
+    lists.resize(16 * count as usize, 0);
+    let mut filled = 0;
+    for leaf in leaves {
+        let room = &mut lists[filled..];
+        assert_eq!(calls::pvs(file, map, black_box(*leaf), count, room, &mut told), 0);
+        filled += told[0] as usize;
+    }
+    lists.truncate(filled);
+}
+
+/// The leaves of lists in order and each once, by a byte for each leaf.
+fn mark(lists: &[u32], marks: &mut [u8], pool: &mut Vec<u32>) {
+    marks.fill(0);
+    for leaf in lists {
+        marks[*leaf as usize] = 1;
+    }
+    pool.clear();
+    pool.extend((0..marks.len() as u32).filter(|leaf| marks[*leaf as usize] == 1));
 }
 
 /// Ours alone: the Rust has no such check.
@@ -729,7 +725,21 @@ fn many_points(name: &str, slices: u64, seed: &mut Seed, file: &[u8]) -> bool {
 }
 
 /// Each side by turns on every 1,024 points, all of them in a slice; of each 1,024 the least time of all
-/// slices counts, and the table has their sum.
+/// slices counts: their sum. All points lie between two times that the same ones are asked, so that their
+/// sides are not remembered.
+fn by_turns(slices: u64, points: &[[f32; 3]], mut sides: [Part<[f32; 3]>; 3]) -> [f64; 3] {
+    let mut least = vec![[f64::MAX; 3]; points.len().div_ceil(AT_ONCE[0])];
+    for _ in 0..slices {
+        for (least, some) in least.iter_mut().zip(points.chunks(AT_ONCE[0])) {
+            for (least, side) in least.iter_mut().zip(&mut sides) {
+                *least = least.min(timed(&mut || side(some)));
+            }
+        }
+    }
+    [0, 1, 2].map(|side| least.iter().map(|times| times[side]).sum())
+}
+
+/// Many points, `n` of them a call, beside a call for each point and the Rust.
 fn at_once(
     (name, kind): (&str, String),
     (slices, n): (u64, usize),
@@ -737,7 +747,7 @@ fn at_once(
     hull: &Hull,
     points: &[[f32; 3]],
 ) -> bool {
-    let (mut list, mut reads, mut out) = (vec![0u8; n], [0; 1], [0; 2]);
+    let (mut list, mut reads) = (vec![0u8; n], [0; 1]);
     let mut all_reads = 0;
     let mut many = |points: &[[f32; 3]]| {
         let mut sum = 0;
@@ -749,32 +759,14 @@ fn at_once(
         }
         sum
     };
-    let mut alone = |points: &[[f32; 3]]| {
-        let mut sum = 0;
-        for p in points {
-            let point = black_box(*p);
-            calls::contents(file, map, words, &point, &mut out);
-            sum += out[0];
-        }
-        sum
-    };
-    let rust =
-        |points: &[[f32; 3]]| points.iter().map(|p| hull.bare_contents(black_box(*p)) as u64).sum();
+    let mut alone = |points: &[[f32; 3]]| walked((file, map, words), points);
+    let mut rust = |points: &[[f32; 3]]| rust_walked(hull, points);
     let one = many(points);
     if one != alone(points) || one != rust(points) {
         println!("{name:<9} {kind:<14} {n:>6} the answers differ");
         return false;
     }
-    // all points between two times that the same ones are asked, so that their sides are not remembered
-    let mut least = vec![[f64::MAX; 3]; points.len().div_ceil(AT_ONCE[0])];
-    for _ in 0..slices {
-        for (least, some) in least.iter_mut().zip(points.chunks(AT_ONCE[0])) {
-            least[0] = least[0].min(timed(&mut || many(some)));
-            least[1] = least[1].min(timed(&mut || alone(some)));
-            least[2] = least[2].min(timed(&mut || rust(some)));
-        }
-    }
-    let sums = [0, 1, 2].map(|side| least.iter().map(|times| times[side]).sum::<f64>());
+    let sums = by_turns(slices, points, [&mut many, &mut alone, &mut rust]);
     let reads = all_reads as f64 / (points.len() as u64 * (slices + 1)) as f64;
     let [many, alone, rust] = sums.map(|time| time / points.len() as f64);
     println!(
