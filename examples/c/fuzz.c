@@ -173,19 +173,18 @@ static uint32_t *map_words;
 
 /* ---- the wrappers, one after the other ---- */
 
-static void records(void)
-{
-    static const char allowed[] = " 20 23 ";
-    uint64_t i = number();
-    uint64_t *words = (uint64_t *)buffer(BSP_RECORD_WORDS * sizeof *words);
+/* A record of index i by its wrapper, beside its words by the word call. */
 #define RECORD(call, type, section, compared)                                                         \
     do {                                                                                              \
         type *record = (type *)buffer(sizeof *record);                                                \
         uint32_t r = call(map, i, record), w;                                                         \
-        noted(#call, r, allowed, record, sizeof *record);                                             \
+        noted(#call, r, " 20 23 ", record, sizeof *record);                                           \
         w = bsp_record(WORDS_LENT, section, i, words, BSP_RECORD_WORDS);                              \
         same(#call, r, w, r != BSP_OK || (compared));                                                 \
     } while (0)
+
+static void records_to_faces(uint64_t i, uint64_t *words)
+{
     RECORD(bsp_map_plane, struct bsp_plane, BSP_PLANES,
            record->kind == words[BSP_PLANE_KIND] && bsp_word(record->dist) == words[BSP_PLANE_DIST]);
     RECORD(bsp_map_vertex, struct bsp_vertex, BSP_VERTICES, bsp_word(record->point[2]) == words[2]);
@@ -200,6 +199,10 @@ static void records(void)
            record->light_styles[3] == words[BSP_FACE_LIGHT_STYLES + 3]
                && record->lightmap == words[BSP_FACE_LIGHTMAP]
                && record->extents[1] == (int64_t)words[BSP_FACE_EXTENTS + 1]);
+}
+
+static void records_from_clip_nodes(uint64_t i, uint64_t *words)
+{
     RECORD(bsp_map_clip_node, struct bsp_clip_node, BSP_CLIP_NODES,
            record->front.number == words[BSP_CLIP_NODE_FRONT]
                && (uint64_t)record->back.is_end == words[BSP_CLIP_NODE_BACK_TAG]);
@@ -213,6 +216,14 @@ static void records(void)
     RECORD(bsp_map_model, struct bsp_model, BSP_MODELS,
            record->hull_roots[2] == words[BSP_MODEL_HULL_ROOTS + 2]
                && record->last_leaf == words[BSP_MODEL_LAST_LEAF]);
+}
+
+static void records(void)
+{
+    uint64_t i = number();
+    uint64_t *words = (uint64_t *)buffer(BSP_RECORD_WORDS * sizeof *words);
+    records_to_faces(i, words);
+    records_from_clip_nodes(i, words);
     if (front_changed())
         wrong("records", "bytes before a buffer changed", 0);
 }
@@ -483,16 +494,11 @@ static size_t damage(uint8_t *file, size_t length)
     return below(10) == 0 ? (size_t)below(length + 1) : length;
 }
 
-/* One map, lent as it is, and every question to it. It is given away with its words changed by hand
-   sometimes, and always where it does not load. */
-static int one_case(const struct map *sample)
+/* A damaged copy of a map, its record and its words, in the first three buffers; says the copy's length. */
+static size_t lend(const struct map *sample)
 {
-    struct buffer of_file, of_map, of_words;
-    struct bsp_hull hull;
     uint8_t *copy = (uint8_t *)malloc(sample->length + 1);
-    size_t length, i;
-    uint32_t r;
-    int loaded;
+    size_t length;
     if (copy == NULL)
         stop("memory");
     memcpy(copy, sample->file, sample->length);
@@ -501,31 +507,28 @@ static int one_case(const struct map *sample)
     free(copy);
     map = (struct bsp_map *)buffer(sizeof *map);
     map_words = (uint32_t *)buffer(sizeof map->words);
-    of_file = buffers[0];
-    of_map = buffers[1];
-    of_words = buffers[2];
-    if (pages && mprotect(of_file.base, of_file.whole, PROT_READ) != 0)
+    if (pages && mprotect(buffers[0].base, buffers[0].whole, PROT_READ) != 0)
         stop("mprotect");
-    used = 0;
-    r = bsp_map_load(map, of_file.start, length);
-    loaded = noted("bsp_map_load", r, "loading", map, sizeof *map);
-    calls++;
-    if (bsp_place_of(of_file.start, length).refusal != r)
-        wrong("bsp_place_of", "another refusal than loading's", r);
-    if (!loaded) {
-        map->file = of_file.start;
-        map->length = length;
-        memcpy(map->words, sample->words, sizeof map->words);
+    return length;
+}
+
+/* Some words of the map's record changed: any number; or a section that begins near the file's end. */
+static void change_words(size_t length)
+{
+    uint64_t i;
+    for (i = below(4); i > 0; i--) {
+        if (below(2) == 0)
+            map->words[below(BSP_MAP_WORDS)] = (uint32_t)number();
+        else
+            map->words[2 * below(15)] = (uint32_t)(length - below(60));
     }
-    if (!loaded || below(4) == 0)
-        for (i = below(4); i > 0; i--) {
-            /* any number; or a section that begins near the file's end */
-            if (below(2) == 0)
-                map->words[below(BSP_MAP_WORDS)] = (uint32_t)number();
-            else
-                map->words[2 * below(15)] = (uint32_t)(length - below(60));
-        }
-    memcpy(map_words, map->words, sizeof map->words);
+}
+
+/* Every question to the map. */
+static void ask(void)
+{
+    struct bsp_hull hull;
+    int i;
     for (i = 0; i < 3; i++) {
         records();
         textures();
@@ -540,6 +543,31 @@ static int one_case(const struct map *sample)
     }
     made_up();
     text();
+}
+
+/* One map, lent as it is, and every question to it. It is given away with its words changed by hand
+   sometimes, and always where it does not load. */
+static int one_case(const struct map *sample)
+{
+    size_t length = lend(sample);
+    struct buffer of_file = buffers[0], of_map = buffers[1], of_words = buffers[2];
+    uint32_t r;
+    int loaded;
+    used = 0;
+    r = bsp_map_load(map, of_file.start, length);
+    loaded = noted("bsp_map_load", r, "loading", map, sizeof *map);
+    calls++;
+    if (bsp_place_of(of_file.start, length).refusal != r)
+        wrong("bsp_place_of", "another refusal than loading's", r);
+    if (!loaded) {
+        map->file = of_file.start;
+        map->length = length;
+        memcpy(map->words, sample->words, sizeof map->words);
+    }
+    if (!loaded || below(4) == 0)
+        change_words(length);
+    memcpy(map_words, map->words, sizeof map->words);
+    ask();
     buffers[0] = of_file;
     buffers[1] = of_map;
     buffers[2] = of_words;
