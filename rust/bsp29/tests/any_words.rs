@@ -62,6 +62,47 @@ fn surfaces(map: &Map, seed: &mut Seed) -> usize {
     answered + map.parsed_entities().map_or(0, |entities| entities.take(40).count())
 }
 
+/// Hulls of the map, and some made by hand.
+fn hulls(map: &Map, seed: &mut Seed) -> Vec<Hull> {
+    let tables = [NodeTable::Render, NodeTable::Clip, NodeTable::Box];
+    let mut words = [0; 11].map(|_| seed.number() as u64);
+    words[0] = [seed.below(3), seed.below(9)][seed.below(2) as usize];
+    let made = Hull::new(tables[seed.below(3) as usize], seed.number());
+    let made = made.with_bounds(seed.point(), seed.point());
+    let mut body = || Bounds { mins: seed.point(), maxs: seed.point() };
+    let sizes = BodySizes { hull_1: body(), hull_2: body() };
+    let hulls = [
+        Ok(made),
+        Ok(Hull::from_words(words)),
+        map.hull(0, seed.below(4) as usize),
+        map.hull(seed.number(), 1),
+        map.hull_with(&sizes, 0, seed.below(4) as usize),
+        map.hull_with(&sizes, seed.number(), 2),
+    ];
+    hulls.into_iter().flatten().collect()
+}
+
+/// Asks every question about a hull.
+fn ask_hull(map: &Map, seed: &mut Seed, hull: &Hull) -> usize {
+    let mut answered = 0;
+    let (a, b) = (seed.point(), seed.point());
+    answered += usize::from(map.contents(hull, a).is_ok());
+    answered += usize::from(map.contents_nodes(hull, a).is_ok());
+    answered += usize::from(map.trace(hull, a, b).is_ok());
+    answered += usize::from(map.trace_line(hull, a, b).is_ok());
+    answered += usize::from(map.trace_nodes(hull, a, b).is_ok());
+    answered += usize::from(map.find_leaf_nodes(hull.root(), a).is_ok());
+    answered += usize::from(map.tree_check(hull.table(), hull.root()).is_ok());
+    answered += usize::from(map.hull_check(hull).is_ok());
+    answered += usize::from(map.contents_box(hull, a, b).is_ok());
+    answered += usize::from(map.contents_at_points(hull, &[a, b, a]).is_ok());
+    if let Ok(ordered) = map.order(hull.table(), hull.root()) {
+        assert_eq!(ordered.contents(a), map.contents(&Hull::new(hull.table(), hull.root()), a));
+        answered += usize::from(ordered.trace(a, b).is_ok());
+    }
+    answered
+}
+
 /// Asks every question, and says how many were answered.
 fn ask(map: &Map, seed: &mut Seed) -> usize {
     let mut answered = 0;
@@ -78,37 +119,8 @@ fn ask(map: &Map, seed: &mut Seed) -> usize {
     answered += read_all(map.models(), seed);
     let _ = (map.entities(), map.entity_text(), map.texture_count());
     answered += surfaces(map, seed);
-    let tables = [NodeTable::Render, NodeTable::Clip, NodeTable::Box];
-    let mut words = [0; 11].map(|_| seed.number() as u64);
-    words[0] = [seed.below(3), seed.below(9)][seed.below(2) as usize];
-    let made = Hull::new(tables[seed.below(3) as usize], seed.number());
-    let made = made.with_bounds(seed.point(), seed.point());
-    let mut body = || Bounds { mins: seed.point(), maxs: seed.point() };
-    let sizes = BodySizes { hull_1: body(), hull_2: body() };
-    let hulls = [
-        Ok(made),
-        Ok(Hull::from_words(words)),
-        map.hull(0, seed.below(4) as usize),
-        map.hull(seed.number(), 1),
-        map.hull_with(&sizes, 0, seed.below(4) as usize),
-        map.hull_with(&sizes, seed.number(), 2),
-    ];
-    for hull in hulls.into_iter().flatten() {
-        let (a, b) = (seed.point(), seed.point());
-        answered += usize::from(map.contents(&hull, a).is_ok());
-        answered += usize::from(map.contents_nodes(&hull, a).is_ok());
-        answered += usize::from(map.trace(&hull, a, b).is_ok());
-        answered += usize::from(map.trace_line(&hull, a, b).is_ok());
-        answered += usize::from(map.trace_nodes(&hull, a, b).is_ok());
-        answered += usize::from(map.find_leaf_nodes(hull.root(), a).is_ok());
-        answered += usize::from(map.tree_check(hull.table(), hull.root()).is_ok());
-        answered += usize::from(map.hull_check(&hull).is_ok());
-        answered += usize::from(map.contents_box(&hull, a, b).is_ok());
-        answered += usize::from(map.contents_at_points(&hull, &[a, b, a]).is_ok());
-        if let Ok(ordered) = map.order(hull.table(), hull.root()) {
-            assert_eq!(ordered.contents(a), map.contents(&Hull::new(hull.table(), hull.root()), a));
-            answered += usize::from(ordered.trace(a, b).is_ok());
-        }
+    for hull in hulls(map, seed) {
+        answered += ask_hull(map, seed, &hull);
     }
     answered += usize::from(map.find_leaf(seed.point()).is_ok());
     answered += usize::from(map.find_leaf_from(seed.number(), seed.point()).is_ok());

@@ -65,7 +65,24 @@ fn of_a_map() {
     assert!(entities.iter().all(|entity| text.as_bytes()[entity.byte()] == b'{'));
 }
 
-/// Texts of the characters that matter, and of any others: pairs or an error, whose place is in the text.
+/// A text of the characters that matter, and of any others.
+fn some_text(mut next: impl FnMut() -> u64) -> String {
+    let mut text = String::from(["", "{"][next() as usize % 2]);
+    for _ in 0..next() % 16 {
+        match next() % 12 {
+            0 | 1 => text.push('{'),
+            2 | 3 => text.push('}'),
+            4 | 5 => text.push('"'),
+            6..=8 => text += "\"a\" \"b\"",
+            9 => text.push(['/', '\n', ' ', '\0'][next() as usize % 4]),
+            10 => text.push(char::from_u32(next() as u32 % 0x11_0000).unwrap_or('a')),
+            _ => text += "//",
+        }
+    }
+    text
+}
+
+/// Any text: pairs or an error, whose place is in the text.
 #[test]
 fn any_text() {
     let mut state = 29u64;
@@ -77,18 +94,7 @@ fn any_text() {
     };
     let (mut pairs, mut errors) = (0, 0);
     for _ in 0..200_000 {
-        let mut text = String::from(["", "{"][next() as usize % 2]);
-        for _ in 0..next() % 16 {
-            match next() % 12 {
-                0 | 1 => text.push('{'),
-                2 | 3 => text.push('}'),
-                4 | 5 => text.push('"'),
-                6..=8 => text += "\"a\" \"b\"",
-                9 => text.push(['/', '\n', ' ', '\0'][next() as usize % 4]),
-                10 => text.push(char::from_u32(next() as u32 % 0x11_0000).unwrap_or('a')),
-                _ => text += "//",
-            }
-        }
+        let text = some_text(&mut next);
         for entity in Entities::new(&text) {
             match entity {
                 Ok(entity) => {

@@ -8,7 +8,7 @@
 
 use bsp29::{Contents, Lightmap, Map, PlaneKind, Side, TraceEnd};
 use maps::{floats, Plan, Seed};
-use richter::common::bsp::{self, BspModel};
+use richter::common::bsp::{self, BspData, BspModel};
 use richter::common::model::ModelKind;
 use richter::refusal::catch;
 use richter::{Plane, Trace};
@@ -196,26 +196,7 @@ fn compare_map(tally: &mut Tally, file: &[u8]) {
     let data = models[0].bsp_data();
     tally.same("lightmaps", Some(data.lightmaps()), map.lightmaps().ok());
     for face in 0..data.faces().len() {
-        let theirs = catch(|| {
-            data.face_iter_vertices(face).map(|v| [v.x, v.y, v.z].map(bits)).collect::<Vec<_>>()
-        });
-        let ours = map.face_vertices(face).and_then(|corners| {
-            corners.map(|corner| corner.map(|point| point.map(bits))).collect::<Result<Vec<_>, _>>()
-        });
-        tally.same("face_vertices", theirs.ok(), ours.ok());
-        let theirs = catch(|| {
-            let lights = data.face_lightmaps(face);
-            let plain = |l: &bsp::BspLightmap| (l.width(), l.height(), l.data().to_vec());
-            lights.iter().map(plain).collect::<Vec<_>>()
-        });
-        let ours = map.face_lightmaps(face).map(|lights| {
-            let plain = |l: &Lightmap| (l.width, l.height, l.data.to_vec());
-            lights.iter().map(plain).collect::<Vec<_>>()
-        });
-        // of an extent that wrapped richter multiplies the size in 32 bits, and here it is refused
-        if ours.is_ok() || data.faces()[face].extents.iter().all(|extent| *extent >= 0) {
-            tally.same("face_lightmaps", theirs.ok(), ours.ok());
-        }
+        compare_face(tally, &data, &map, face);
     }
     for (index, model) in models.iter().enumerate() {
         let theirs = catch(|| model.iter_leaves().map(|leaf| leaf.contents as u32).collect());
@@ -227,6 +208,30 @@ fn compare_map(tally: &mut Tally, file: &[u8]) {
         let ours = map.model_face_list(index);
         let ours = ours.map(|list| list.map(|entry| entry.unwrap().face).collect());
         tally.same("model_face_list", theirs.ok(), ours.ok());
+    }
+}
+
+/// The corners and the light of one face.
+fn compare_face(tally: &mut Tally, data: &BspData, map: &Map, face: usize) {
+    let theirs = catch(|| {
+        data.face_iter_vertices(face).map(|v| [v.x, v.y, v.z].map(bits)).collect::<Vec<_>>()
+    });
+    let ours = map.face_vertices(face).and_then(|corners| {
+        corners.map(|corner| corner.map(|point| point.map(bits))).collect::<Result<Vec<_>, _>>()
+    });
+    tally.same("face_vertices", theirs.ok(), ours.ok());
+    let theirs = catch(|| {
+        let lights = data.face_lightmaps(face);
+        let plain = |l: &bsp::BspLightmap| (l.width(), l.height(), l.data().to_vec());
+        lights.iter().map(plain).collect::<Vec<_>>()
+    });
+    let ours = map.face_lightmaps(face).map(|lights| {
+        let plain = |l: &Lightmap| (l.width, l.height, l.data.to_vec());
+        lights.iter().map(plain).collect::<Vec<_>>()
+    });
+    // of an extent that wrapped richter multiplies the size in 32 bits, and here it is refused
+    if ours.is_ok() || data.faces()[face].extents.iter().all(|extent| *extent >= 0) {
+        tally.same("face_lightmaps", theirs.ok(), ours.ok());
     }
 }
 
