@@ -55,8 +55,8 @@ module _ (c n : ℕ) (fewer : c ≤ n) where
   unfolding rowBits
   row-fewer leaf [] w = at-end leaf w
   row-fewer leaf (zero ∷ []) w = at-end leaf w
-  row-fewer leaf (zero ∷ k ∷ bytes) w = on leaf (replicate (8 * k) false) _ _ _ (row-fewer (leaf + 8 * k) bytes) w
-  row-fewer leaf (suc b ∷ bytes) w = on leaf (bits (inByte n leaf) (suc b)) _ _ _ (row-fewer (leaf + 8) bytes) w
+  row-fewer leaf (zero ∷ k ∷ bytes) w = on leaf (replicate (8 * k) false) (replicate (8 * k) false) _ _ (row-fewer (leaf + 8 * k) bytes) w
+  row-fewer leaf (suc b ∷ bytes) w = on leaf (bits (inByte n leaf) (suc b)) (bits (inByte c leaf) (suc b)) _ _ (row-fewer (leaf + 8) bytes) w
 
   row-at-fewer : (visibility : List ℕ) (offset : ℕ) → Whole (rowAt visibility offset n) → Whole (rowAt visibility offset c)
   unfolding rowAt
