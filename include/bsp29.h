@@ -13,12 +13,12 @@
  * bsp_hull_check, bsp_contents_box, bsp_order and bsp_accept. The library holds no state: any
  * thread may call it at any time.
  *
- * Stack, measured on a chain of 512 nodes, the deepest there can be, and not proved: bsp_trace and
- * bsp_trace_nodes need up to 574,000 bytes, bsp_trace_line 517,000, bsp_order_trace 427,000,
+ * Stack, measured on a chain of 512 nodes, the deepest there can be, and not proved: bsp_trace_nodes
+ * needs up to 551,000 bytes, bsp_trace_line 533,000, bsp_order_trace 427,000, bsp_trace 419,000,
  * bsp_accept 329,000, bsp_contents_box 262,000, bsp_tree_check, bsp_hull_check and bsp_order 165,000.
- * bsp_load, bsp_load_place, bsp_record of a texture info, bsp_texture_frame and bsp_texture_static need
- * up to 554,000 bytes, and bsp_texture_numbers 989,000, whatever the nodes. The other calls have no such
- * depth.
+ * bsp_load, bsp_load_place, bsp_texture_frame and bsp_texture_static need up to 554,000 bytes,
+ * bsp_texture_numbers 966,000 and bsp_record of a texture info 1,011,000, whatever the nodes. The other
+ * calls have no such depth.
  *
  * A list is two parameters: a pointer to its first entry and the number of its entries.
  *   - The pointer is not null and is aligned for its entries, even where the number is 0.
@@ -418,8 +418,8 @@ uint32_t bsp_load_place(const uint8_t *file, size_t file_length,
  * it above. For a file that loads and an index below bsp_count it never refuses.
  *   map: 31 words or more; out: 20 words or more, whatever the section.
  *   Refuses: 22; 20, a section that has no records or an index outside it; 23.
- * A texture info has its texture's new number, which the names of all textures decide, so that this
- * one record takes time as bsp_texture_static does.
+ * A texture info has its texture's new number, which the names of all textures decide: they are read a
+ * few times for this one record, and once more for every 10,239 stems.
  */
 uint32_t bsp_record(const uint8_t *file, size_t file_length,
                     const uint32_t *map, size_t map_length,
@@ -797,7 +797,7 @@ uint32_t bsp_accept(const uint8_t *file, size_t file_length,
  *   map: 31 words or more; out: 1 word or more.
  *   Refuses: 22; 23, a texture section that loading refuses, its end aside, or more than 2,097,152
  *   textures; 20, a number, group or place that is none.
- * Time: the names of all textures are read some fifteen times, and once more for every 16,383 stems.
+ * Time: the names of all textures are read some fifteen times, and once more for every 10,239 stems.
  */
 uint32_t bsp_texture_frame(const uint8_t *file, size_t file_length,
                            const uint32_t *map, size_t map_length,
@@ -835,7 +835,7 @@ uint32_t bsp_texture(const uint8_t *file, size_t file_length,
  *   map: 31 words or more; out: 1 word or more.
  *   Refuses: 22; 23 as bsp_texture_frame; 22, a list too short for the textures.
  * Time: the names of all textures are read a few times, as bsp_texture_static reads them, and then those
- * from a part on whose stem no part had yet once more for every part of 12,287 stems.
+ * from a part on whose stem no part had yet once more for every part of 22,527 stems.
  */
 uint32_t bsp_texture_numbers(const uint8_t *file, size_t file_length,
                              const uint32_t *map, size_t map_length,
