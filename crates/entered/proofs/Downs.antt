@@ -17,10 +17,10 @@ use Rattle.format.specs.declared.refusal.Refusal.{Refusal}
 use Rattle.format.specs.declared.contents.BspLeafContents.{BspLeafContents}
 use Rattle.math.specs.Plane as Pl
 use Rattle.math.specs.Vector.{zero32}
-use Rattle.math.specs.declared.Vector3.{Vector3}
-use Rattle.math.specs.declared.Hyperplane.{Hyperplane}
-use Rattle.math.specs.declared.LinePlaneIntersect.{LinePlaneIntersect}
-use Rattle.math.specs.declared.LinePlaneIntersect.the-variants.{NoIntersection, PointIntersection}
+use Rattle.math.specs.declared.vector.Vector3.{Vector3}
+use Rattle.math.specs.declared.plane.Hyperplane.{Hyperplane}
+use Rattle.math.specs.declared.plane.LinePlaneIntersect.{LinePlaneIntersect}
+use Rattle.math.specs.declared.plane.LinePlaneIntersect.the-variants.{NoIntersection, PointIntersection}
 use Rattle.phys.specs.Trace as Tr
 use Rattle.phys.specs.declared.Trace.{Trace as TraceT}
 use Rattle.walk.specs.Table.{Child, Node, Table}
@@ -36,8 +36,8 @@ use Rattle.nodes.specs.declared.read.ReadWords.{ReadWords}
 use Rattle.nodes.specs.declared.read.ReadWords.the-variants as W
 use Rattle.nodes.specs.declared.read.Dists.{Dists}
 use Rattle.nodes.specs.declared.read.Dists.the-variants as D
-use Rattle.nodes.specs.declared.walking.SegmentAt.{SegmentAt}
-use Rattle.nodes.specs.declared.walking.SegmentAt.the-variants as G
+use Rattle.nodes.specs.declared.segment.SegmentAt.{SegmentAt}
+use Rattle.nodes.specs.declared.segment.SegmentAt.the-variants as G
 use Rattle.nodes.specs.Walks.{madeFrom, nodeAndDists, segmentAnswer}
 use Rattle.nodes.proofs.Entering.{planed, enter-not, enter-is, enter-no-plane}
 use Rattle.hull.specs.Traces.{crossedAt}

@@ -18,13 +18,13 @@ use Rattle.format.specs.Listed.{listed, into}
 use Rattle.format.specs.Refusal.{numberOf}
 use Rattle.format.specs.declared.refusal.Refusal.{Refusal}
 use Rattle.math.specs.Plane as Pl
-use Rattle.math.specs.declared.Vector3.{Vector3}
+use Rattle.math.specs.declared.vector.Vector3.{Vector3}
 use Rattle.walk.specs.Table.{Child, node, end, Table, childOn}
 use Rattle.walk.specs.Walk.{Outcome, done, refused, entered, withVisits, Entered, enter, meet, ended, onto, walkAt, walk, pointWalk}
 use Rattle.walk.proofs.Steps.{walk-outside}
 use Rattle.format.specs.declared.contents.BspLeafContents.{BspLeafContents}
-use Rattle.math.specs.declared.Hyperplane.{Hyperplane}
-use Rattle.math.specs.declared.HyperplaneSide.{HyperplaneSide}
+use Rattle.math.specs.declared.plane.Hyperplane.{Hyperplane}
+use Rattle.math.specs.declared.plane.HyperplaneSide.{HyperplaneSide}
 use Rattle.format.specs.declared.section.BspData.{BspData}
 use Rattle.nodes.specs.Tables.{End, tableOf, leafTable}
 use Rattle.nodes.specs.declared.table.HullTable.{HullTable}

@@ -13,7 +13,7 @@ use Rattle.format.specs.Answer as Ans
 use Rattle.format.specs.Answer.{Answer, answer, mapped}
 use Rattle.format.specs.Refusal.{numberOf}
 use Rattle.math.specs.Vector.{zero32}
-use Rattle.math.specs.declared.Vector3.{Vector3}
+use Rattle.math.specs.declared.vector.Vector3.{Vector3}
 use Rattle.phys.specs.Trace as Tr
 use Rattle.phys.specs.declared.Trace.{Trace}
 use Rattle.walk.specs.Table.{Child, node, end}

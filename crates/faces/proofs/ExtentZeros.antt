@@ -9,7 +9,7 @@ use lib.Dec.{ltb}
 use lib.Ieee.{Float, binary32, add}
 use Rattle.float.specs.Whole.{minimum, maximum, times16}
 use Rattle.math.specs.Vector.{dot}
-use Rattle.math.specs.declared.Vector3.{Vector3}
+use Rattle.math.specs.declared.vector.Vector3.{Vector3}
 use Rattle.format.specs.Answer.{Answer, answer, refused, thenAnswer, onRefusal}
 use Rattle.format.specs.Section.{recordCount}
 use Rattle.format.specs.declared.section.BspData.{BspData}

@@ -8,7 +8,7 @@ use lib.ListN.{take}
 use lib.Ieee.{Float}
 use Rattle.format.specs.Listed.{into}
 use Rattle.format.specs.declared.section.BspData.{BspData}
-use Rattle.math.specs.declared.Vector3.{Vector3}
+use Rattle.math.specs.declared.vector.Vector3.{Vector3}
 use Rattle.walk.specs.Walk.{withVisits, pointWalk}
 use Rattle.walk.specs.Tracing as Tracing
 use Rattle.hull.specs.Hull.{hullTable, checkHull}

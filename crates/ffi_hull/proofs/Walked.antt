@@ -13,7 +13,7 @@ use Rattle.format.specs.Refusal.{numberOf}
 use Rattle.format.specs.declared.contents.BspLeafContents.{BspLeafContents}
 use Rattle.format.specs.declared.refusal.Refusal.{Refusal}
 use Rattle.format.specs.declared.section.BspData.{BspData}
-use Rattle.math.specs.declared.Vector3.{Vector3}
+use Rattle.math.specs.declared.vector.Vector3.{Vector3}
 use Rattle.walk.specs.Table.{Table}
 use Rattle.words.specs.Words.{mapOf}
 use Rattle.nodes.specs.Tables.{End, tableOf, leafTable, fileTable}

@@ -8,16 +8,16 @@ use lib.ListN.{getD}
 use lib.Ieee.{Float, binary32, toBits}
 use Rattle.math.specs.Vector.{vector, zero32}
 use Rattle.math.specs.Plane.{axisX, axisY, axisZ, withNormal, normalOf}
-use Rattle.math.specs.declared.Vector3.{Vector3}
-use Rattle.math.specs.declared.Axis.the-variants.{X, Y, Z}
-use Rattle.math.specs.declared.Alignment.{Alignment}
-use Rattle.math.specs.declared.Alignment.the-variants.{Axis, Normal}
-use Rattle.math.specs.declared.Hyperplane.{Hyperplane}
-use Rattle.math.specs.declared.HyperplaneSide.{HyperplaneSide}
-use Rattle.math.specs.declared.HyperplaneSide.the-variants.{Positive, Negative}
-use Rattle.math.specs.declared.PointIntersection.{PointIntersection as Crossing}
-use Rattle.math.specs.declared.LinePlaneIntersect.{LinePlaneIntersect}
-use Rattle.math.specs.declared.LinePlaneIntersect.the-variants.{NoIntersection, PointIntersection}
+use Rattle.math.specs.declared.vector.Vector3.{Vector3}
+use Rattle.math.specs.declared.vector.Axis.the-variants.{X, Y, Z}
+use Rattle.math.specs.declared.plane.Alignment.{Alignment}
+use Rattle.math.specs.declared.plane.Alignment.the-variants.{Axis, Normal}
+use Rattle.math.specs.declared.plane.Hyperplane.{Hyperplane}
+use Rattle.math.specs.declared.plane.HyperplaneSide.{HyperplaneSide}
+use Rattle.math.specs.declared.plane.HyperplaneSide.the-variants.{Positive, Negative}
+use Rattle.math.specs.declared.plane.PointIntersection.{PointIntersection as Crossing}
+use Rattle.math.specs.declared.plane.LinePlaneIntersect.{LinePlaneIntersect}
+use Rattle.math.specs.declared.plane.LinePlaneIntersect.the-variants.{NoIntersection, PointIntersection}
 
 -- the coordinate number n, and 0 for an n above 2
 unfoldable pub coordinateOf : Vector3 → ℕ → Float

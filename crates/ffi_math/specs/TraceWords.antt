@@ -8,7 +8,7 @@ use lib.Dec.{eqb}
 use lib.ListN.{getD}
 use lib.Ieee.{Float, binary32, ofBits}
 use Rattle.math.specs.Vector.{vector}
-use Rattle.math.specs.declared.Vector3.{Vector3}
+use Rattle.math.specs.declared.vector.Vector3.{Vector3}
 use Rattle.format.specs.Answer.{Answer, answer, refused}
 use Rattle.format.specs.Code.{contentsOf}
 use Rattle.format.specs.Contents.{codeOf}

@@ -11,7 +11,7 @@ use mathlib.Core.List.{List}
 use lib.IntN.{ℤ}
 use Rattle.format.specs.declared.contents.BspLeafContents.{BspLeafContents}
 use Rattle.math.specs.Vector.{vector, zero32}
-use Rattle.math.specs.declared.Vector3.{Vector3}
+use Rattle.math.specs.declared.vector.Vector3.{Vector3}
 use Rattle.walk.specs.Table.{Table}
 use Rattle.walk.specs.Ordered.{ordered}
 use Rattle.words.specs.Words.{mapOf}

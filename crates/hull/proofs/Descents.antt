@@ -16,10 +16,10 @@ use Rattle.format.specs.declared.refusal.Refusal.{Refusal}
 use Rattle.format.specs.declared.contents.BspLeafContents.{BspLeafContents}
 use Rattle.math.specs.Plane as Pl
 use Rattle.math.specs.Vector.{zero32}
-use Rattle.math.specs.declared.Vector3.{Vector3}
-use Rattle.math.specs.declared.Hyperplane.{Hyperplane}
-use Rattle.math.specs.declared.LinePlaneIntersect.{LinePlaneIntersect}
-use Rattle.math.specs.declared.LinePlaneIntersect.the-variants.{NoIntersection, PointIntersection}
+use Rattle.math.specs.declared.vector.Vector3.{Vector3}
+use Rattle.math.specs.declared.plane.Hyperplane.{Hyperplane}
+use Rattle.math.specs.declared.plane.LinePlaneIntersect.{LinePlaneIntersect}
+use Rattle.math.specs.declared.plane.LinePlaneIntersect.the-variants.{NoIntersection, PointIntersection}
 use Rattle.phys.specs.declared.Trace.{Trace as TraceT}
 use Rattle.walk.specs.Table.{Child, node, end, Node, Table, childOn}
 use Rattle.walk.specs.Walk.{Outcome, done, refused, held, Entered, enter, meet, ended, onto}
@@ -32,8 +32,8 @@ use Rattle.nodes.specs.Fast as Fast
 use Rattle.nodes.specs.declared.table.Tables.{Tables}
 use Rattle.nodes.specs.declared.read.Words.{Words as WordsT}
 use Rattle.nodes.specs.declared.read.EndContents.{EndContents}
-use Rattle.nodes.specs.declared.walking.SegmentAt.{SegmentAt}
-use Rattle.nodes.specs.declared.walking.SegmentAt.the-variants as G
+use Rattle.nodes.specs.declared.segment.SegmentAt.{SegmentAt}
+use Rattle.nodes.specs.declared.segment.SegmentAt.the-variants as G
 use Rattle.nodes.specs.Walks.{madeFrom, nodeAndDists, segmentAnswer}
 use Rattle.hull.specs.Traces.{Met, metNode, metContents, metRefused, metAnswer, metEnd, metChild, metOn, withinLeaf, crossedAt}
 use Rattle.hull.specs.declared.tracing.MetChild.{MetChild}

@@ -10,7 +10,7 @@ use lib.ListN.{length}
 use Rattle.format.specs.Answer as Ans
 use Rattle.format.specs.Answer.{Answer, answer}
 use Rattle.math.specs.Plane as Pl
-use Rattle.math.specs.declared.Vector3.{Vector3}
+use Rattle.math.specs.declared.vector.Vector3.{Vector3}
 use Rattle.walk.specs.Table.{Child, node, end, Table, childOn}
 use Rattle.walk.specs.Walk.{Outcome, done, refused, entered, held, withVisits, Entered, enter, meet, ended, onto, walkAt, walk, pointWalk}
 use Rattle.nodes.specs.Walks.{ends}

@@ -13,8 +13,8 @@ use Rattle.format.specs.declared.contents.BspLeafContents.{BspLeafContents}
 use Rattle.math.specs.Vector as Vec
 use Rattle.math.specs.Vector.{zero32}
 use Rattle.math.specs.Plane as Pl
-use Rattle.math.specs.declared.Vector3.{Vector3}
-use Rattle.math.specs.declared.Hyperplane.{Hyperplane}
+use Rattle.math.specs.declared.vector.Vector3.{Vector3}
+use Rattle.math.specs.declared.plane.Hyperplane.{Hyperplane}
 use Rattle.phys.specs.Trace as Tr
 use Rattle.format.specs.Contents as Contents
 use Rattle.format.specs.declared.contents.BspLeafContents.the-variants.{Solid}

@@ -15,9 +15,9 @@ use Rattle.format.specs.declared.contents.BspLeafContents.{BspLeafContents}
 use Rattle.format.specs.declared.contents.BspLeafContents.the-variants.{Solid}
 use Rattle.math.specs.Vector.{zero32, one32}
 use Rattle.math.specs.Plane as Pl
-use Rattle.math.specs.declared.Vector3.{Vector3}
-use Rattle.math.specs.declared.Hyperplane.{Hyperplane}
-use Rattle.math.specs.declared.HyperplaneSide.{HyperplaneSide}
+use Rattle.math.specs.declared.vector.Vector3.{Vector3}
+use Rattle.math.specs.declared.plane.Hyperplane.{Hyperplane}
+use Rattle.math.specs.declared.plane.HyperplaneSide.{HyperplaneSide}
 use Rattle.walk.specs.Table.{Child, node, end, Node, Nodes, Table, childOn}
 use Rattle.walk.specs.Walk.{enter, meet}
 use Rattle.walk.specs.Tree.{ChildOf, InTree, at-root, below, Reach, Valid, IsTree, Reads}

@@ -8,7 +8,7 @@ use borrow.Author.Tests.{lt-ltb, le-ltb}
 use Rattle.format.specs.Answer as Ans
 use Rattle.format.specs.Answer.{Answer}
 use Rattle.format.specs.declared.contents.BspLeafContents.{BspLeafContents}
-use Rattle.math.specs.declared.Vector3.{Vector3}
+use Rattle.math.specs.declared.vector.Vector3.{Vector3}
 use Rattle.walk.specs.Table.{node, end, Table}
 use Rattle.walk.specs.Walk.{enter}
 use Rattle.nodes.specs.Tables.{End}

@@ -14,8 +14,8 @@ use Rattle.format.specs.Answer.{Answer, answer, mapped}
 use Rattle.format.specs.Refusal.{numberOf}
 use Rattle.format.specs.declared.refusal.Refusal.{Refusal}
 use Rattle.math.specs.Plane as Pl
-use Rattle.math.specs.declared.Vector3.{Vector3}
-use Rattle.math.specs.declared.Hyperplane.{Hyperplane}
+use Rattle.math.specs.declared.vector.Vector3.{Vector3}
+use Rattle.math.specs.declared.plane.Hyperplane.{Hyperplane}
 use Rattle.math.specs.Vector.{zero32}
 use Rattle.records.specs.Answers.{planeAnswer}
 use Rattle.records.specs.declared.plane.PlaneAnswer.{PlaneAnswer}
@@ -31,8 +31,8 @@ use Rattle.nodes.specs.declared.read.ReadWords.{ReadWords}
 use Rattle.nodes.specs.declared.read.ReadWords.the-variants as W
 use Rattle.nodes.specs.declared.read.Dists.{Dists}
 use Rattle.nodes.specs.declared.read.Dists.the-variants as D
-use Rattle.nodes.specs.declared.walking.SegmentAt.{SegmentAt}
-use Rattle.nodes.specs.declared.walking.SegmentAt.the-variants as G
+use Rattle.nodes.specs.declared.segment.SegmentAt.{SegmentAt}
+use Rattle.nodes.specs.declared.segment.SegmentAt.the-variants as G
 use Rattle.nodes.specs.declared.walking.Onward.{Onward}
 use Rattle.nodes.specs.declared.walking.Onward.the-variants as O
 use Rattle.nodes.specs.Walks.{madeFrom, childByDistance, nodeAndDists, segmentAnswer, onwardAnswer}

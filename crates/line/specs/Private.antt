@@ -7,8 +7,8 @@ use mathlib.Core.List.{List}
 use lib.Dec.{ltb, eqb}
 use lib.Ieee.{Float}
 use Rattle.math.specs.Plane as Pl
-use Rattle.math.specs.declared.Hyperplane.{Hyperplane}
-use Rattle.math.specs.declared.Vector3.{Vector3}
+use Rattle.math.specs.declared.plane.Hyperplane.{Hyperplane}
+use Rattle.math.specs.declared.vector.Vector3.{Vector3}
 use Rattle.format.specs.Refusal.{numberOf}
 use Rattle.format.specs.Answer as Ans
 use Rattle.format.specs.Answer.{Answer, answer}

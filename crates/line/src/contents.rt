@@ -7,6 +7,9 @@ ghost use Rattle.line.specs.Line as Line;
 ghost use Rattle.line.specs.Private as Private;
 use format::refusal::Refusal;
 use math::Vector3;
+use nodes::lines::ends_in;
+use nodes::lines::look_in;
+use nodes::lines::point_of;
 use nodes::read::Dists;
 use nodes::read::EndContents;
 use nodes::read::ReadWords;
@@ -15,12 +18,9 @@ use nodes::read::dists_at;
 use nodes::read::end_contents;
 use nodes::read::plane_at;
 use nodes::read::read_words;
+use nodes::segment::SegmentAt;
 use nodes::table::Tables;
 use nodes::walking::Onward;
-use nodes::walking::SegmentAt;
-use nodes::walking::ends_in;
-use nodes::walking::look_in;
-use nodes::walking::point_of;
 use records::plane::PlaneAnswer;
 
 // What a line goes through: the root, the tables, and whether the file has all of their nodes and planes. The root stands first: behind the

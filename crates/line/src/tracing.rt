@@ -2,7 +2,7 @@
 ghost use mathlib.Core.Path.{_≡_};
 ghost use Rattle.format.specs.Answer.{answer};
 ghost use Rattle.math.specs.Plane as Pl;
-ghost use Rattle.math.specs.declared.Hyperplane.{Hyperplane};
+ghost use Rattle.math.specs.declared.plane.Hyperplane.{Hyperplane};
 ghost use Rattle.nodes.specs.Fast as Fast;
 ghost use Rattle.hull.specs.Hull as Hull;
 ghost use Rattle.line.specs.Line as Line;
@@ -25,11 +25,11 @@ use nodes::read::EndContents;
 use nodes::read::Words;
 use nodes::read::end_contents;
 use nodes::read::plane_at;
+use nodes::segment::SegmentAt;
 use nodes::table::tables_of;
-use nodes::walking::SegmentAt;
-use nodes::walking::are_whole;
-use nodes::walking::node_bytes;
-use nodes::walking::plane_bytes;
+use nodes::whole::are_whole;
+use nodes::whole::node_bytes;
+use nodes::whole::plane_bytes;
 use records::plane::PlaneAnswer;
 
 // What `trace_line` answers.

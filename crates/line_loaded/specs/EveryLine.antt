@@ -13,7 +13,7 @@ use lib.Ieee.{Float, nan, le}
 use Rattle.format.specs.Answer.{answer}
 use Rattle.format.specs.declared.section.BspData.{BspData}
 use Rattle.math.specs.Vector.{zero32, one32}
-use Rattle.math.specs.declared.Vector3.{Vector3}
+use Rattle.math.specs.declared.vector.Vector3.{Vector3}
 use Rattle.walk.specs.TreeCheck.{treeCheck}
 use Rattle.nodes.specs.Tables.{nodesOf}
 use Rattle.hull.specs.Hull.{hullTable}

@@ -7,7 +7,7 @@ use native.Mathlib.Omega.{arith}
 use Rattle.format.specs.Answer.{answer}
 use Rattle.format.specs.declared.contents.BspLeafContents.{BspLeafContents}
 use Rattle.format.specs.declared.section.BspData.{BspData}
-use Rattle.math.specs.declared.Vector3.{Vector3}
+use Rattle.math.specs.declared.vector.Vector3.{Vector3}
 use Rattle.math.proofs.Fits.{Fits3}
 use Rattle.walk.specs.Table.{Nodes, Table}
 use Rattle.walk.specs.Walk.{pointWalk}

@@ -9,8 +9,8 @@ use lib.Dec.{ltb}
 use Rattle.format.specs.Answer as Ans
 use Rattle.format.specs.Answer.{Answer, answer, mapped}
 use Rattle.format.specs.declared.section.BspData.{BspData}
-use Rattle.math.specs.declared.Vector3.{Vector3}
-use Rattle.math.specs.declared.Hyperplane.{Hyperplane}
+use Rattle.math.specs.declared.vector.Vector3.{Vector3}
+use Rattle.math.specs.declared.plane.Hyperplane.{Hyperplane}
 use Rattle.walk.specs.Table.{Table}
 use Rattle.walk.specs.Walk.{withPlane, withNode, enter, meet, pointWalk}
 use Rattle.walk.proofs.Simulates.{None, like-itself, same-equal, Stands, Enters, Simulates, walks-same}

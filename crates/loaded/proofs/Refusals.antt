@@ -18,7 +18,7 @@ use Rattle.format.specs.declared.section.BspData.{BspData}
 use Rattle.format.specs.declared.section.BspFileSection.{BspFileSection}
 use Rattle.format.specs.declared.section.BspFileSectionId.{BspFileSectionId}
 use Rattle.format.specs.declared.section.BspFileSectionId.the-variants.{Planes, RenderNodes, CollisionNodes, Leaves}
-use Rattle.math.specs.declared.Vector3.{Vector3}
+use Rattle.math.specs.declared.vector.Vector3.{Vector3}
 use Rattle.walk.specs.Walk.{Outcome, done, refused, withVisits, pointWalk}
 use Rattle.walk.specs.Tracing as Tracing
 use Rattle.walk.proofs.NoPanic.{Own, walk-refuses, trace-refuses}

@@ -15,7 +15,7 @@ use mathlib.Core.List.{List}
 use mathlib.Core.Path.{_≡_}
 use Rattle.format.specs.Answer.{answer}
 use Rattle.format.specs.declared.section.BspData.{BspData}
-use Rattle.math.specs.declared.Vector3.{Vector3}
+use Rattle.math.specs.declared.vector.Vector3.{Vector3}
 use Rattle.walk.specs.Walk.{pointWalk}
 use Rattle.walk.specs.Tracing as Tracing
 use Rattle.walk.specs.TreeCheck.{treeCheck}

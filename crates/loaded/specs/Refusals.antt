@@ -14,7 +14,7 @@ use Rattle.format.specs.Refusal.{numberOf}
 use Rattle.format.specs.declared.refusal.Refusal.{Refusal}
 use Rattle.format.specs.declared.refusal.Refusal.the-variants.{CannotJoin, NoSuchRecord, Unreadable, IndexOutsideTable, WalkTooLong, TooDeep}
 use Rattle.format.specs.declared.section.BspData.{BspData}
-use Rattle.math.specs.declared.Vector3.{Vector3}
+use Rattle.math.specs.declared.vector.Vector3.{Vector3}
 use Rattle.walk.specs.Walk.{withVisits, pointWalk}
 use Rattle.walk.specs.Tracing as Tracing
 use Rattle.nodes.specs.Tables.{leafTable}

@@ -19,8 +19,8 @@ use Rattle.format.specs.Field.{i16At, indexAt}
 use Rattle.format.specs.Code.{contentsOf, negatedContents}
 use Rattle.format.specs.declared.contents.BspLeafContents.{BspLeafContents}
 use Rattle.format.specs.declared.contents.BspLeafContents.the-variants.{Empty, Solid}
-use Rattle.math.specs.declared.Hyperplane.{Hyperplane}
-use Rattle.math.specs.declared.Vector3.{Vector3}
+use Rattle.math.specs.declared.plane.Hyperplane.{Hyperplane}
+use Rattle.math.specs.declared.vector.Vector3.{Vector3}
 use Rattle.math.specs.Plane.{axisX, axisY, axisZ}
 use Rattle.records.specs.Plane.{filePlane, planeAt}
 use Rattle.records.specs.Triple.{vectorAt, pointAt}

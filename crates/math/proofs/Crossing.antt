@@ -13,12 +13,12 @@ use lib.Ieee.{Float, nan, inf, fin, binary32, fits, isNan}
 use Rattle.float.proofs.Compare.{add-nan-r, sub-nan-l, sub-nan-r, mul-nan-l, div-nan-r}
 use Rattle.math.specs.Vector as Vec
 use Rattle.math.specs.Plane as Pl
-use Rattle.math.specs.declared.Vector3.{Vector3}
-use Rattle.math.specs.declared.Hyperplane.{Hyperplane}
-use Rattle.math.specs.declared.HyperplaneSide.{HyperplaneSide}
-use Rattle.math.specs.declared.HyperplaneSide.the-variants.{Positive, Negative}
-use Rattle.math.specs.declared.PointIntersection.{PointIntersection as Meeting}
-use Rattle.math.specs.declared.LinePlaneIntersect.the-variants.{NoIntersection, PointIntersection}
+use Rattle.math.specs.declared.vector.Vector3.{Vector3}
+use Rattle.math.specs.declared.plane.Hyperplane.{Hyperplane}
+use Rattle.math.specs.declared.plane.HyperplaneSide.{HyperplaneSide}
+use Rattle.math.specs.declared.plane.HyperplaneSide.the-variants.{Positive, Negative}
+use Rattle.math.specs.declared.plane.PointIntersection.{PointIntersection as Meeting}
+use Rattle.math.specs.declared.plane.LinePlaneIntersect.the-variants.{NoIntersection, PointIntersection}
 use Rattle.math.proofs.Sides.{sides-agree-at-number}
 pub use Rattle.math.proofs.Fits.{Fits3, between-fits}
 

@@ -9,11 +9,11 @@ use lib.Ieee.Bits.{ofBits-fits}
 use Rattle.float.proofs.Compare.{T-of}
 use Rattle.math.specs.Vector as Vec
 use Rattle.math.specs.Plane as Pl
-use Rattle.math.specs.declared.Vector3.{Vector3}
-use Rattle.math.specs.declared.Axis.{Axis as AxisT}
-use Rattle.math.specs.declared.Axis.the-variants.{X, Y, Z}
-use Rattle.math.specs.declared.Alignment.the-variants.{Axis}
-use Rattle.math.specs.declared.Hyperplane.{Hyperplane}
+use Rattle.math.specs.declared.vector.Vector3.{Vector3}
+use Rattle.math.specs.declared.vector.Axis.{Axis as AxisT}
+use Rattle.math.specs.declared.vector.Axis.the-variants.{X, Y, Z}
+use Rattle.math.specs.declared.plane.Alignment.the-variants.{Axis}
+use Rattle.math.specs.declared.plane.Hyperplane.{Hyperplane}
 
 -- ---- vectors
 

@@ -17,7 +17,7 @@ use lib.Ieee.Fits.{and-l, and-r, down-pos, round-fits}
 use Rattle.float.proofs.Compare.{order}
 use Rattle.float.specs.Root as Root
 use Rattle.math.specs.Vector as Vec
-use Rattle.math.specs.declared.Vector3.{Vector3}
+use Rattle.math.specs.declared.vector.Vector3.{Vector3}
 use Rattle.math.proofs.Fits.{Fits3, dot-fits}
 
 -- ---- two f32 that have one value are equal

@@ -8,11 +8,11 @@ use lib.Ieee.{Float, nan, binary32, fits, isNan, ofBits}
 use Rattle.float.proofs.Compare.{same-infinity, ge-agree, ge-same-infinity, le-nan-r}
 use Rattle.math.specs.Vector as Vec
 use Rattle.math.specs.Plane as Pl
-use Rattle.math.specs.declared.Vector3.{Vector3}
-use Rattle.math.specs.declared.Alignment.{Alignment}
-use Rattle.math.specs.declared.Alignment.the-variants.{Axis, Normal}
-use Rattle.math.specs.declared.Hyperplane.{Hyperplane}
-use Rattle.math.specs.declared.HyperplaneSide.the-variants.{Positive, Negative}
+use Rattle.math.specs.declared.vector.Vector3.{Vector3}
+use Rattle.math.specs.declared.plane.Alignment.{Alignment}
+use Rattle.math.specs.declared.plane.Alignment.the-variants.{Axis, Normal}
+use Rattle.math.specs.declared.plane.Hyperplane.{Hyperplane}
+use Rattle.math.specs.declared.plane.HyperplaneSide.the-variants.{Positive, Negative}
 use Rattle.math.proofs.Fits.{Fits3, along-fits}
 
 -- the point's coordinate and the plane's distance are one infinity, on an axis plane

@@ -7,13 +7,13 @@ use lib.Ieee.{Float}
 use lib.Ieee.Scale.{finite}
 use Rattle.math.specs.Vector as Vec
 use Rattle.math.specs.Plane as Pl
-use Rattle.math.specs.declared.Vector3.{Vector3}
-use Rattle.math.specs.declared.Alignment.{Alignment}
-use Rattle.math.specs.declared.Alignment.the-variants.{Axis, Normal}
-use Rattle.math.specs.declared.Hyperplane.{Hyperplane}
-use Rattle.math.specs.declared.HyperplaneSide.the-variants.{Positive, Negative}
-use Rattle.math.specs.declared.BoxSide.{BoxSide}
-use Rattle.math.specs.declared.BoxSide.the-variants.{One, Both}
+use Rattle.math.specs.declared.vector.Vector3.{Vector3}
+use Rattle.math.specs.declared.plane.Alignment.{Alignment}
+use Rattle.math.specs.declared.plane.Alignment.the-variants.{Axis, Normal}
+use Rattle.math.specs.declared.plane.Hyperplane.{Hyperplane}
+use Rattle.math.specs.declared.plane.HyperplaneSide.the-variants.{Positive, Negative}
+use Rattle.math.specs.declared.bounds.BoxSide.{BoxSide}
+use Rattle.math.specs.declared.bounds.BoxSide.the-variants.{One, Both}
 
 -- on one axis: both bounds are finite, and the least is not above the greatest
 abbrev pub isSpan : Float → Float → Bool

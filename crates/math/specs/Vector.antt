@@ -4,9 +4,9 @@ use mathlib.Core.Bool.{Bool, _&&_}
 use lib.Ieee as Ieee
 use lib.Ieee.{Float, binary32, ofBits}
 use Rattle.float.specs.Root.{sqrt}
-use Rattle.math.specs.declared.Vector3.{Vector3}
-use Rattle.math.specs.declared.Axis.{Axis}
-use Rattle.math.specs.declared.Axis.the-variants.{X, Y, Z}
+use Rattle.math.specs.declared.vector.Vector3.{Vector3}
+use Rattle.math.specs.declared.vector.Axis.{Axis}
+use Rattle.math.specs.declared.vector.Axis.the-variants.{X, Y, Z}
 
 -- the numbers 0, 1 and -1
 abbrev pub zero32 : Float

@@ -13,7 +13,7 @@ use Rattle.format.specs.Answer as Ans
 use Rattle.format.specs.Answer.{Answer, answer}
 use Rattle.format.specs.Refusal.{numberOf}
 use Rattle.format.specs.declared.refusal.Refusal.{Refusal}
-use Rattle.math.specs.declared.Vector3.{Vector3}
+use Rattle.math.specs.declared.vector.Vector3.{Vector3}
 use Rattle.walk.specs.Walk.{withVisits, walk, pointWalk}
 use Rattle.walk.specs.Private.{after}
 use Rattle.walk.proofs.Steps.{walk-outside, walk-spent}

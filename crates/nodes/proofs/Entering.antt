@@ -12,7 +12,7 @@ use Rattle.format.specs.Answer.{Answer, answer}
 use Rattle.format.specs.Refusal.{numberOf}
 use Rattle.format.specs.declared.refusal.Refusal.{Refusal}
 use Rattle.math.specs.Plane as Pl
-use Rattle.math.specs.declared.Hyperplane.{Hyperplane}
+use Rattle.math.specs.declared.plane.Hyperplane.{Hyperplane}
 use Rattle.walk.specs.Table.{node, end, Node, Table, childOn}
 use Rattle.walk.specs.Walk.{Entered, withNode, withPlane, enter}
 use Rattle.walk.proofs.Steps.{enter-unread}

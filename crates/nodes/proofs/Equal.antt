@@ -15,8 +15,8 @@ use Rattle.format.specs.declared.section.BspData.{BspData}
 use Rattle.format.specs.declared.section.BspFileSection.{BspFileSection}
 use Rattle.format.specs.declared.section.BspFileSectionId.{BspFileSectionId}
 use Rattle.format.specs.declared.section.BspFileSectionId.the-variants.{Planes, RenderNodes, CollisionNodes, Leaves}
-use Rattle.math.specs.declared.Vector3.{Vector3}
-use Rattle.math.specs.declared.Hyperplane.{Hyperplane}
+use Rattle.math.specs.declared.vector.Vector3.{Vector3}
+use Rattle.math.specs.declared.plane.Hyperplane.{Hyperplane}
 use Rattle.walk.specs.Table.{Nodes, Table}
 use Rattle.records.specs.Access.{reading, readAt, recordOf}
 use Rattle.records.specs.Plane.{planeAt}

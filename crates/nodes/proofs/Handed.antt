@@ -10,7 +10,7 @@ use lib.Ieee.{Float}
 use lib.ListN.{length, getD, length-append}
 use Rattle.format.specs.Answer as Ans
 use Rattle.format.specs.Answer.{Answer}
-use Rattle.math.specs.declared.Vector3.{Vector3}
+use Rattle.math.specs.declared.vector.Vector3.{Vector3}
 use Rattle.walk.specs.Table.{Node}
 use Rattle.walk.specs.Walk.{Entered}
 use Rattle.nodes.specs.Tables.{End, fileTable}
@@ -19,8 +19,8 @@ use Rattle.nodes.specs.Walks.{madeFrom, madeAt, madeIn, MadeIn, nodeAndD
 use Rattle.nodes.specs.declared.table.HullTable.{HullTable}
 use Rattle.nodes.specs.declared.table.HullTable.the-variants.{Render, Clip, Box}
 use Rattle.nodes.specs.declared.table.Tables.{Tables}
-use Rattle.nodes.specs.declared.walking.SegmentAt.{SegmentAt}
-use Rattle.nodes.specs.declared.walking.SegmentAt.the-variants as G
+use Rattle.nodes.specs.declared.segment.SegmentAt.{SegmentAt}
+use Rattle.nodes.specs.declared.segment.SegmentAt.the-variants as G
 
 -- ---- two lists, one after the other
 

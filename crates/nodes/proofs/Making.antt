@@ -15,10 +15,10 @@ use Rattle.format.specs.Answer.{Answer, answer, mapped, thenAnswer}
 use Rattle.format.specs.Refusal.{numberOf}
 use Rattle.format.specs.declared.refusal.Refusal.{Refusal}
 use Rattle.math.specs.Plane as Pl
-use Rattle.math.specs.declared.Vector3.{Vector3}
-use Rattle.math.specs.declared.Hyperplane.{Hyperplane}
-use Rattle.math.specs.declared.HyperplaneSide.{HyperplaneSide}
-use Rattle.math.specs.declared.HyperplaneSide.the-variants.{Positive, Negative}
+use Rattle.math.specs.declared.vector.Vector3.{Vector3}
+use Rattle.math.specs.declared.plane.Hyperplane.{Hyperplane}
+use Rattle.math.specs.declared.plane.HyperplaneSide.{HyperplaneSide}
+use Rattle.math.specs.declared.plane.HyperplaneSide.the-variants.{Positive, Negative}
 use Rattle.walk.specs.Table.{Node, childOn}
 use Rattle.walk.specs.Walk.{Entered, withNode, withPlane, enter}
 use Rattle.nodes.specs.Tables.{End, isBox, fileTable}

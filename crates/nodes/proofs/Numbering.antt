@@ -14,8 +14,8 @@ use Rattle.format.specs.Answer.{Answer, answer, refused, thenAnswer}
 use Rattle.format.specs.declared.section.BspData.{BspData}
 use Rattle.format.specs.declared.section.BspFileSection.{BspFileSection}
 use Rattle.math.specs.Plane as Pl
-use Rattle.math.specs.declared.Vector3.{Vector3}
-use Rattle.math.specs.declared.Hyperplane.{Hyperplane}
+use Rattle.math.specs.declared.vector.Vector3.{Vector3}
+use Rattle.math.specs.declared.plane.Hyperplane.{Hyperplane}
 use Rattle.nodes.specs.Fast.{Within, along, sideFrom, partOf, placeIn, planeHere, planeRead, planeOfIndex, tablesOf}
 use Rattle.nodes.specs.Numbered.{allowed, readable, planeAmong, planeNumbered, sideOf, pickedBy}
 use Rattle.nodes.specs.declared.table.Part.{Part}

@@ -16,8 +16,8 @@ use Rattle.format.specs.Answer as Ans
 use Rattle.format.specs.Answer.{answer, thenAnswer}
 use Rattle.format.specs.Step.{ok, refused}
 use Rattle.math.specs.Plane as Pl
-use Rattle.math.specs.declared.Vector3.{Vector3}
-use Rattle.math.specs.declared.Hyperplane.{Hyperplane}
+use Rattle.math.specs.declared.vector.Vector3.{Vector3}
+use Rattle.math.specs.declared.plane.Hyperplane.{Hyperplane}
 use Rattle.records.specs.Triple.{vectorAt}
 use Rattle.records.specs.Plane.{filePlane, planeAt}
 use Rattle.format.specs.Refusal.{numberOf}

@@ -11,7 +11,7 @@ use Rattle.format.specs.Answer as Ans
 use Rattle.format.specs.Answer.{answer}
 use Rattle.format.specs.Refusal.{numberOf}
 use Rattle.format.specs.declared.refusal.Refusal.{Refusal}
-use Rattle.math.specs.declared.Vector3.{Vector3}
+use Rattle.math.specs.declared.vector.Vector3.{Vector3}
 use Rattle.walk.specs.Table.{node, end, Table}
 use Rattle.walk.specs.Walk.{held, withVisits, Entered, enter, meet, walk}
 use Rattle.walk.specs.Private.{after}

@@ -10,9 +10,9 @@ use lib.ListN.{length, getD}
 use lib.Ieee.{Float, binary32, ofBits, nan}
 use Rattle.math.specs.Vector as Vec
 use Rattle.math.specs.Plane as Pl
-use Rattle.math.specs.declared.Vector3.{Vector3}
-use Rattle.math.specs.declared.Hyperplane.{Hyperplane}
-use Rattle.math.specs.declared.HyperplaneSide.{HyperplaneSide}
+use Rattle.math.specs.declared.vector.Vector3.{Vector3}
+use Rattle.math.specs.declared.plane.Hyperplane.{Hyperplane}
+use Rattle.math.specs.declared.plane.HyperplaneSide.{HyperplaneSide}
 use Rattle.format.specs.Answer.{Answer, answer, refused, mapped, thenAnswer}
 use Rattle.format.specs.Refusal.{numberOf}
 use Rattle.format.specs.Code.{contentsOf}

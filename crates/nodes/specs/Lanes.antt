@@ -6,7 +6,7 @@ use mathlib.Core.List.{List}
 use lib.Dec.{ltb, leb}
 use lib.ListN.{length}
 use Rattle.format.specs.Answer.{Answer, answer, refused}
-use Rattle.math.specs.declared.Vector3.{Vector3}
+use Rattle.math.specs.declared.vector.Vector3.{Vector3}
 use Rattle.walk.specs.Walk.{withVisits, walk, pointWalk}
 use Rattle.walk.specs.Private.{after}
 use Rattle.nodes.specs.Tables.{End}

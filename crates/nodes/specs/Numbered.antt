@@ -9,9 +9,9 @@ use lib.ListN.{length, take, drop}
 use Rattle.format.specs.Answer.{Answer, answer, refused, mapped}
 use Rattle.format.specs.Refusal.{numberOf}
 use Rattle.format.specs.declared.section.BspFileSection.{BspFileSection}
-use Rattle.math.specs.declared.Hyperplane.{Hyperplane}
-use Rattle.math.specs.declared.HyperplaneSide.{HyperplaneSide}
-use Rattle.math.specs.declared.HyperplaneSide.the-variants.{Positive, Negative}
+use Rattle.math.specs.declared.plane.Hyperplane.{Hyperplane}
+use Rattle.math.specs.declared.plane.HyperplaneSide.{HyperplaneSide}
+use Rattle.math.specs.declared.plane.HyperplaneSide.the-variants.{Positive, Negative}
 use Rattle.nodes.specs.Fast.{planeHere}
 use Rattle.nodes.specs.declared.numbered.Picked.{Picked}
 use Rattle.nodes.specs.declared.numbered.Picked.the-variants as P

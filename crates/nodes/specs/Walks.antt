@@ -11,9 +11,9 @@ use lib.ListN.{length, take, drop}
 use Rattle.format.specs.Answer.{Answer, answer, refused, mapped, thenAnswer}
 use Rattle.format.specs.Refusal.{numberOf}
 use Rattle.math.specs.Plane as Pl
-use Rattle.math.specs.declared.Vector3.{Vector3}
-use Rattle.math.specs.declared.HyperplaneSide.{HyperplaneSide}
-use Rattle.math.specs.declared.HyperplaneSide.the-variants.{Positive, Negative}
+use Rattle.math.specs.declared.vector.Vector3.{Vector3}
+use Rattle.math.specs.declared.plane.HyperplaneSide.{HyperplaneSide}
+use Rattle.math.specs.declared.plane.HyperplaneSide.the-variants.{Positive, Negative}
 use Rattle.walk.specs.Table.{Child, Node, Table, childOn}
 use Rattle.walk.specs.Walk.{Entered, enter}
 use Rattle.nodes.specs.Tables.{End, isBox, fileTable}
@@ -24,8 +24,8 @@ use Rattle.nodes.specs.declared.table.Tables.{Tables}
 use Rattle.nodes.specs.declared.read.Words.{Words}
 use Rattle.nodes.specs.declared.walking.WalkEnd.{WalkEnd}
 use Rattle.nodes.specs.declared.walking.WalkEnd.the-variants as W
-use Rattle.nodes.specs.declared.walking.SegmentAt.{SegmentAt}
-use Rattle.nodes.specs.declared.walking.SegmentAt.the-variants as G
+use Rattle.nodes.specs.declared.segment.SegmentAt.{SegmentAt}
+use Rattle.nodes.specs.declared.segment.SegmentAt.the-variants as G
 use Rattle.nodes.specs.declared.walking.Onward.{Onward}
 use Rattle.nodes.specs.declared.walking.Onward.the-variants as O
 

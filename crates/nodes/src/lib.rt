@@ -3,7 +3,10 @@
 mod bytes;
 mod here;
 pub mod lanes;
+pub mod lines;
 pub mod numbered;
 pub mod read;
+pub mod segment;
 pub mod table;
 pub mod walking;
+pub mod whole;

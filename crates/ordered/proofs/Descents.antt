@@ -18,10 +18,10 @@ use Rattle.format.specs.declared.refusal.Refusal.{Refusal}
 use Rattle.format.specs.declared.contents.BspLeafContents.{BspLeafContents}
 use Rattle.math.specs.Plane as Pl
 use Rattle.math.specs.Vector.{zero32}
-use Rattle.math.specs.declared.Vector3.{Vector3}
-use Rattle.math.specs.declared.Hyperplane.{Hyperplane}
-use Rattle.math.specs.declared.LinePlaneIntersect.{LinePlaneIntersect}
-use Rattle.math.specs.declared.LinePlaneIntersect.the-variants.{NoIntersection, PointIntersection}
+use Rattle.math.specs.declared.vector.Vector3.{Vector3}
+use Rattle.math.specs.declared.plane.Hyperplane.{Hyperplane}
+use Rattle.math.specs.declared.plane.LinePlaneIntersect.{LinePlaneIntersect}
+use Rattle.math.specs.declared.plane.LinePlaneIntersect.the-variants.{NoIntersection, PointIntersection}
 use Rattle.phys.specs.declared.Trace.{Trace as TraceT}
 use Rattle.walk.specs.Table.{Child, Table, childOn}
 use Rattle.walk.specs.Walk.{Outcome, held, Entered, enter, meet, onto}

@@ -3,8 +3,8 @@
 use mathlib.Core.Bool.{Bool, true, false, cond, not, _&&_}
 use lib.Ieee.{Float, binary32, ofBits}
 use Rattle.math.specs.Vector as Vec
-use Rattle.math.specs.declared.Vector3.{Vector3}
-use Rattle.math.specs.declared.Hyperplane.{Hyperplane}
+use Rattle.math.specs.declared.vector.Vector3.{Vector3}
+use Rattle.math.specs.declared.plane.Hyperplane.{Hyperplane}
 use Rattle.format.specs.Answer.{Answer, answer, refused}
 use Rattle.format.specs.Contents as Contents
 use Rattle.format.specs.declared.contents.BspLeafContents.{BspLeafContents}

@@ -9,7 +9,7 @@ use lib.Ieee.{Float}
 use lib.ListN.{length, take, drop, length-append}
 use lib.Seq.{take-at, drop-at}
 use Rattle.format.specs.Contents.{codeOf}
-use Rattle.math.specs.declared.Hyperplane.{Hyperplane}
+use Rattle.math.specs.declared.plane.Hyperplane.{Hyperplane}
 use Rattle.walk.specs.Table.{Child}
 use Rattle.walk.specs.Walk.{Entered}
 use Rattle.nodes.specs.Tables.{End}

@@ -14,11 +14,11 @@ use lib.Ieee.{Float, nan, le}
 use Rattle.math.specs.Plane as Pl
 use Rattle.ways.specs.Groups.{kept, fill, isFront, inFront}
 use Rattle.ways.proofs.Divided.{kept-length}
-use Rattle.math.specs.declared.Axis.{Axis}
-use Rattle.math.specs.declared.Axis.the-variants.{X, Y, Z}
-use Rattle.math.specs.declared.Alignment.{Alignment}
-use Rattle.math.specs.declared.Alignment.the-variants.{Axis as Aligned}
-use Rattle.math.specs.declared.Hyperplane.{Hyperplane}
+use Rattle.math.specs.declared.vector.Axis.{Axis}
+use Rattle.math.specs.declared.vector.Axis.the-variants.{X, Y, Z}
+use Rattle.math.specs.declared.plane.Alignment.{Alignment}
+use Rattle.math.specs.declared.plane.Alignment.the-variants.{Axis as Aligned}
+use Rattle.math.specs.declared.plane.Hyperplane.{Hyperplane}
 use Rattle.points.specs.Going.{pointAt, axisNumber, reaches, Sided, firstZero, from}
 
 -- ---- a copy

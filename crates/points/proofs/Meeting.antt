@@ -13,8 +13,8 @@ use Rattle.format.specs.declared.refusal.Refusal.{Refusal}
 use Rattle.format.specs.declared.contents.BspLeafContents.{BspLeafContents}
 use Rattle.format.specs.declared.contents.BspLeafContents.the-variants.{Empty, Solid, Water, Slime, Lava, Sky, Current0, Current90, Current180, Current270, CurrentUp, CurrentDown}
 use Rattle.math.specs.Plane as Pl
-use Rattle.math.specs.declared.Hyperplane.{Hyperplane}
-use Rattle.math.specs.declared.HyperplaneSide.{HyperplaneSide}
+use Rattle.math.specs.declared.plane.Hyperplane.{Hyperplane}
+use Rattle.math.specs.declared.plane.HyperplaneSide.{HyperplaneSide}
 use Rattle.walk.specs.Table.{node, end}
 use Rattle.walk.specs.Walk.{enter}
 use Rattle.records.specs.Answers.{planeAnswer}

@@ -9,9 +9,9 @@ use lib.Ieee.{Float, nan, le}
 use lib.ListN.{length, getD, take, drop}
 use Rattle.format.specs.Contents.{codeOf}
 use Rattle.math.specs.Vector.{vector}
-use Rattle.math.specs.declared.Vector3.{Vector3}
-use Rattle.math.specs.declared.Axis.{Axis}
-use Rattle.math.specs.declared.Axis.the-variants.{X, Y, Z}
+use Rattle.math.specs.declared.vector.Vector3.{Vector3}
+use Rattle.math.specs.declared.vector.Axis.{Axis}
+use Rattle.math.specs.declared.vector.Axis.the-variants.{X, Y, Z}
 use Rattle.math.specs.Plane as Pl
 use Rattle.walk.specs.Table.{Child, node, end, childOn}
 use Rattle.nodes.specs.Tables.{End}

@@ -10,7 +10,7 @@ use Rattle.format.specs.Contents.{codeOf}
 use Rattle.format.specs.Listed.{Listed, listed}
 use Rattle.format.specs.declared.contents.BspLeafContents.{BspLeafContents}
 use Rattle.math.specs.Vector.{vector}
-use Rattle.math.specs.declared.Vector3.{Vector3}
+use Rattle.math.specs.declared.vector.Vector3.{Vector3}
 use Rattle.walk.specs.Table.{Table}
 use Rattle.ways.specs.Ways.{answers, reads}
 

@@ -13,7 +13,7 @@ use Rattle.format.specs.Contents.{codeOf}
 use Rattle.format.specs.Listed.{listed}
 use Rattle.format.specs.declared.contents.BspLeafContents.{BspLeafContents}
 use Rattle.format.specs.declared.section.BspData.{BspData}
-use Rattle.math.specs.declared.Vector3.{Vector3}
+use Rattle.math.specs.declared.vector.Vector3.{Vector3}
 use Rattle.walk.specs.Table.{Nodes, Table}
 use Rattle.walk.specs.Walk.{pointWalk}
 use Rattle.walk.specs.TreeCheck.{treeCheck}

@@ -24,10 +24,10 @@ use Rattle.format.proofs.Chain.{go, no, coded}
 use Rattle.records.specs.Access.{reading, readAt}
 use Rattle.records.specs.Node.{withContents}
 use Rattle.records.specs.Answers.{edgeStep, edgeIndexStep, contentsStep, leafStep, renderChildStep, renderNodeStep, collisionChildStep, collisionNodeStep, offsetStep, planeStep, flagStep, texinfoStep, vectorStep, pointStep}
-use Rattle.math.specs.declared.Vector3.{Vector3}
+use Rattle.math.specs.declared.vector.Vector3.{Vector3}
 use Rattle.records.specs.declared.triple.Point.{Point}
 use Rattle.records.specs.declared.number.OptionalOffset.{OptionalOffset}
-use Rattle.math.specs.declared.Hyperplane.{Hyperplane}
+use Rattle.math.specs.declared.plane.Hyperplane.{Hyperplane}
 use Rattle.records.specs.declared.node.BspRenderNodeChild.{BspRenderNodeChild}
 use Rattle.records.specs.declared.node.BspRenderNode.{BspRenderNode}
 use Rattle.records.specs.declared.node.BspCollisionNodeChild.{BspCollisionNodeChild}

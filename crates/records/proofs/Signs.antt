@@ -13,7 +13,7 @@ use lib.Signed.{ltZ, mag}
 use mir.Syntax.{w32, w64}
 use mir.Val.{SFits, Fits, toZ, ofZ}
 use Rattle.math.specs.Plane.{newPlane}
-use Rattle.math.specs.declared.Vector3.{Vector3}
+use Rattle.math.specs.declared.vector.Vector3.{Vector3}
 use Rattle.format.specs.Code.{negated}
 use Rattle.format.proofs.Chain.{held, sign}
 use Rattle.format.proofs.Codes.{cast-is}

@@ -2,8 +2,8 @@
 -- calls may leave this file out.
 use Prim.Native.Nat.{ℕ}
 use mathlib.Core.Bool.{Bool}
-use Rattle.math.specs.declared.Hyperplane.{Hyperplane}
-use Rattle.math.specs.declared.Vector3.{Vector3}
+use Rattle.math.specs.declared.plane.Hyperplane.{Hyperplane}
+use Rattle.math.specs.declared.vector.Vector3.{Vector3}
 use Rattle.format.specs.Step.{Step, ok, refused}
 use Rattle.format.specs.Answer as Answer
 use Rattle.format.specs.Answer.{Answer}

@@ -6,8 +6,8 @@ use lib.Dec.{eqb}
 use lib.IntN.{ℤ, pos, negsuc}
 use lib.Ieee.{Float}
 use Rattle.math.specs.Plane.{axisX, axisY, axisZ, newPlane}
-use Rattle.math.specs.declared.Vector3.{Vector3}
-use Rattle.math.specs.declared.Hyperplane.{Hyperplane}
+use Rattle.math.specs.declared.vector.Vector3.{Vector3}
+use Rattle.math.specs.declared.plane.Hyperplane.{Hyperplane}
 use Rattle.format.specs.Step.{Step, ok, andThen}
 use Rattle.format.specs.Answer.{Answer}
 use Rattle.format.specs.Field.{f32At, i32At}

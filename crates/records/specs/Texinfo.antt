@@ -4,7 +4,7 @@ use mathlib.Core.List.{List}
 use mathlib.Core.Bool.{Bool, true, false, cond}
 use lib.Dec.{eqb}
 use lib.Ieee.{Float}
-use Rattle.math.specs.declared.Vector3.{Vector3}
+use Rattle.math.specs.declared.vector.Vector3.{Vector3}
 use Rattle.format.specs.Step.{Step, ok, refused, andThen}
 use Rattle.format.specs.Answer.{Answer}
 use Rattle.format.specs.Field.{f32At, indexAt}

@@ -1,7 +1,7 @@
 -- Three fields in a row: a vector of floats (`read_f32_3`), and a point of whole numbers (`read_i16_3`).
 use Prim.Native.Nat.{ℕ}
 use mathlib.Core.List.{List}
-use Rattle.math.specs.declared.Vector3.{Vector3}
+use Rattle.math.specs.declared.vector.Vector3.{Vector3}
 use Rattle.format.specs.Step.{Step, ok, andThen}
 use Rattle.format.specs.Field.{f32At, i16At}
 use Rattle.records.specs.declared.triple.Point.{Point}

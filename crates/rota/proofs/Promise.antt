@@ -17,7 +17,7 @@ use Rattle.format.specs.declared.section.BspData.{BspData}
 use Rattle.format.specs.declared.section.BspFileSection.{BspFileSection}
 use Rattle.format.specs.declared.section.BspFileSectionId.{BspFileSectionId}
 use Rattle.format.specs.declared.section.BspFileSectionId.the-variants.{Planes, Leaves, CollisionNodes, Models}
-use Rattle.math.specs.declared.Vector3.{Vector3}
+use Rattle.math.specs.declared.vector.Vector3.{Vector3}
 use Rattle.math.proofs.Fits.{Fits3}
 use Rattle.walk.specs.Table.{Nodes, Table}
 use Rattle.walk.specs.Walk.{withVisits, pointWalk}

@@ -16,7 +16,7 @@ use Rattle.format.specs.declared.contents.BspLeafContents.{BspLeafContents}
 use Rattle.format.specs.declared.contents.BspLeafContents.the-variants.{Solid}
 use Rattle.math.specs.Plane.{lineSegment}
 use Rattle.math.specs.Vector.{zero32}
-use Rattle.math.specs.declared.Vector3.{Vector3}
+use Rattle.math.specs.declared.vector.Vector3.{Vector3}
 use Rattle.phys.specs.declared.Trace.{Trace as TraceT}
 use Rattle.walk.specs.Walk.{withVisits, pointWalk, walk, enter, meet}
 use Rattle.walk.specs.Tracing as Tracing

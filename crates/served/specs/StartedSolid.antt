@@ -12,7 +12,7 @@ use mathlib.Core.List.{List}
 use mathlib.Core.Logic.{_↔_}
 use mathlib.Core.Path.{_≡_}
 use lib.Ieee.{Float}
-use Rattle.math.specs.declared.Vector3.{Vector3}
+use Rattle.math.specs.declared.vector.Vector3.{Vector3}
 use Rattle.walk.specs.StartedSolid.{Finite3}
 use Rattle.tree.specs.Readable.{Floats}
 use Rattle.served.specs.Cited.{bspContents, bspTrace, pointAt}

@@ -10,7 +10,7 @@ use lib.Ieee.{Float, binary32, ofBits}
 use lib.Ieee.Scale.{finite}
 use Rattle.format.specs.Answer.{Answer, answer, refused}
 use Rattle.math.specs.Vector.{vector}
-use Rattle.math.specs.declared.Vector3.{Vector3}
+use Rattle.math.specs.declared.vector.Vector3.{Vector3}
 use Rattle.sizes.specs.declared.Bounds.{Bounds}
 use Rattle.sizes.specs.declared.BodySizes.{BodySizes}
 

@@ -11,9 +11,9 @@ use lib.ListN.{length}
 use Rattle.format.specs.Answer.{answer, refused, mapped}
 use Rattle.format.specs.declared.contents.BspLeafContents.{BspLeafContents}
 use Rattle.format.specs.declared.section.BspData.{BspData}
-use Rattle.math.specs.declared.Vector3.{Vector3}
+use Rattle.math.specs.declared.vector.Vector3.{Vector3}
 use Rattle.math.specs.Plane.{axisX, axisY, axisZ}
-use Rattle.math.specs.declared.Hyperplane.{Hyperplane}
+use Rattle.math.specs.declared.plane.Hyperplane.{Hyperplane}
 use Rattle.walk.specs.TreeCheck.{checkNode, treeCheck}
 use Rattle.walk.specs.Tree.{Reads, IsEnd, IsTree, Fails}
 use Rattle.walk.proofs.Check.{answer-is, passes-exactly}

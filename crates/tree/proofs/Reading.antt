@@ -20,9 +20,9 @@ use Rattle.format.specs.declared.section.BspData.{BspData}
 use Rattle.format.specs.declared.section.BspFileSectionId.{BspFileSectionId}
 use Rattle.format.specs.declared.section.BspFileSectionId.the-variants.{Planes, RenderNodes, CollisionNodes}
 use Rattle.math.specs.Plane as Pl
-use Rattle.math.specs.declared.Vector3.{Vector3}
-use Rattle.math.specs.declared.Axis.the-variants.{X, Y, Z}
-use Rattle.math.specs.declared.Hyperplane.{Hyperplane}
+use Rattle.math.specs.declared.vector.Vector3.{Vector3}
+use Rattle.math.specs.declared.vector.Axis.the-variants.{X, Y, Z}
+use Rattle.math.specs.declared.plane.Hyperplane.{Hyperplane}
 use Rattle.math.proofs.Fits.{FitsPlane, axis-plane-fits, new-plane-fits}
 use Rattle.walk.specs.Table.{Node}
 use Rattle.walk.specs.Tree.{PlanesFit}

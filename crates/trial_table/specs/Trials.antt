@@ -10,11 +10,11 @@ use Rattle.float.specs.Whole.{ofWhole}
 use Rattle.math.specs.Vector.{vector, dot, normalize}
 use Rattle.math.specs.Plane.{axisX, axisY, withNormal, newPlane}
 use Rattle.math.specs.Box.{boxSide}
-use Rattle.math.specs.declared.Vector3.{Vector3}
-use Rattle.math.specs.declared.Hyperplane.{Hyperplane}
-use Rattle.math.specs.declared.BoxSide.{BoxSide}
-use Rattle.math.specs.declared.BoxSide.the-variants.{One, Both}
-use Rattle.math.specs.declared.HyperplaneSide.the-variants.{Negative}
+use Rattle.math.specs.declared.vector.Vector3.{Vector3}
+use Rattle.math.specs.declared.plane.Hyperplane.{Hyperplane}
+use Rattle.math.specs.declared.bounds.BoxSide.{BoxSide}
+use Rattle.math.specs.declared.bounds.BoxSide.the-variants.{One, Both}
+use Rattle.math.specs.declared.plane.HyperplaneSide.the-variants.{Negative}
 use Rattle.format.specs.Answer.{Answer, answer, refused, mapped, thenAnswer}
 use Rattle.format.specs.Listed.{Listed, listed, into}
 use Rattle.format.specs.declared.contents.BspLeafContents.{BspLeafContents}

@@ -5,7 +5,7 @@ use mathlib.Core.Logic.{_⊎_, inl, inr}
 use mathlib.Core.Path.{_≡_}
 use borrow.Author.Tests.{lt-ltb}
 use Rattle.format.specs.Answer.{answer}
-use Rattle.math.specs.declared.Hyperplane.{Hyperplane}
+use Rattle.math.specs.declared.plane.Hyperplane.{Hyperplane}
 use Rattle.walk.specs.Table.{end, Table}
 use Rattle.walk.specs.Walk.{Outcome, done, entered, enter, meet, onto}
 use Rattle.walk.specs.Tree.{NoTwice, Reads, IsEnd}

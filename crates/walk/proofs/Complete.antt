@@ -8,8 +8,8 @@ use mathlib.Core.Path.{_≡_, refl, sym, _∙_}
 use lib.ListN.{length, set, length-set}
 use borrow.Author.Tests.{lt-ltb}
 use Rattle.format.specs.Answer.{answer}
-use Rattle.math.specs.declared.HyperplaneSide.{HyperplaneSide}
-use Rattle.math.specs.declared.HyperplaneSide.the-variants.{Positive, Negative}
+use Rattle.math.specs.declared.plane.HyperplaneSide.{HyperplaneSide}
+use Rattle.math.specs.declared.plane.HyperplaneSide.the-variants.{Positive, Negative}
 use Rattle.walk.specs.Table.{Child, node, end, Node, Nodes, childOn}
 use Rattle.walk.specs.Tree.{ChildOf, Reach, Valid, IsTree}
 use Rattle.walk.specs.TreeCheck.{Checked, checked, checkChild, checkRecord, checkNode}

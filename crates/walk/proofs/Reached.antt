@@ -9,8 +9,8 @@ use lib.Dec.{leb}
 use borrow.Author.Tests.{leb-true, leb-false}
 use lib.ListN.{length}
 use Rattle.format.specs.Answer.{Answer, answer}
-use Rattle.math.specs.declared.HyperplaneSide.{HyperplaneSide}
-use Rattle.math.specs.declared.HyperplaneSide.the-variants.{Positive, Negative}
+use Rattle.math.specs.declared.plane.HyperplaneSide.{HyperplaneSide}
+use Rattle.math.specs.declared.plane.HyperplaneSide.the-variants.{Positive, Negative}
 use Rattle.walk.specs.Table.{Child, node, end, Node, Nodes, childOn}
 use Rattle.walk.specs.Tree.{NoTwice, ChildOf, InTree, at-root, below, Reach, Valid, IsTree, Height}
 use Rattle.walk.proofs.Lists.{once-left, once-right, once-apart}

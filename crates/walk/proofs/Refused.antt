@@ -9,8 +9,8 @@ use lib.Dec.{ltb}
 use lib.ListN.{length, length-append, set, replicate}
 use borrow.Author.Tests.{ltb-true, ltb-false}
 use Rattle.format.specs.Answer.{Answer, answer, refused}
-use Rattle.math.specs.declared.HyperplaneSide.{HyperplaneSide}
-use Rattle.math.specs.declared.HyperplaneSide.the-variants.{Positive, Negative}
+use Rattle.math.specs.declared.plane.HyperplaneSide.{HyperplaneSide}
+use Rattle.math.specs.declared.plane.HyperplaneSide.the-variants.{Positive, Negative}
 use Rattle.walk.specs.Table.{Child, node, end, Node, Nodes, childOn}
 use Rattle.walk.specs.Tree.{Reach, IsTree, Fails, index-outside, reached-twice, too-deep, unreadable, plane-outside, end-outside}
 use Rattle.walk.specs.TreeCheck.{Checked, checked, higher, thenBack, checkChild, checkChildren, checkRecord, checkIndex, checkNode, treeCheck}

@@ -9,8 +9,8 @@ use Rattle.format.specs.Answer as Ans
 use Rattle.format.specs.Answer.{Answer, answer}
 use Rattle.format.specs.declared.contents.BspLeafContents.{BspLeafContents}
 use Rattle.math.specs.Plane as Pl
-use Rattle.math.specs.declared.Hyperplane.{Hyperplane}
-use Rattle.math.specs.declared.Vector3.{Vector3}
+use Rattle.math.specs.declared.plane.Hyperplane.{Hyperplane}
+use Rattle.math.specs.declared.vector.Vector3.{Vector3}
 use Rattle.phys.specs.declared.Trace.{Trace as TraceT}
 use Rattle.walk.specs.Table.{Child, node, end, Node, Table, childOn}
 use Rattle.walk.specs.Walk.{Outcome, done, refused, entered, held, withVisits, enter, meet, ended, onto, walkAt, walk}

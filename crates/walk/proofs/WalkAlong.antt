@@ -7,9 +7,9 @@ use lib.ListN.{length}
 use borrow.Author.Tests.{lt-ltb}
 use Rattle.format.specs.Answer.{answer}
 use Rattle.math.specs.Plane as Pl
-use Rattle.math.specs.declared.Hyperplane.{Hyperplane}
-use Rattle.math.specs.declared.HyperplaneSide.{HyperplaneSide}
-use Rattle.math.specs.declared.Vector3.{Vector3}
+use Rattle.math.specs.declared.plane.Hyperplane.{Hyperplane}
+use Rattle.math.specs.declared.plane.HyperplaneSide.{HyperplaneSide}
+use Rattle.math.specs.declared.vector.Vector3.{Vector3}
 use Rattle.walk.specs.Table.{Child, Table}
 use Rattle.walk.specs.Walk.{Outcome, enter, onto, walk}
 use Rattle.walk.specs.Tree.{NoTwice, Reads}

@@ -10,12 +10,12 @@ use Rattle.format.specs.Answer.{Answer, answer}
 use Rattle.format.specs.declared.contents.BspLeafContents.{BspLeafContents}
 use Rattle.math.specs.Vector as Vec
 use Rattle.math.specs.Plane as Pl
-use Rattle.math.specs.declared.Vector3.{Vector3}
-use Rattle.math.specs.declared.Hyperplane.{Hyperplane}
-use Rattle.math.specs.declared.HyperplaneSide.{HyperplaneSide}
-use Rattle.math.specs.declared.PointIntersection.{PointIntersection as Crossing}
-use Rattle.math.specs.declared.LinePlaneIntersect.{LinePlaneIntersect}
-use Rattle.math.specs.declared.LinePlaneIntersect.the-variants.{NoIntersection, PointIntersection}
+use Rattle.math.specs.declared.vector.Vector3.{Vector3}
+use Rattle.math.specs.declared.plane.Hyperplane.{Hyperplane}
+use Rattle.math.specs.declared.plane.HyperplaneSide.{HyperplaneSide}
+use Rattle.math.specs.declared.plane.PointIntersection.{PointIntersection as Crossing}
+use Rattle.math.specs.declared.plane.LinePlaneIntersect.{LinePlaneIntersect}
+use Rattle.math.specs.declared.plane.LinePlaneIntersect.the-variants.{NoIntersection, PointIntersection}
 use Rattle.phys.specs.Trace as Tr
 use Rattle.phys.specs.declared.Trace.{Trace}
 use Rattle.walk.specs.Table.{Node, Table, childOn}

@@ -7,8 +7,8 @@ use lib.Dec.{T as Holds}
 use lib.Ieee.{binary32, fits}
 use lib.ListN.{length}
 use Rattle.format.specs.Answer.{answer, refused}
-use Rattle.math.specs.declared.Hyperplane.{Hyperplane}
-use Rattle.math.specs.declared.HyperplaneSide.{HyperplaneSide}
+use Rattle.math.specs.declared.plane.Hyperplane.{Hyperplane}
+use Rattle.math.specs.declared.plane.HyperplaneSide.{HyperplaneSide}
 use Rattle.walk.specs.Table.{node, end, Node, Nodes, Table, childOn}
 
 -- no number is on the list twice

@@ -7,9 +7,9 @@ use mathlib.Core.Path.{_≡_, refl, sym, _∙_, ap}
 use lib.ListN.{length, set}
 use lib.Seq.{set-comm}
 use Rattle.math.specs.Plane as Pl
-use Rattle.math.specs.declared.Vector3.{Vector3}
-use Rattle.math.specs.declared.HyperplaneSide.{HyperplaneSide}
-use Rattle.math.specs.declared.HyperplaneSide.the-variants.{Positive, Negative}
+use Rattle.math.specs.declared.vector.Vector3.{Vector3}
+use Rattle.math.specs.declared.plane.HyperplaneSide.{HyperplaneSide}
+use Rattle.math.specs.declared.plane.HyperplaneSide.the-variants.{Positive, Negative}
 use Rattle.walk.specs.Table.{Child, node, end, Table, childOn}
 use Rattle.walk.specs.Walk.{Entered}
 use Rattle.ways.specs.Groups.{kept, isFront, inFront, fronts, backs, fill, ifAny, Meets, settled, onward, meets, byteAt, readsStep, readsAt, bytesOf}

@@ -9,11 +9,11 @@ use lib.Ieee.{Float, binary32, toBits}
 use mir.Syntax.{w64}
 use mir.Val.{ofZ}
 use Rattle.math.specs.Plane.{normalOf}
-use Rattle.math.specs.declared.Vector3.{Vector3}
-use Rattle.math.specs.declared.Axis.the-variants.{X, Y, Z}
-use Rattle.math.specs.declared.Alignment.{Alignment}
-use Rattle.math.specs.declared.Alignment.the-variants.{Axis, Normal}
-use Rattle.math.specs.declared.Hyperplane.{Hyperplane}
+use Rattle.math.specs.declared.vector.Vector3.{Vector3}
+use Rattle.math.specs.declared.vector.Axis.the-variants.{X, Y, Z}
+use Rattle.math.specs.declared.plane.Alignment.{Alignment}
+use Rattle.math.specs.declared.plane.Alignment.the-variants.{Axis, Normal}
+use Rattle.math.specs.declared.plane.Hyperplane.{Hyperplane}
 use Rattle.format.specs.Answer.{Answer, answer, refused, mapped}
 use Rattle.format.specs.Listed.{Listed}
 use Rattle.format.specs.declared.section.BspData.{BspData}

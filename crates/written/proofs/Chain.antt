@@ -10,8 +10,8 @@ use borrow.Author.Tests.{eqb-true, eqb-false, ne-eqb}
 use lib.Dec.{eqb}
 use lib.ListN.{length, replicate, length-replicate}
 use Rattle.format.specs.Answer.{Answer, answer}
-use Rattle.math.specs.declared.HyperplaneSide.{HyperplaneSide}
-use Rattle.math.specs.declared.HyperplaneSide.the-variants.{Positive, Negative}
+use Rattle.math.specs.declared.plane.HyperplaneSide.{HyperplaneSide}
+use Rattle.math.specs.declared.plane.HyperplaneSide.the-variants.{Positive, Negative}
 use Rattle.walk.specs.Order.{childNodes, nodesBelow, treeSize}
 use Rattle.walk.specs.Table.{Child, node, end, Node, Nodes, childOn}
 use Rattle.walk.specs.Tree.{ChildOf, InTree, at-root, below, Reach, Valid, IsTree, Height}

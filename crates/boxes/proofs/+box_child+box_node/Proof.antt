@@ -10,7 +10,7 @@ use denote.Ref.{now}
 use borrow.Fn.Kinds.{In}
 use borrow.Fn.PlainCycle.{Measures, is, falls, and}
 use Rattle.format.specs.Answer.{Answer, answer}
-use Rattle.math.specs.declared.Hyperplane.{Hyperplane}
+use Rattle.math.specs.declared.plane.Hyperplane.{Hyperplane}
 use Rattle.records.specs.Answers.{planeAnswer}
 use Rattle.walk.specs.BoxWalk.{union, boxWalk}
 use Rattle.nodes.specs.Fast as Fast
@@ -27,7 +27,7 @@ use Rattle.boxes.proofs.+box_child+box_node.Lts-box_node as box-node-lt
 use Rattle.boxes.proofs.only.Reads as only-reads
 use Rattle.math.specs.Box.{boxSide}
 use Rattle.math.proofs.Boxes.{box-side-by-two}
-use Rattle.math.proofs.Hyperplane.box_side.Reads as box-side-reads
+use Rattle.math.proofs.plane.Hyperplane.box_side.Reads as box-side-reads
 use Rattle.nodes.proofs.read.Words.on.Reads as on-reads
 use Rattle.nodes.proofs.read.end_contents.Reads as end-contents-reads
 use Rattle.nodes.proofs.read.is_front.Reads as is-front-reads

@@ -5,7 +5,7 @@ use mathlib.Core.Path.{_≡_, ap, ap₂, _∙_}
 use borrow.Author.Tests.{lt-ltb, le-ltb}
 use Rattle.format.specs.Answer.{Answer, answer, refused, thenAnswer}
 use Rattle.format.specs.declared.contents.BspLeafContents.{BspLeafContents}
-use Rattle.math.specs.declared.Vector3.{Vector3}
+use Rattle.math.specs.declared.vector.Vector3.{Vector3}
 use Rattle.words.specs.Words.{beside, mapOf}
 use Rattle.walk.specs.Table.{Table}
 use Rattle.walk.specs.TreeCheck.{Checked}

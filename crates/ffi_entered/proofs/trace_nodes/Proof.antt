@@ -6,7 +6,7 @@ use borrow.Author.Tests.{lt-ltb, le-ltb}
 use Rattle.format.specs.Answer.{Answer, refused, thenAnswer}
 use Rattle.format.specs.Listed.{into}
 use Rattle.format.specs.declared.contents.BspLeafContents.{BspLeafContents}
-use Rattle.math.specs.declared.Vector3.{Vector3}
+use Rattle.math.specs.declared.vector.Vector3.{Vector3}
 use Rattle.words.specs.Words.{listedIn, mapOf}
 use Rattle.words.proofs.Giving.{counts}
 use Rattle.walk.specs.Table.{Table}

@@ -1,6 +1,6 @@
 -- `ffi_traces::went_words` meets its contract. Assumes nothing.
 use mathlib.Core.Path.{refl, ap, _∙_}
-use Rattle.math.specs.declared.Vector3.{Vector3}
+use Rattle.math.specs.declared.vector.Vector3.{Vector3}
 use Rattle.words.specs.Words.{floatWord}
 use Rattle.hull.specs.Traces.{atStart, wentTrace}
 use Rattle.ffi_traces.proofs.Sevens.{laid, end-point}

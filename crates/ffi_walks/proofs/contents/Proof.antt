@@ -4,7 +4,7 @@ use Prim.Native.Nat.{ℕ}
 use mathlib.Core.Path.{_≡_, ap, _∙_}
 use borrow.Author.Tests.{lt-ltb, le-ltb}
 use Rattle.format.specs.Answer.{Answer, refused, mapped, thenAnswer}
-use Rattle.math.specs.declared.Vector3.{Vector3}
+use Rattle.math.specs.declared.vector.Vector3.{Vector3}
 use Rattle.words.specs.Words.{given, mapOf}
 use Rattle.hull.specs.Hull.{hullTable}
 use Rattle.ffi_hull.proofs.Walked.{no-hull, the-tables}

@@ -4,7 +4,7 @@ use mathlib.Core.Path.{_≡_, refl, sym, ap, _∙_}
 use mathlib.Core.List.{[], _∷_}
 use Prim.Native.Nat.{ℕ, zero, suc}
 use lib.ListN.{getD}
-use Rattle.math.specs.declared.LinePlaneIntersect.{LinePlaneIntersect}
+use Rattle.math.specs.declared.plane.LinePlaneIntersect.{LinePlaneIntersect}
 use Rattle.ffi_math.specs.FloatWords as Words
 use Rattle.ffi_math.proofs.planes.crossing_word.Statement.{statement}
 use Rattle.ffi_math.proofs.planes.crossing_word.Tie as tie

@@ -4,8 +4,8 @@ use mathlib.Core.Path.{ap, _∙_}
 use lib.ListN.{getD}
 use Rattle.math.specs.Plane as Pl
 use Rattle.math.specs.Vector as Vec
-use Rattle.math.specs.declared.Hyperplane.{Hyperplane}
-use Rattle.math.specs.declared.LinePlaneIntersect.{LinePlaneIntersect}
+use Rattle.math.specs.declared.plane.Hyperplane.{Hyperplane}
+use Rattle.math.specs.declared.plane.LinePlaneIntersect.{LinePlaneIntersect}
 use Rattle.ffi_math.specs.FloatWords as Words
 use Rattle.ffi_math.proofs.planes.plane_crossing_word.Statement.{statement}
 use Rattle.ffi_math.proofs.planes.plane_crossing_word.Tie as tie

@@ -2,7 +2,7 @@
 use borrow.Author.Needs.{needs}
 use mathlib.Core.Path.{ap, _∙_}
 use lib.ListN.{getD}
-use Rattle.math.specs.declared.Hyperplane.{Hyperplane}
+use Rattle.math.specs.declared.plane.Hyperplane.{Hyperplane}
 use Rattle.ffi_math.specs.FloatWords as Words
 use Rattle.ffi_math.proofs.planes.plane_from_normal_word.Statement.{statement}
 use Rattle.ffi_math.proofs.planes.plane_from_normal_word.Tie as tie

@@ -3,7 +3,7 @@ use borrow.Author.Needs.{needs}
 use mathlib.Core.Path.{ap, _∙_}
 use Rattle.math.specs.Plane as Pl
 use Rattle.math.specs.Vector as Vec
-use Rattle.math.specs.declared.Hyperplane.{Hyperplane}
+use Rattle.math.specs.declared.plane.Hyperplane.{Hyperplane}
 use Rattle.ffi_math.specs.FloatWords as Words
 use Rattle.ffi_math.proofs.planes.plane_point_side.Statement.{statement}
 use Rattle.ffi_math.proofs.planes.plane_point_side.Tie as tie

@@ -4,7 +4,7 @@ use mathlib.Core.Path.{sym, ap, _∙_}
 use Prim.Native.Nat.{ℕ}
 use native.Mathlib.Omega.{arith}
 use lib.ListN.{getD, List·getD-eq-default}
-use Rattle.math.specs.declared.Vector3.{Vector3}
+use Rattle.math.specs.declared.vector.Vector3.{Vector3}
 use Rattle.ffi_math.specs.FloatWords as Words
 use Rattle.ffi_math.proofs.planes.plane_word.Statement.{statement}
 use Rattle.ffi_math.proofs.planes.plane_word.Tie as tie

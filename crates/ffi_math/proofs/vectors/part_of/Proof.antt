@@ -5,7 +5,7 @@ use Prim.Native.Nat.{ℕ, _≤_}
 use native.Mathlib.Omega.{arith}
 use lib.ListN.{List·getD-eq-default}
 use Rattle.math.specs.Vector.{zero32}
-use Rattle.math.specs.declared.Vector3.{Vector3}
+use Rattle.math.specs.declared.vector.Vector3.{Vector3}
 use Rattle.ffi_math.specs.FloatWords as Words
 use Rattle.ffi_math.proofs.vectors.part_of.Statement.{statement}
 use Rattle.ffi_math.proofs.vectors.part_of.Tie as tie

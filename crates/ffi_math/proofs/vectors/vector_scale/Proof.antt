@@ -1,7 +1,7 @@
 -- `ffi_math::vectors::vector_scale` meets its contract. Assumes nothing.
 use borrow.Author.Needs.{needs}
 use mathlib.Core.Path.{ap, _∙_}
-use Rattle.math.specs.declared.Vector3.{Vector3}
+use Rattle.math.specs.declared.vector.Vector3.{Vector3}
 use Rattle.ffi_math.specs.FloatWords as Words
 use Rattle.ffi_math.proofs.vectors.vector_scale.Statement.{statement}
 use Rattle.ffi_math.proofs.vectors.vector_scale.Tie as tie

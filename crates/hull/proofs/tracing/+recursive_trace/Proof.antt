@@ -9,8 +9,8 @@ use mathlib.Core.List.{List}
 use lib.Ieee.{Float}
 use Rattle.math.specs.Plane as Pl
 use Rattle.math.specs.Plane.{axisX}
-use Rattle.math.specs.declared.Vector3.{Vector3}
-use Rattle.math.specs.declared.Hyperplane.{Hyperplane}
+use Rattle.math.specs.declared.vector.Vector3.{Vector3}
+use Rattle.math.specs.declared.plane.Hyperplane.{Hyperplane}
 use Rattle.walk.specs.Private.{after}
 use Rattle.nodes.specs.declared.table.Tables.{Tables}
 use Rattle.nodes.specs.declared.read.Words.{Words}
@@ -36,10 +36,10 @@ use Rattle.hull.proofs.tracing.met_at.Reads as met-at-reads
 use Rattle.hull.proofs.tracing.ends_with.Reads as ends-with-reads
 use Rattle.hull.proofs.tracing.again.Reads as again-reads
 use Rattle.hull.proofs.tracing.ended.Reads as ended-reads
-use Rattle.math.proofs.Hyperplane.point_side.Reads as point-side-reads
-use Rattle.math.proofs.Vector3.add.Reads as add-reads
-use Rattle.math.proofs.Vector3.scale.Reads as scale-reads
-use Rattle.math.proofs.Vector3.sub.Reads as sub-reads
+use Rattle.math.proofs.plane.Hyperplane.point_side.Reads as point-side-reads
+use Rattle.math.proofs.vector.Vector3.add.Reads as add-reads
+use Rattle.math.proofs.vector.Vector3.scale.Reads as scale-reads
+use Rattle.math.proofs.vector.Vector3.sub.Reads as sub-reads
 use Rattle.nodes.proofs.read.is_front.Reads as is-front-reads
 use Rattle.nodes.proofs.read.plane_at.Reads as plane-at-reads
 use Rattle.hull.proofs.tracing.+recursive_trace.{statement}

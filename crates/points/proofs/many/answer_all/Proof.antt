@@ -5,7 +5,7 @@ use Prim.Native.Nat.{_≤_}
 use mathlib.Core.Path.{sym, _∙_, ap}
 use lib.ListN.{length}
 use lib.Seq.{length-take-le}
-use Rattle.math.specs.declared.Vector3.{Vector3}
+use Rattle.math.specs.declared.vector.Vector3.{Vector3}
 use Rattle.walk.specs.Table.{node, Table}
 use Rattle.walk.specs.Walk.{withVisits, pointWalk}
 use Rattle.hull.specs.Hull.{hullTable}
