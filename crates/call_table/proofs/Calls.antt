@@ -1,4 +1,5 @@
 -- The table of specs/Calls.antt, computed. Assumes nothing.
+use mathlib.Core.List.{map}
 use mathlib.Core.Path.{_≡_, refl}
 use Rattle.format.specs.Section.{recordCount, place}
 use Rattle.records.specs.Access.{recordOf}
@@ -19,8 +20,8 @@ use Rattle.ffi_points.specs.Calls.{bspContentsPoints}
 use Rattle.ffi_line.specs.Calls.{bspTraceLine}
 use Rattle.ffi_order.specs.Calls.{bspOrder, bspOrderContents}
 use Rattle.ffi_textures.specs.Calls.{bspTexture, bspTextureFrame, bspTextureStatic}
-use Rattle.call_table.specs.Calls.{trials, each}
+use Rattle.call_table.specs.Calls.{trials}
 
-pub all-hold : each (λ t. t .definition) trials ≡ each (λ t. t .header) trials
-unfolding trials each recordCount place recordOf modelOf leafIdOf bspLoad bspLoadPlace bspRecord recordIn bspCount bspEntities sectionNumbered hullFrom bspHull bspBox bspContents bspFindLeaf bspTrace bspContentsNodes bspFindLeafNodes bspTraceNodes bspHullCheck bspContentsBox bspAccept bspContentsPoints bspTraceLine bspOrder bspOrderContents bspTexture bspTextureFrame bspTextureStatic
+pub all-hold : map (λ t. t .definition) trials ≡ map (λ t. t .header) trials
+unfolding trials recordCount place recordOf modelOf leafIdOf bspLoad bspLoadPlace bspRecord recordIn bspCount bspEntities sectionNumbered hullFrom bspHull bspBox bspContents bspFindLeaf bspTrace bspContentsNodes bspFindLeafNodes bspTraceNodes bspHullCheck bspContentsBox bspAccept bspContentsPoints bspTraceLine bspOrder bspOrderContents bspTexture bspTextureFrame bspTextureStatic
 all-hold = refl

@@ -1,5 +1,2 @@
--- The tables of trials, computed.
+-- The table of trials, computed.
 pub mod Calls
-pub mod Acceptance
-pub mod Places
-pub mod Textures

@@ -30,11 +30,6 @@ infix 4 _gives_
 abbrev pub _gives_ : ℕ → ℕ → Trial
 d gives n = record { definition = d; header = n }
 
--- what each trial has in one of its places
-unfoldable pub each : (Trial → ℕ) → List Trial → List ℕ
-each f [] = []
-each f (t ∷ ts) = f t ∷ each f ts
-
 -- ---- lists of so many words or floats, all of them 0, and the words of a hull whose table is none
 
 abbrev pub words : ℕ → List ℕ

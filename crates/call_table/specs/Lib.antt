@@ -1,5 +1,2 @@
--- The trials of the calls for C, of acceptance, of places and of textures.
+-- The trials of the calls for C.
 pub mod Calls
-pub mod Acceptance
-pub mod Places
-pub mod Textures

@@ -1,2 +1,2 @@
-// No code: trials of the calls for C, of acceptance, of the place of a refusal and of the texture section, computed from their definitions.
-// specs/ has them in tables, proofs/ computes them.
+// No code: trials of the calls for C, computed from their definitions. specs/Calls.antt has them in one table, proofs/Calls.antt computes them
+// all.

@@ -4,8 +4,9 @@ use mathlib.Core.List.{List, [], _∷_}
 use Rattle.format.specs.Answer.{mapped}
 use Rattle.format.specs.Listed.{into}
 use Rattle.words.specs.Words.{Written, Left, given, atLeast, enough, listedIn, mapLength, mapOf, numberWords, flagWord}
-use Rattle.textures.specs.Access.{frameTexture, staticTexture, textureOf}
-use Rattle.textures.specs.declared.answer.BspTexture.{BspTexture}
+use Rattle.texture_list.specs.Texture.{textureOf}
+use Rattle.textures.specs.Access.{frameTexture, staticTexture}
+use Rattle.texture_list.specs.declared.answer.BspTexture.{BspTexture}
 use Rattle.texture_numbers.specs.Numbers.{textureNumbers}
 
 -- a frame's number in the file, by new number, group and place

@@ -5,14 +5,14 @@ ghost use lib.ListN.{length};
 ghost use Rattle.format.specs.Answer.{mapped};
 ghost use Rattle.words.specs.Words.{written, left, given, numberWords};
 ghost use Rattle.textures.specs.Frame.{fileNumber, listLength};
-ghost use Rattle.textures.specs.Answers.{textureAnswer};
+ghost use Rattle.texture_list.specs.Answers.{textureAnswer};
 ghost use Rattle.ffi_textures.specs.Calls as Calls;
+use texture_list::answer::BspTexture;
+use texture_list::answer::TextureAnswer;
 use texture_numbers::texture_numbers;
 use textures::access::frame_texture;
 use textures::access::static_texture;
-use textures::answer::BspTexture;
 use textures::answer::FileNumber;
-use textures::answer::TextureAnswer;
 use textures::answer::TextureList;
 use words::LIST_TOO_SHORT;
 use words::flag_word;
@@ -99,7 +99,10 @@ pub fn texture(file: &[u8], map: &[u32], index: u64, out: &mut [u64]) -> u32
     if out.len() < 5 {
         return LIST_TOO_SHORT;
     }
-    give_texture(textures::access::texture(file, map_of(map), index), out)
+    give_texture(
+        texture_list::section::texture(file, map_of(map), index),
+        out,
+    )
 }
 
 // The new numbers of all textures, by their numbers in the file, at the front of `list`, and their count. 22: a map of fewer than 31 words or

@@ -47,7 +47,7 @@ use Rattle.load.proofs.Texts.{long, empty}
 use Rattle.load.proofs.Textures.{section-sound, texture-at-most}
 use Rattle.textures.specs.Access.{soundAt, renumbered, infoAt, textureInfo}
 use Rattle.textures.specs.Group.{numberedBy}
-use Rattle.textures.specs.Section.{namesOf}
+use Rattle.texture_list.specs.List.{namesOf}
 use Rattle.utf8.specs.Unicode.{isUtf8}
 use Rattle.load.proofs.Sizes.{bounded-vector, bounded-plane, bounded-edge, bounded-edge-index, bounded-texinfo, bounded-face, bounded-render-node, bounded-collision-node, bounded-leaf, bounded-file-model}
 

@@ -18,7 +18,7 @@ use Rattle.sections.specs.Position.{checkEndPosition}
 use Rattle.sections.proofs.Bounded.{not-ok}
 use Rattle.textures.specs.Group.{sequenced}
 use Rattle.textures.specs.Section as Section
-use Rattle.textures.specs.Section.{texturesAt, namesOf}
+use Rattle.texture_list.specs.List.{texturesAt, namesOf}
 use Rattle.textures.specs.Access.{soundAt}
 use Rattle.load.proofs.Passed.{first}
 

@@ -45,11 +45,11 @@ use Rattle.load.specs.Private.{fromExtents, fromEdges, fromCollisionNodes, from
 use Rattle.load.proofs.Stages.{stages}
 use Rattle.records.specs.declared.number.OptionalOffset.{OptionalOffset}
 use Rattle.records.specs.declared.number.OptionalOffset.the-variants as Opt
-use Rattle.textures.specs.Name.{isAscii, isWrong}
+use Rattle.texture_list.specs.Name.{isAscii, isWrong}
 use Rattle.textures.specs.Count.{any}
 use Rattle.textures.specs.Group.{isAlone, sequenced}
 use Rattle.textures.specs.Section as Textures
-use Rattle.textures.specs.Section.{picturesAt, textureAt, presentAt, listedAt, listed, texturesAt, namesOf}
+use Rattle.texture_list.specs.List.{picturesAt, textureAt, presentAt, listedAt, listed, texturesAt, namesOf}
 use Rattle.loaded.specs.Refusals.{RefusedOnly, OfLoading, LoadingRefuses}
 use Rattle.loaded.proofs.Refusals.{answers, refuses}
 

@@ -31,7 +31,8 @@ use Rattle.models.specs.Text.{textEnd}
 use Rattle.utf8.specs.Unicode.{isUtf8, run, next, lead, whole}
 use Rattle.textures.specs.Count.{any}
 use Rattle.textures.specs.Group.{sequenced}
-use Rattle.textures.specs.Section.{textures, texturesAt, listed}
+use Rattle.texture_list.specs.List.{texturesAt, listed}
+use Rattle.textures.specs.Section.{textures}
 use Rattle.load.specs.Load.{outcome, loadOf}
 use Rattle.load.specs.Private.{fromHeader, fromPlanes, fromVertices, fromTexinfo, fromCollisionNodes, fromEdges, fromExtents}
 use Rattle.load.proofs.Stages.{stages}

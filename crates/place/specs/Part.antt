@@ -16,7 +16,7 @@ use Rattle.faces.specs.Face.{faceAt}
 use Rattle.models.specs.Model.{fileModelAt}
 use Rattle.sections.specs.Records.{plain}
 use Rattle.sections.specs.Table.{sectionAt, exceeds}
-use Rattle.textures.specs.Section.{listedAt}
+use Rattle.texture_list.specs.List.{listedAt}
 use Rattle.load.specs.Extents.{extentsAt}
 use Rattle.load.specs.Tested.{textured, referencesAt}
 use Rattle.place.specs.Stop.{stops}

@@ -19,7 +19,7 @@ use Rattle.utf8.specs.Unicode.{lead, next, run, whole, isUtf8}
 use Rattle.textures.specs.Count.{any}
 use Rattle.textures.specs.Group.{sequenced}
 use Rattle.textures.specs.Section as Textures
-use Rattle.textures.specs.Section.{listed, texturesAt}
+use Rattle.texture_list.specs.List.{listed, texturesAt}
 use Rattle.load.specs.Entities.{entities}
 use Rattle.load.specs.Extents.{faceExtents}
 use Rattle.load.specs.Load.{loadAt, loadOf}

@@ -11,7 +11,7 @@ use lib.ListN.{length, getD}
 use Rattle.textures.specs.Count.{any, count, lowest, valuesBelow}
 use Rattle.textures.specs.Group.{alike, isStatic, isFirst, numberedBy}
 use Rattle.textures.specs.Private.{earliestBy}
-use Rattle.textures.specs.Name.{isAnimated, stemOf, same}
+use Rattle.texture_list.specs.Name.{isAnimated, stemOf, same}
 use Rattle.textures.proofs.Tables.{true-false}
 use Rattle.textures.proofs.Marks.{any-below, any-at, any-same, and-left, and-right}
 use Rattle.textures.proofs.Firsts.{lowest-at}

@@ -17,11 +17,11 @@ use Rattle.format.specs.declared.section.BspData.{BspData}
 use Rattle.textures.specs.Access.{isSound, namesIn}
 use Rattle.textures.specs.Count.{any, lowest, valuesBelow}
 use Rattle.textures.specs.Private.{earliestBy, earliestTextures}
-use Rattle.textures.specs.Kind.{passing, starts, ends}
-use Rattle.textures.specs.Section.{namesOf}
+use Rattle.texture_list.specs.Kind.{passing, starts, ends}
+use Rattle.texture_list.specs.List.{namesOf}
 use Rattle.textures.specs.Table.{holds, seek, Filled, hits, earliestOf, isLike, knownOf, Known, KnownTo, Heads}
 use Rattle.textures.specs.Sieve.{SameNode}
-use Rattle.textures.specs.declared.kind.Kind.the-variants.{Animated}
+use Rattle.texture_list.specs.declared.kind.Kind.the-variants.{Animated}
 use Rattle.textures.specs.declared.table.Located.{Located}
 use Rattle.textures.specs.declared.table.Located.the-variants.{At}
 use Rattle.textures.proofs.Tables.{true-false, at-at, found-node}

@@ -1,9 +1,4 @@
 -- Laws about the texture section.
-pub mod Names
-mod Offsets
-mod Walk
-mod Digits
-mod Keys
 pub mod Tables
 mod Fills
 pub mod Marks

@@ -9,16 +9,16 @@ use borrow.Author.Tests.{eq-eqb, ne-eqb, ltb-true, ltb-false, lt-ltb, le-ltb}
 use lib.Dec.{eqb, ltb}
 use lib.ListN.{getD}
 use Rattle.format.specs.Answer.{answer, refused}
-use Rattle.textures.specs.Name.{isAnimated}
+use Rattle.texture_list.specs.Name.{isAnimated}
 use Rattle.textures.specs.Count.{any, count, lowest, nth}
 use Rattle.textures.specs.Group.{alike, isStatic, isFirst, numberedBy, staticBy}
-use Rattle.textures.specs.Kind.{isOf, isKind, keyOf, passing, starts, ends}
-use Rattle.textures.specs.Section.{namesOf}
+use Rattle.texture_list.specs.Kind.{isOf, isKind, keyOf, passing, starts, ends}
+use Rattle.texture_list.specs.List.{namesOf}
 use Rattle.textures.specs.Table.{isEarliest, Reached}
-use Rattle.textures.specs.declared.kind.Kind.{Kind}
-use Rattle.textures.specs.declared.kind.Kind.the-variants.{Animated}
-use Rattle.textures.specs.declared.name.Key.{Key}
-use Rattle.textures.proofs.Keys.{kind-is, same-is}
+use Rattle.texture_list.specs.declared.kind.Kind.{Kind}
+use Rattle.texture_list.specs.declared.kind.Kind.the-variants.{Animated}
+use Rattle.texture_list.specs.declared.kind.Key.{Key}
+use Rattle.texture_list.proofs.Keys.{kind-is, same-is}
 use Rattle.textures.proofs.Marks.{any-same}
 use Rattle.textures.proofs.Firsts.{count-same, count-below, lowest-at, lowest-none, part-counted, reached-nth}
 

@@ -13,16 +13,16 @@ use Rattle.format.specs.Step.{Step, ok}
 use Rattle.records.specs.Number.{offsetAt}
 use Rattle.records.specs.declared.number.OptionalOffset.{OptionalOffset}
 use Rattle.records.specs.declared.number.OptionalOffset.the-variants.{None, Some}
-use Rattle.textures.specs.Name.{chars, stemOf, same, less}
+use Rattle.texture_list.specs.Name.{chars, stemOf, same, less}
 use Rattle.textures.specs.Count.{any, count, lowest, nth}
 use Rattle.textures.specs.Group.{alike, isStatic, isFirst, precedes, placeOf, frameBy}
-use Rattle.textures.specs.Key.{keyAt}
-use Rattle.textures.specs.Kind.{passing, starts, ends, keyBy, keyOf, lettered, grouped, isFrame, framed, frames}
-use Rattle.textures.specs.Section.{nameOf, namesOf}
+use Rattle.texture_list.specs.Key.{keyAt}
+use Rattle.texture_list.specs.Kind.{passing, starts, ends, keyBy, keyOf, lettered, grouped, isFrame, framed, frames}
+use Rattle.texture_list.specs.List.{nameOf, namesOf}
 use Rattle.textures.specs.Table.{isEarliest, Reached, ranked}
-use Rattle.textures.specs.declared.name.Key.{Key}
-use Rattle.textures.specs.declared.kind.Kind.the-variants.{Animated}
-use Rattle.textures.proofs.Keys.{same-is}
+use Rattle.texture_list.specs.declared.kind.Key.{Key}
+use Rattle.texture_list.specs.declared.kind.Kind.the-variants.{Animated}
+use Rattle.texture_list.proofs.Keys.{same-is}
 use Rattle.textures.proofs.Tables.{true-false}
 use Rattle.textures.proofs.Marks.{and-left, and-right}
 use Rattle.textures.proofs.Firsts.{count-same, reached-nth}

@@ -11,7 +11,7 @@ use lib.ListN.{length, getD, set, length-set}
 use lib.Seq.{getD-set-same, getD-set-other}
 use Rattle.textures.specs.Table.{holds, seek, Table, Marked}
 use Rattle.textures.specs.Sieve.{placeOf, mayHave, Sifted, Sieved, SameNode}
-use Rattle.textures.specs.declared.name.Key.{Key}
+use Rattle.texture_list.specs.declared.kind.Key.{Key}
 use Rattle.textures.specs.declared.table.Located.{Located}
 use Rattle.textures.specs.declared.table.Located.the-variants.{At, Free, Deep}
 use Rattle.textures.proofs.Tables.{true-false, found-node, free-at, deep-at}

@@ -1,4 +1,5 @@
--- Not for a reader of the public calls: what `earliest_textures` answers, from which `texture_numbers` works out the new numbers.
+-- For the contracts of functions below the calls; a reader of the calls may leave this file out.
+-- What `earliest_textures` answers, from which `texture_numbers` works out the new numbers.
 use Prim.Native.Nat.{ℕ}
 use mathlib.Core.Bool.{cond}
 use mathlib.Core.List.{List}
@@ -7,7 +8,7 @@ use Rattle.format.specs.declared.section.BspData.{BspData}
 use Rattle.textures.specs.Access.{namesIn, ofSound}
 use Rattle.textures.specs.Count.{lowest, valuesBelow}
 use Rattle.textures.specs.Group.{alike}
-use Rattle.textures.specs.Name.{isAnimated}
+use Rattle.texture_list.specs.Name.{isAnimated}
 
 -- the first texture with the stem of texture i; 2^32 - 1 for a static texture, which has none
 unfoldable pub earliestBy : (ℕ → List ℕ) → ℕ → ℕ → ℕ

@@ -1,4 +1,5 @@
--- For private contracts alone: a sieve, bytes by which most stems that the table of Table.antt has not are told from those that it has.
+-- For the contracts of functions that no other crate can name; a reader of the calls may leave this file out.
+-- A sieve: bytes by which most stems that the table of Table.antt has not are told from those that it has.
 use Prim.Native.Nat.{ℕ, _+_, _*_, _/_, _<_}
 use mathlib.Core.Path.{_≡_}
 use mathlib.Core.Bool.{Bool, true, not, cond}

@@ -1,5 +1,5 @@
 -- For the contracts of functions that no other crate can name; a reader of the calls may leave this file out.
--- For private contracts alone: the table of stems in which the code searches, for a part of the textures at a time: a tree over the bits of the two numbers of a stem.
+-- The table of stems in which the code searches, for a part of the textures at a time: a tree over the bits of the two numbers of a stem.
 -- Node v, from 1 on, has its stem's numbers at 4v and 4v + 1, and its two branches at 4v + 2 and 4v + 3, where 0 stands for no node. The
 -- tree hangs at the first branch of node 0. No answer depends on how the tree is shaped: laws in proofs/Tables.antt.
 use Prim.Native.Nat.{ℕ, zero, suc, _+_, _*_, _-_, _/_, _%_, _^_, _<_, _≤_}

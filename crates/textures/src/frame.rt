@@ -6,18 +6,18 @@ ghost use lib.Dec.{eqb};
 ghost use Rattle.textures.specs.Count.{lowest};
 ghost use Rattle.textures.specs.Frame.{fileNumber};
 ghost use Rattle.textures.specs.Group.{staticBy, frameBy};
-ghost use Rattle.textures.specs.Kind.{lettered, grouped, isFrame, framed, frames};
-ghost use Rattle.textures.specs.Section.{namesOf};
+ghost use Rattle.texture_list.specs.Kind.{lettered, grouped, isFrame, framed, frames};
+ghost use Rattle.texture_list.specs.List.{namesOf};
 ghost use Rattle.textures.specs.Table.{Reached, ranked};
 use crate::answer::FileNumber;
-use crate::kind::key_of;
-use crate::name::Key;
 use crate::number::Firsts;
 use crate::number::count_static;
 use crate::number::first_of;
 use crate::number::is_sought;
 use crate::number::nth_static;
 use format::refusal::Refusal;
+use texture_list::kind::Key;
+use texture_list::kind::key_of;
 
 // The static texture of a new number.
 pub fn find_static(s: &[u8], base: u32, count: u32, number: u32) -> FileNumber

@@ -7,13 +7,10 @@ ghost use mathlib.Core.Bool.{true};
 ghost use Rattle.textures.specs.Count.{any};
 ghost use Rattle.sections.specs.Answers.{positionStep};
 ghost use Rattle.textures.specs.Group.{sequenced};
-ghost use Rattle.textures.specs.Kind.{passing, starts, ends, keyOf, isWrongKey};
-ghost use Rattle.textures.specs.Section.{namesOf};
-ghost use Rattle.textures.specs.declared.kind.Kind.the-variants as Of;
+ghost use Rattle.texture_list.specs.Kind.{passing, starts, ends, keyOf, isWrongKey};
+ghost use Rattle.texture_list.specs.List.{namesOf};
+ghost use Rattle.texture_list.specs.declared.kind.Kind.the-variants as Of;
 ghost use Rattle.textures.specs.Table as Tab;
-use crate::kind::Kind;
-use crate::kind::is_kind;
-use crate::kind::key_of;
 use crate::table::Located;
 use crate::table::add;
 use crate::table::clear;
@@ -21,6 +18,9 @@ use crate::table::clear_marks;
 use crate::table::seek;
 use format::refusal::Refusal;
 use sections::position::Position;
+use texture_list::kind::Kind;
+use texture_list::kind::is_kind;
+use texture_list::kind::key_of;
 
 // A stem in the table of the nodes below `nodes`, which become one more if it is new. 0 says that there is no room.
 fn insert(t: &mut [u64], nodes: usize, a: u64, b: u64) -> usize

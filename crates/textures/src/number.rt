@@ -6,21 +6,21 @@ ghost use lib.Dec.{eqb};
 ghost use lib.ListN.{length, replicate};
 ghost use Rattle.textures.specs.Count.{count, lowest};
 ghost use Rattle.textures.specs.Group.{numberedBy};
-ghost use Rattle.textures.specs.Section.{namesOf};
-ghost use Rattle.textures.specs.Kind.{passing, starts, ends};
+ghost use Rattle.texture_list.specs.List.{namesOf};
+ghost use Rattle.texture_list.specs.Kind.{passing, starts, ends};
 ghost use Rattle.textures.specs.Sieve.{Sieved};
 ghost use Rattle.textures.specs.Table as Tab;
-ghost use Rattle.textures.specs.declared.kind.Kind.the-variants as Of;
+ghost use Rattle.texture_list.specs.declared.kind.Kind.the-variants as Of;
 use crate::group::fill;
-use crate::kind::Kind;
-use crate::kind::is_kind;
-use crate::kind::key_of;
 use crate::sieve::seek_sifted;
 use crate::sieve::sift_all;
 use crate::table::Located;
 use crate::table::clear;
 use crate::table::clear_marks;
 use crate::table::seek;
+use texture_list::kind::Kind;
+use texture_list::kind::is_kind;
+use texture_list::kind::key_of;
 
 // 1 for a static texture.
 fn static_one(s: &[u8], base: u32, index: u32) -> u32

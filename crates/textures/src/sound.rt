@@ -4,8 +4,8 @@ ghost use Prim.Native.Nat.{_≤_, _*_};
 ghost use lib.ListN.{length};
 ghost use Rattle.textures.specs.Access.{soundAt};
 use crate::group::check_groups_in;
-use crate::section::read_textures;
 use sections::position::Position;
+use texture_list::section::read_textures;
 
 // Whether the section reads as it does on loading, its end position aside. The table and the marks are for the function's own use.
 pub fn is_sound_in(s: &[u8], base: u32, count: u32, t: &mut [u64], marks: &mut [u8]) -> bool

@@ -1,4 +1,5 @@
 -- The table of trials, computed: one proof for all of them. Assumes nothing.
+use mathlib.Core.List.{map}
 use mathlib.Core.Path.{_≡_, refl}
 use lib.Ieee.{ofBits, add, sub, mul, div, neg, lt, le, eq, toSigned}
 use Rattle.float.specs.Root.{sqrt, rootOfUnits, nearestRoot, digits}
@@ -34,13 +35,13 @@ use Rattle.vis.specs.Row.{bits, rowBits, visible, rowAt}
 use Rattle.textures.specs.Count.{any}
 use Rattle.textures.specs.Group.{sequenced}
 use Rattle.textures.specs.Section as Textures
-use Rattle.textures.specs.Section.{listed, texturesAt}
+use Rattle.texture_list.specs.List.{listed, texturesAt}
 use Rattle.load.specs.Entities.{entities}
 use Rattle.load.specs.Extents.{isBad, faceExtents}
 use Rattle.load.specs.Load.{loadAt}
 use Rattle.load.specs.Tested.{texinfos, faces, outside, referencesAt, leafReferences}
-use Rattle.trial_table.specs.Trials.{trials, ofEach}
+use Rattle.trial_table.specs.Trials.{trials}
 
-pub all-hold : ofEach (λ t. t .definition) trials ≡ ofEach (λ t. t .document) trials
-unfolding trials ofEach contentsAt leafEndAt leafAt renderChild renderChildAt renderNodeEndAt renderNodeAt index16At offsetOf offsetAt pointAt outside referencesAt loadAt headerAt i32At u32At f32At isVersion tableAt threeSectionsAt sectionAt isMultiple indexAt tableEndAt limits limitsFromLeaves exceeds recordCount entities textEnd isUtf8 run next lead whole Textures.textures texturesAt listed sequenced any section records numberAt blob texinfos faces faceExtents leafReferences fileModelAt fileModelEndAt boundsAt rootsAt vectorAt paddedBounds leafIdOf modelOf rowAt rowBits bits visible forBounds hull tableOf walk enter meet recursiveTrace ofWhole ofBits add sub mul div neg lt le eq toSigned lineSegment newPlane normalize sqrt rootOfUnits nearestRoot digits equal Tr.join extent floorOf ceilOf times16 isBad treeCheck checkNode recordOf place collisionNodeAt collisionChildAt planeAt filePlane i16At u16At negatedContents contentsOf contentsMet boxSide entitiesOf nodesBelow sizedCheck
+pub all-hold : map (λ t. t .definition) trials ≡ map (λ t. t .document) trials
+unfolding trials contentsAt leafEndAt leafAt renderChild renderChildAt renderNodeEndAt renderNodeAt index16At offsetOf offsetAt pointAt outside referencesAt loadAt headerAt i32At u32At f32At isVersion tableAt threeSectionsAt sectionAt isMultiple indexAt tableEndAt limits limitsFromLeaves exceeds recordCount entities textEnd isUtf8 run next lead whole Textures.textures texturesAt listed sequenced any section records numberAt blob texinfos faces faceExtents leafReferences fileModelAt fileModelEndAt boundsAt rootsAt vectorAt paddedBounds leafIdOf modelOf rowAt rowBits bits visible forBounds hull tableOf walk enter meet recursiveTrace ofWhole ofBits add sub mul div neg lt le eq toSigned lineSegment newPlane normalize sqrt rootOfUnits nearestRoot digits equal Tr.join extent floorOf ceilOf times16 isBad treeCheck checkNode recordOf place collisionNodeAt collisionChildAt planeAt filePlane i16At u16At negatedContents contentsOf contentsMet boxSide entitiesOf nodesBelow sizedCheck
 all-hold = refl

@@ -62,11 +62,6 @@ infix 4 _gives_
 abbrev pub _gives_ : Said → Said → Trial
 d gives e = record { definition = d; document = e }
 
--- what each trial has in one of its places
-unfoldable pub ofEach : (Trial → Said) → List Trial → List Said
-ofEach f [] = []
-ofEach f (t ∷ ts) = f t ∷ ofEach f ts
-
 -- ---- numbers and points: `fin s m e` is m times 2 to the power e, below zero if s is true
 
 abbrev pub zero32 : Float

@@ -3,7 +3,7 @@ use borrow.Author.Needs.{needs}
 use mathlib.Core.Path.{refl}
 use native.Mathlib.Omega.{arith}
 use Rattle.words.proofs.Giving.{refuses, gives}
-use Rattle.textures.specs.Answers.{textureAnswer}
+use Rattle.texture_list.specs.Answers.{textureAnswer}
 use Rattle.ffi_textures.specs.Calls.{textureWords}
 use Rattle.ffi_textures.proofs.give_texture.Statement.{statement}
 use Rattle.ffi_textures.proofs.give_texture.Tie as tie

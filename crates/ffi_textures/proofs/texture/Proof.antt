@@ -5,8 +5,8 @@ use borrow.Author.Tests.{lt-ltb, le-ltb}
 use Rattle.format.specs.Answer.{Answer, mapped}
 use Rattle.format.specs.declared.section.BspData.{BspData}
 use Rattle.words.specs.Words.{given}
-use Rattle.textures.specs.Access.{textureOf}
-use Rattle.textures.specs.declared.answer.BspTexture.{BspTexture}
+use Rattle.texture_list.specs.Texture.{textureOf}
+use Rattle.texture_list.specs.declared.answer.BspTexture.{BspTexture}
 use Rattle.ffi_textures.specs.Calls.{textureWords, bspTexture}
 use Rattle.ffi_textures.proofs.texture.Statement.{statement}
 use Rattle.ffi_textures.proofs.texture.Tie as tie

@@ -4,8 +4,8 @@ use borrow.Author.Needs.{needs}
 use mathlib.Core.Path.{_∙_}
 use native.Mathlib.Omega.{arith}
 use denote.Ref.{now}
-use Rattle.textures.specs.Kind.{passing, starts, ends}
-use Rattle.textures.specs.declared.kind.Kind.the-variants.{Animated}
+use Rattle.texture_list.specs.Kind.{passing, starts, ends}
+use Rattle.texture_list.specs.declared.kind.Kind.the-variants.{Animated}
 use Rattle.textures.proofs.Alone.{cleared}
 use Rattle.textures.proofs.Leads.{known-none, all-found}
 use Rattle.textures.proofs.earliest.find_each.Statement.{statement}

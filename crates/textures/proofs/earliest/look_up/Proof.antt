@@ -4,8 +4,8 @@ use borrow.Author.Needs.{needs}
 use mathlib.Core.Path.{sym, _∙_}
 use native.Mathlib.Omega.{arith}
 use denote.Ref.{now}
-use Rattle.textures.specs.Kind.{passing, starts, ends}
-use Rattle.textures.specs.declared.kind.Kind.the-variants.{Animated}
+use Rattle.texture_list.specs.Kind.{passing, starts, ends}
+use Rattle.texture_list.specs.declared.kind.Kind.the-variants.{Animated}
 use Rattle.textures.proofs.Tables.{free-at, deep-at}
 use Rattle.textures.proofs.Sieves.{sought-sifted}
 use Rattle.textures.proofs.Steps.{is-of, is-not}

@@ -5,9 +5,9 @@ use mathlib.Core.Path.{_≡_, refl, _∙_}
 use native.Mathlib.Omega.{arith}
 use denote.Ref.{now}
 use lib.ListN.{length, length-set}
-use Rattle.textures.specs.Kind.{passing, starts, ends}
+use Rattle.texture_list.specs.Kind.{passing, starts, ends}
 use Rattle.textures.specs.Table.{KnownTo, Heads}
-use Rattle.textures.specs.declared.kind.Kind.the-variants.{Animated}
+use Rattle.texture_list.specs.declared.kind.Kind.the-variants.{Animated}
 use Rattle.textures.proofs.Leads.{no-heads, known-start, known-at, known-next, known-all}
 use Rattle.textures.proofs.earliest.look_up_all.Statement.{statement}
 use Rattle.textures.proofs.earliest.look_up_all.Tie as tie

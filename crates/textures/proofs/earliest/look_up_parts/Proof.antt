@@ -6,9 +6,9 @@ use mathlib.Core.Path.{_≡_, refl, _∙_}
 use native.Mathlib.Omega.{arith}
 use denote.Ref.{now}
 use lib.ListN.{length}
-use Rattle.textures.specs.Kind.{passing, starts, ends}
+use Rattle.texture_list.specs.Kind.{passing, starts, ends}
 use Rattle.textures.specs.Table.{Known}
-use Rattle.textures.specs.declared.kind.Kind.the-variants.{Animated}
+use Rattle.texture_list.specs.declared.kind.Kind.the-variants.{Animated}
 use Rattle.textures.proofs.Alone.{cleared}
 use Rattle.textures.proofs.Leads.{known-end}
 use Rattle.textures.proofs.earliest.look_up_parts.Statement.{statement}

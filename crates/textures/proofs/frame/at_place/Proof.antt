@@ -8,7 +8,7 @@ use native.Mathlib.Omega.{arith}
 use denote.Ref.{now}
 use lib.Dec.{ltb}
 use Rattle.textures.specs.Count as C
-use Rattle.textures.specs.Kind.{grouped, frames}
+use Rattle.texture_list.specs.Kind.{grouped, frames}
 use Rattle.textures.proofs.Places.{at-start, at-end, at-found, at-further}
 use Rattle.textures.proofs.frame.at_place.Statement.{statement}
 use Rattle.textures.proofs.frame.at_place.Tie as tie

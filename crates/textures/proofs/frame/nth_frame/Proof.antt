@@ -6,7 +6,7 @@ use mathlib.Core.Path.{_≡_, refl}
 use native.Mathlib.Omega.{arith}
 use denote.Ref.{now}
 use Rattle.textures.specs.Count as C
-use Rattle.textures.specs.Kind.{framed}
+use Rattle.texture_list.specs.Kind.{framed}
 use Rattle.textures.proofs.Firsts.{counts-next, reaches, stays-few, reaches-end}
 use Rattle.textures.proofs.frame.nth_frame.Statement.{statement}
 use Rattle.textures.proofs.frame.nth_frame.Tie as tie

@@ -3,8 +3,8 @@
 use borrow.Author.Needs.{needs}
 use native.Mathlib.Omega.{arith}
 use denote.Ref.{now}
-use Rattle.textures.specs.Kind.{passing, starts, ends}
-use Rattle.textures.specs.declared.kind.Kind.the-variants.{Animated}
+use Rattle.texture_list.specs.Kind.{passing, starts, ends}
+use Rattle.texture_list.specs.declared.kind.Kind.the-variants.{Animated}
 use Rattle.textures.proofs.Marks.{mark-skip}
 use Rattle.textures.proofs.Sieves.{sought-sifted, sifted-free, sifted-deep, sifted-at, sifted-inside}
 use Rattle.textures.proofs.Steps.{is-of, is-not}

@@ -5,9 +5,9 @@ use mathlib.Core.Path.{_≡_, refl, _∙_}
 use native.Mathlib.Omega.{arith}
 use denote.Ref.{now}
 use lib.ListN.{length}
-use Rattle.textures.specs.Kind.{passing, starts, ends}
+use Rattle.texture_list.specs.Kind.{passing, starts, ends}
 use Rattle.textures.specs.Table.{Marked}
-use Rattle.textures.specs.declared.kind.Kind.the-variants.{Animated}
+use Rattle.texture_list.specs.declared.kind.Kind.the-variants.{Animated}
 use Rattle.textures.proofs.Marks.{marks-none}
 use Rattle.textures.proofs.Steps.{marked-all}
 use Rattle.textures.proofs.number.mark_stems.Statement.{statement}
