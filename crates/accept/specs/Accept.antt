@@ -6,7 +6,7 @@
 --   it must read, or a tree's own number."
 -- A record is read by the accessors' definitions when a check needs it; what an index leads to is not read unless a later check needs it (of a plane, a
 -- texture info and a vertex only the number is looked at, and of the texture section nothing).
-use Prim.Native.Nat.{ℕ, zero, suc, _+_, _-_, max}
+use Prim.Native.Nat.{ℕ, _+_, _-_, max}
 use mathlib.Core.Bool.{cond}
 use mathlib.Core.List.{List, _++_}
 use lib.Dec.{ltb, eqb}
@@ -22,6 +22,7 @@ use Rattle.faces.specs.Face.{fileFaceOf}
 use Rattle.faces.specs.declared.face.BspFace.{BspFace}
 use Rattle.models.specs.Model.{fileModelOf, modelOf, leafRange}
 use Rattle.models.specs.declared.model.PerHull.{PerHull}
+use Rattle.sections.specs.Records.{oneByOne}
 use Rattle.vis.specs.Pvs.{pvsOf}
 use Rattle.walk.specs.TreeCheck.{treeCheck}
 use Rattle.nodes.specs.Tables.{nodesOf}
@@ -42,8 +43,7 @@ also (refused n) next = refused n
 
 -- the check of n records, one after the other, from record i on: the first refusal
 unfoldable pub each : (ℕ → Check) → ℕ → ℕ → Check
-each one zero i = passes
-each one (suc n) i = also (one i) (each one n (i + 1))
+each one n i = oneByOne (λ j rest. also (one j) (rest (j + 1))) (λ j. passes) n i
 
 -- a reference into a table of n records
 unfoldable pub inside : ℕ → ℕ → Check

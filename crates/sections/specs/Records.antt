@@ -10,10 +10,15 @@ use Rattle.format.specs.declared.section.BspFileSection.{BspFileSection}
 use Rattle.format.specs.declared.section.BspFileSectionId.{BspFileSectionId}
 use Rattle.sections.specs.Position.{checkEndPosition}
 
+-- n records one after the other, from a place on: `one` says what comes of a record, given what comes of those after it from their place on, and `end` what
+-- comes when none is left. Loading goes by positions (`records`), acceptance by indices (`each` of accept/specs/Accept.antt).
+abbrev pub oneByOne : {P R : Type 0} → (P → (P → R) → R) → (P → R) → ℕ → P → R
+oneByOne one end zero p = end p
+oneByOne one end (suc n) p = one p (λ q. oneByOne one end n q)
+
 -- so many records, each read by `one`: the position after the last, or the first refusal
 unfoldable pub records : {A : Type 0} → (List ℕ → ℕ → Step A) → List ℕ → ℕ → ℕ → Step (Unit {0})
-records one s zero at = ok tt at
-records one s (suc n) at = andThen (one s at) (λ v p. records one s n p)
+records one s n at = oneByOne (λ p rest. andThen (one s p) (λ v q. rest q)) (λ p. ok tt p) n at
 
 -- every record of a section: a seek to its offset, and as many records as its size has
 abbrev pub eachRecord : {A : Type 0} → (List ℕ → ℕ → Step A) → BspFileSectionId → List ℕ → BspFileSection → Step (Unit {0})
