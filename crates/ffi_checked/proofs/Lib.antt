@@ -1,3 +1,2 @@
--- What the proofs of `ffi_checked` rest on, and that no answer depends on a hull's tree size.
+-- What the proofs of `ffi_checked` rest on.
 mod Laws
-pub mod SameAnswers

@@ -1,3 +1,2 @@
--- What the contract of `ffi_checked` cites, and that no answer depends on a hull's tree size.
+-- What the contract of `ffi_checked` cites.
 pub mod Calls
-pub mod SameAnswers

@@ -5,7 +5,7 @@ use lib.ListN.{length}
 use Rattle.phys.specs.declared.Trace.{Trace}
 use Rattle.phys.specs.declared.TraceEndKind.{TraceEndKind}
 use Rattle.phys.specs.declared.TraceEndKind.the-variants.{Terminal, Boundary}
-use Rattle.ffi_traces.specs.Layout.{kindWords, traceWords}
+use Rattle.walk_words.specs.Layout.{kindWords, traceWords}
 use mathlib.Core.Path.{_≡_, refl, sym, ap, _∙_}
 use mathlib.Core.List.{List}
 use lib.IntN.{ℤ}

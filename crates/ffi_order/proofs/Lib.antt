@@ -1,6 +1,2 @@
--- Note 11 about the calls for C.
-
--- what other crates cite
-pub mod Together
--- what these rest on
+-- What the proofs of `ffi_order` rest on.
 mod Laws

@@ -13,8 +13,7 @@ use Rattle.walk.specs.Tracing as Tracing
 use Rattle.walk.specs.Writing.{InOrder, orderNodes}
 use Rattle.ordered.specs.Same.{fileNodes, fileRows}
 use Rattle.ffi_hull.specs.Layout.{pointAt}
-use Rattle.ffi_walks.specs.Calls.{contentsLength, contentsWords}
-use Rattle.ffi_traces.specs.Layout.{traceLength, traceWords}
+use Rattle.walk_words.specs.Layout.{contentsLength, contentsWords, traceLength, traceWords}
 
 -- what `bsp_order` says, and what is in the marks, in the table and in `out` afterwards
 pub record Ordering : Type 0 where

@@ -1,4 +1,3 @@
--- What the contracts of `ffi_order` cite, and note 11 about the calls for C.
+-- What the contracts of `ffi_order` cite.
 pub mod Calls
-pub mod SameCalls
 pub mod Private

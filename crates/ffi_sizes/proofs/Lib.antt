@@ -1,3 +1,2 @@
--- That a file's sizes come to the hull, and that what is asked of a hull does not depend on them.
+-- That a file's sizes come to the hull.
 pub mod FromFile
-pub mod SameAnswers

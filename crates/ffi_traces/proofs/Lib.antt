@@ -1,2 +1,2 @@
--- A law about the words of a trace.
-mod Sevens
+-- A law about the end of a trace.
+mod Ends

@@ -21,64 +21,12 @@ use hull::tracing::trace_way;
 use math::Vector3;
 use nodes::table::Tables;
 use nodes::table::tables_of;
-use phys::Trace;
-use phys::TraceEndBoundary;
-use phys::TraceEndKind;
 use words::LIST_TOO_SHORT;
 use words::flag_word;
 use words::float_word;
 use words::give;
 
-// 1, the ratio and the plane.
-fn boundary_words(boundary: TraceEndBoundary) -> [u64; 7]
-    ensures { λ r. ⌜ r ≡ Layout.boundaryWords boundary ⌝ }
-{
-    let p = words::plane_words(boundary.plane);
-    [1, float_word(boundary.ratio), p[0], p[1], p[2], p[3], p[4]]
-}
-
-// 0 and zeros for an end within a leaf.
-fn kind_words(kind: TraceEndKind) -> [u64; 7]
-    ensures { λ r. ⌜ r ≡ Layout.kindWords kind ⌝ }
-{
-    match kind {
-        TraceEndKind::Terminal => [0, 0, 0, 0, 0, 0, 0],
-        TraceEndKind::Boundary(boundary) => boundary_words(boundary),
-    }
-}
-
-pub fn trace_words(trace: Trace, visits: u64) -> [u64; 17]
-    ensures { λ r. ⌜ r ≡ Layout.traceWords (trace, visits) ⌝ }
-{
-    let contents = trace.contents;
-    let start = trace.start;
-    let end = trace.end;
-    let from = start.point;
-    let to = end.point;
-    let kind = end.kind;
-    let k = kind_words(kind);
-    [
-        visits,
-        contents.code() as u64,
-        flag_word(trace.start_solid),
-        float_word(from.x),
-        float_word(from.y),
-        float_word(from.z),
-        float_word(start.ratio),
-        float_word(to.x),
-        float_word(to.y),
-        float_word(to.z),
-        k[0],
-        k[1],
-        k[2],
-        k[3],
-        k[4],
-        k[5],
-        k[6],
-    ]
-}
-
-// The same of a trace by numbers alone: its plane is read by its number.
+// The words of the end of a trace that is handed on by numbers: its plane is read by its number.
 fn met_words(file: &[u8], t: Tables, part: Went) -> [u64; 7]
     ensures { λ r. ⌜ r ≡ Layout.kindWords (Traces.endOf (now (file .entry)) t part .kind) ⌝ }
 {

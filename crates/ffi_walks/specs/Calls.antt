@@ -3,20 +3,13 @@ use Prim.Native.Nat.{ℕ}
 use mathlib.Core.List.{List, [], _∷_}
 use lib.Ieee.{Float}
 use Rattle.format.specs.Answer.{mapped, thenAnswer}
-use Rattle.format.specs.Contents.{codeOf}
-use Rattle.format.specs.declared.contents.BspLeafContents.{BspLeafContents}
 use Rattle.words.specs.Words.{Written, given, atLeast, mapLength, mapOf}
 use Rattle.walk.specs.Walk.{withVisits, pointWalk}
 use Rattle.nodes.specs.Tables.{leafTable}
 use Rattle.hull.specs.Hull.{hullTable}
 use Rattle.ffi_hull.specs.Layout.{hullAsked, pointAt, hullFrom}
-
 -- the code of the contents, and the visits
-abbrev pub contentsLength : ℕ
-contentsLength = 2
-
-abbrev pub contentsWords : BspLeafContents × ℕ → List ℕ
-contentsWords a = codeOf (a .0) ∷ a .1 ∷ []
+pub use Rattle.walk_words.specs.Layout.{contentsLength, contentsWords}
 
 -- the leaf's number, and the visits
 abbrev pub leafLength : ℕ

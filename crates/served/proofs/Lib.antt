@@ -3,5 +3,5 @@ pub mod Refusals
 pub mod EveryCall
 pub mod StartedSolid
 pub mod Rota
--- what these rest on
-mod Statuses
+-- what these rest on, and `served_requests`
+pub mod Statuses

@@ -10,7 +10,7 @@ use Rattle.ffi_hull.specs.Layout.{pointAt}
 use Rattle.ffi_order.proofs.Laws.{same-rows}
 use Prim.Native.Nat.{ℕ}
 use Rattle.walk.specs.Walk.{withVisits, pointWalk}
-use Rattle.ffi_walks.specs.Calls.{contentsWords}
+use Rattle.walk_words.specs.Layout.{contentsWords}
 use Rattle.ffi_order.specs.Calls.{bspOrderContents}
 use borrow.Author.Needs.{needs}
 use Rattle.ffi_order.proofs.contents.Statement.{statement}

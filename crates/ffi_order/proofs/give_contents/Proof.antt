@@ -4,7 +4,7 @@ use mathlib.Core.Path.{refl, ap}
 use native.Mathlib.Omega.{arith}
 use Rattle.words.proofs.Giving.{refuses, gives}
 use Rattle.hull.specs.Answers.{contentsAnswer}
-use Rattle.ffi_walks.specs.Calls.{contentsWords}
+use Rattle.walk_words.specs.Layout.{contentsWords}
 use borrow.Author.Needs.{needs}
 use Rattle.ffi_order.proofs.give_contents.Statement.{statement}
 use Rattle.ffi_order.proofs.give_contents.Tie as tie

@@ -3,7 +3,7 @@ use mathlib.Core.Path.{refl}
 use lib.ListN.{length}
 use Rattle.words.proofs.Giving.{refuses, gives}
 use Rattle.hull.specs.Answers.{tracedAnswer}
-use Rattle.ffi_traces.specs.Layout.{traceWords}
+use Rattle.walk_words.specs.Layout.{traceWords}
 use Rattle.ffi_order.proofs.Laws.{long}
 use borrow.Author.Needs.{needs}
 use Rattle.ffi_order.proofs.give_trace.Statement.{statement}

@@ -12,7 +12,7 @@ use Prim.Native.Nat.{ℕ}
 use Rattle.phys.specs.declared.Trace.{Trace}
 use Rattle.walk.specs.Walk.{withVisits}
 use Rattle.walk.specs.Tracing as Tracing
-use Rattle.ffi_traces.specs.Layout.{traceWords}
+use Rattle.walk_words.specs.Layout.{traceWords}
 use Rattle.ffi_order.specs.Calls.{bspOrderTrace}
 use Rattle.ffi_order.specs.Private.{planesMap}
 use borrow.Author.Needs.{needs}

@@ -3,7 +3,8 @@ use mathlib.Core.Path.{refl, ap, _∙_}
 use Rattle.math.specs.declared.vector.Vector3.{Vector3}
 use Rattle.words.specs.Words.{floatWord}
 use Rattle.hull.specs.Traces.{atStart, wentTrace}
-use Rattle.ffi_traces.proofs.Sevens.{laid, end-point}
+use Rattle.walk_words.proofs.Sevens.{laid}
+use Rattle.ffi_traces.proofs.Ends.{end-point}
 use borrow.Author.Needs.{needs}
 use Rattle.ffi_traces.proofs.went_words.Statement.{statement}
 use Rattle.ffi_traces.proofs.went_words.Tie as tie

@@ -1,7 +1,7 @@
--- `ffi_traces::boundary_words` meets its contract. Assumes nothing.
+-- `walk_words::boundary_words` meets its contract. Assumes nothing.
 use borrow.Author.Needs.{needs}
-use Rattle.ffi_traces.proofs.boundary_words.Statement.{statement}
-use Rattle.ffi_traces.proofs.boundary_words.Tie as tie
+use Rattle.walk_words.proofs.boundary_words.Statement.{statement}
+use Rattle.walk_words.proofs.boundary_words.Tie as tie
 
 plane-words-requires : tie.Need-plane-words-requires
 plane-words-requires c κs = search needs

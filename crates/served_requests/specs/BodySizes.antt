@@ -1,6 +1,6 @@
 -- Note 10 about the calls for C: of the hulls that `bsp_hull_sized` writes with any two sizes, `bsp_contents`, `bsp_trace` and `bsp_find_leaf`
 -- from the hull's root say and leave the same; and the hull's words are those of `bsp_hull` but for its bounds, words 3 to 8, with the
--- number of nodes and the height, words 9 and 10, among them. proofs/SameAnswers.antt proves `SizedCalls`.
+-- number of nodes and the height, words 9 and 10, among them. proofs/BodySizes.antt proves `SizedCalls`.
 use Prim.Native.Nat.{ℕ, _≤_}
 use mathlib.Core.List.{List}
 use mathlib.Core.Path.{_≡_}

@@ -1,4 +1,4 @@
--- No answer and no refusal depends on the size of a hull's tree (specs/SameAnswers.antt). Assumes nothing.
+-- No answer and no refusal depends on the size of a hull's tree (specs/TreeSizes.antt). Assumes nothing.
 use Prim.Native.Nat.{ℕ, _<_}
 use native.Mathlib.Omega.{arith}
 use mathlib.Core.Path.{_≡_, refl, sym, ap, _∙_}
@@ -14,8 +14,8 @@ use Rattle.ffi_hull.specs.Layout.{hullAsked, hullFrom}
 use Rattle.ffi_walks.specs.Calls.{bspContents}
 use Rattle.ffi_traces.specs.Calls.{bspTrace}
 use Rattle.ffi_entered.specs.Calls.{bspContentsNodes, bspTraceNodes}
 use Rattle.ffi_checked.specs.Calls.{bspHullCheck}
-use Rattle.ffi_checked.specs.SameAnswers.{CoreCalls, CallsForC}
+use Rattle.served_requests.specs.TreeSizes.{CoreCalls, CallsForC}
 
 -- ---- the calls of the core
 

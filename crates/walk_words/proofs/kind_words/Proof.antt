@@ -1,9 +1,9 @@
--- `ffi_traces::kind_words` meets its contract. Assumes nothing.
+-- `walk_words::kind_words` meets its contract. Assumes nothing.
 use borrow.Author.Needs.{needs}
 use mathlib.Core.Path.{sym, ap, _∙_}
-use Rattle.ffi_traces.specs.Layout.{kindWords}
-use Rattle.ffi_traces.proofs.kind_words.Statement.{statement}
-use Rattle.ffi_traces.proofs.kind_words.Tie as tie
+use Rattle.walk_words.specs.Layout.{kindWords}
+use Rattle.walk_words.proofs.kind_words.Statement.{statement}
+use Rattle.walk_words.proofs.kind_words.Tie as tie
 
 enum-told : tie.Need-enum-told
 enum-told c = search needs

@@ -1,4 +1,4 @@
--- The words of a hull with any sizes are those of `bsp_hull` but for its bounds, and no answer goes by these (specs/SameAnswers.antt).
+-- The words of a hull with any sizes are those of `bsp_hull` but for its bounds, and no answer goes by these (specs/BodySizes.antt).
 -- Assumes nothing.
 use Prim.Native.Nat.{ℕ, zero, suc, _<_, _≤_}
 use native.Mathlib.Omega.{arith}
@@ -27,9 +27,9 @@ use Rattle.ffi_hull.specs.Layout.{hullLength, pointAt, hullIn, hullFrom, tableW
 use Rattle.ffi_hull.specs.Calls.{bspHull}
 use Rattle.ffi_walks.specs.Calls.{bspContents, bspFindLeaf}
 use Rattle.ffi_traces.specs.Calls.{bspTrace}
 use Rattle.ffi_sizes.specs.Layout.{sizesLength, sizesFrom}
 use Rattle.ffi_sizes.specs.Calls.{bspHullSized}
-use Rattle.ffi_sizes.specs.SameAnswers.{SameFrom, SameButBounds, SizedCalls}
+use Rattle.served_requests.specs.BodySizes.{SameFrom, SameButBounds, SizedCalls}
 
 -- ---- what is asked of words that name no box
 

@@ -1,23 +1,15 @@
--- The words of a trace, one by one, and where one ends that is handed on by numbers.
+-- The words of a trace, one by one.
 -- Assumes nothing.
 use Prim.Native.Nat.{ℕ}
 use mathlib.Core.Path.{_≡_, refl, ap}
-use mathlib.Core.Bool.{Bool, true, false, cond}
 use mathlib.Core.List.{List, [], _∷_}
-use lib.Ieee.{Float}
 use lib.ListN.{getD}
 use Rattle.format.specs.Contents.{codeOf}
-use Rattle.math.specs.declared.vector.Vector3.{Vector3}
-use Rattle.math.specs.declared.plane.Hyperplane.{Hyperplane}
-use Rattle.phys.specs.Trace as Tr
 use Rattle.phys.specs.declared.Trace.{Trace}
-use Rattle.nodes.specs.declared.table.Tables.{Tables}
-use Rattle.hull.specs.Traces.{planeMet, endOf}
-use Rattle.hull.specs.declared.tracing.Went.{Went}
 use Rattle.words.specs.Words.{flagWord, floatWord}
 use Rattle.phys.specs.declared.TraceEndKind.{TraceEndKind}
 use Rattle.phys.specs.declared.TraceEndKind.the-variants.{Terminal, Boundary}
-use Rattle.ffi_traces.specs.Layout.{kindWords, traceWords}
+use Rattle.walk_words.specs.Layout.{kindWords, traceWords}
 
 -- seven words, one by one
 pub seven : (k : TraceEndKind)
@@ -34,11 +26,3 @@ module _ (x : Trace) (v : ℕ) where
   laid e0 e1 e2 e3 e4 e5 e6 e7 e8 e9 ek =
       rw (e0, e1, e2, e3, e4, e5, e6, e7, e8, e9, ek)
       (ap (λ (l : List ℕ). v ∷ codeOf (x .contents) ∷ flagWord (x .«start_solid») ∷ floatWord (x .start .point .x) ∷ floatWord (x .start .point .y) ∷ floatWord (x .start .point .z) ∷ floatWord (x .start .ratio) ∷ floatWord (x .end .point .x) ∷ floatWord (x .end .point .y) ∷ floatWord (x .end .point .z) ∷ l) (seven (x .end .kind)))
-
--- the end's point
-by-end : (b : Bool) (e : Vector3) (k : Float) (h : Hyperplane) → e ≡ cond b (Tr.boundary e k h) (Tr.terminal e) .point
-by-end true e k h = refl
-by-end false e k h = refl
-
-pub end-point : (f : List ℕ) (t : Tables) (g : Went) → g .end ≡ endOf f t g .point
-end-point f t g = by-end (g .met) (g .end) (g .ratio) (planeMet f t (g .plane) (g .front))

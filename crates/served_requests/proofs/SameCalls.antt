@@ -20,8 +20,8 @@ use Rattle.ffi_hull.specs.Layout.{pointAt, hullFrom, hullAsked}
 use Rattle.ffi_walks.specs.Calls.{contentsWords, bspContents}
 use Rattle.ffi_traces.specs.Layout.{traceWords}
 use Rattle.ffi_traces.specs.Calls.{bspTrace}
 use Rattle.ffi_order.specs.Calls.{bspOrderContents, bspOrderTrace}
-use Rattle.ffi_order.specs.SameCalls.{tableNumber, HullOf, SameCalls}
+use Rattle.served_requests.specs.SameCalls.{tableNumber, HullOf, SameCalls}
 
 -- what is asked of the hull of the words is asked of the file's table and root
 module _ {A : Type 0} (s : List ℕ) (map hull : List ℕ) (root : ℕ) (ask : Table End BspLeafContents → ℕ → Answer A) where

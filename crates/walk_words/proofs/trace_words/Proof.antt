@@ -1,8 +1,8 @@
--- `ffi_traces::trace_words` meets its contract. Assumes nothing.
+-- `walk_words::trace_words` meets its contract. Assumes nothing.
 use borrow.Author.Needs.{needs}
-use Rattle.ffi_traces.proofs.Sevens.{seven}
-use Rattle.ffi_traces.proofs.trace_words.Statement.{statement}
-use Rattle.ffi_traces.proofs.trace_words.Tie as tie
+use Rattle.walk_words.proofs.Sevens.{seven}
+use Rattle.walk_words.proofs.trace_words.Statement.{statement}
+use Rattle.walk_words.proofs.trace_words.Tie as tie
 
 kind-words-requires : tie.Need-kind-words-requires
 kind-words-requires c κs = search needs

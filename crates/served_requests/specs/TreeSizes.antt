@@ -1,6 +1,6 @@
 -- Note 8: 'No other answer or refusal depends on the two.' Two hulls that agree on the fields which the Rust has get the same from every
 -- call that takes a hull, lent lists included: from the calls of the core, by the definitions in their contracts, and from the calls for C,
--- where a hull's first nine words hold those fields. proofs/SameAnswers.antt proves `CoreCalls` and `CallsForC`.
+-- where a hull's first nine words hold those fields. proofs/TreeSizes.antt proves `CoreCalls` and `CallsForC`.
 use Prim.Native.Nat.{ℕ}
 use mathlib.Core.List.{List}
 use mathlib.Core.Path.{_≡_}

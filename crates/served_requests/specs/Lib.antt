@@ -1,0 +1,8 @@
+-- What holds of the calls of the requests.
+pub mod Lines
+pub mod Points
+pub mod TreeSizes
+pub mod BodySizes
+pub mod SameCalls
+pub mod MadeUp
+pub mod Places

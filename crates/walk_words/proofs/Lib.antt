@@ -1,0 +1,2 @@
+-- A law about the words of a trace.
+pub mod Sevens

@@ -1,0 +1,2 @@
+-- What the contracts of `walk_words` cite.
+pub mod Layout
