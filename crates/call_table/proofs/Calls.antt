@@ -1,13 +1,6 @@
 -- The table of specs/Calls.antt, computed. Assumes nothing.
 use mathlib.Core.List.{map}
 use mathlib.Core.Path.{_≡_, refl}
-use Rattle.format.specs.Section.{recordCount, place}
-use Rattle.records.specs.Access.{recordOf}
-use Rattle.models.specs.Model.{modelOf, leafIdOf}
-use Rattle.ffi_load.specs.Calls.{bspLoad}
-use Rattle.ffi_place.specs.Calls.{bspLoadPlace}
-use Rattle.ffi_records.specs.Calls.{bspRecord, recordIn}
-use Rattle.ffi_counts.specs.Calls.{bspCount, bspEntities, sectionNumbered}
 use Rattle.ffi_hull.specs.Layout.{hullFrom}
 use Rattle.ffi_hull.specs.Calls.{bspHull, bspBox}
 use Rattle.ffi_walks.specs.Calls.{bspContents, bspFindLeaf}
@@ -19,9 +12,8 @@ use Rattle.ffi_accept.specs.Calls.{bspAccept}
 use Rattle.ffi_points.specs.Calls.{bspContentsPoints}
 use Rattle.ffi_line.specs.Calls.{bspTraceLine}
 use Rattle.ffi_order.specs.Calls.{bspOrder, bspOrderContents}
-use Rattle.ffi_textures.specs.Calls.{bspTexture, bspTextureFrame, bspTextureStatic}
 use Rattle.call_table.specs.Calls.{trials}
 
 pub all-hold : map (λ t. t .definition) trials ≡ map (λ t. t .header) trials
-unfolding trials recordCount place recordOf modelOf leafIdOf bspLoad bspLoadPlace bspRecord recordIn bspCount bspEntities sectionNumbered hullFrom bspHull bspBox bspContents bspFindLeaf bspTrace bspContentsNodes bspFindLeafNodes bspTraceNodes bspHullCheck bspContentsBox bspAccept bspContentsPoints bspTraceLine bspOrder bspOrderContents bspTexture bspTextureFrame bspTextureStatic
+unfolding trials hullFrom bspHull bspBox bspContents bspFindLeaf bspTrace bspContentsNodes bspFindLeafNodes bspTraceNodes bspHullCheck bspContentsBox bspAccept bspContentsPoints bspTraceLine bspOrder bspOrderContents
 all-hold = refl

@@ -1,15 +1,11 @@
--- What the calls for C answer where a list is a word too short (22), where a number names no section, table or hull (20), and where there are
--- too many points (24): beside what a call's definition says, what include/bsp29.h says. proofs/Calls.antt computes them all.
+-- What the calls for C that ask a hull answer, and acceptance, where a list is a word too short (22), where a number names no table or hull (20),
+-- and where there are too many points (24): beside what a call's definition says, what include/bsp29.h says. proofs/Calls.antt computes them all.
 use Prim.Native.Nat.{ℕ}
 use mathlib.Core.Bool.{false}
 use mathlib.Core.List.{List, [], _∷_}
 use lib.IntN.{pos}
 use lib.Ieee.{Float, fin}
 use lib.ListN.{replicate}
-use Rattle.ffi_load.specs.Calls.{bspLoad}
-use Rattle.ffi_place.specs.Calls.{bspLoadPlace}
-use Rattle.ffi_records.specs.Calls.{bspRecord}
-use Rattle.ffi_counts.specs.Calls.{bspCount, bspEntities}
 use Rattle.ffi_hull.specs.Calls.{bspHull, bspBox}
 use Rattle.ffi_walks.specs.Calls.{bspContents, bspFindLeaf}
 use Rattle.ffi_traces.specs.Calls.{bspTrace}
@@ -20,7 +16,6 @@ use Rattle.ffi_accept.specs.Calls.{bspAccept}
 use Rattle.ffi_points.specs.Calls.{bspContentsPoints}
 use Rattle.ffi_line.specs.Calls.{bspTraceLine}
 use Rattle.ffi_order.specs.Calls.{bspOrder, bspOrderContents}
-use Rattle.ffi_textures.specs.Calls.{bspTexture, bspTextureFrame, bspTextureStatic}
 
 pub record Trial : Type 0 where
   pub definition : ℕ
@@ -46,19 +41,9 @@ noTable = 3 ∷ words 8
 unfoldable pub trials : List Trial
 trials =
     -- a map record has 31 words
-    (bspLoad [] (words 30) .status gives 22)
-    ∷ (bspHull [] (words 30) 0 0 (words 11) .status gives 22)
+    (bspHull [] (words 30) 0 0 (words 11) .status gives 22)
     ∷ (bspFindLeaf [] (words 30) 0 (floats 3) (words 2) .status gives 22)
     ∷ (bspAccept [] (words 30) [] .status gives 22)
-    -- a place has four words, a record up to 20, an entity text two
-    ∷ (bspLoadPlace [] (words 3) .status gives 22)
-    ∷ (bspRecord [] (words 31) 14 0 (words 19) .status gives 22)
-    ∷ (bspEntities [] (words 31) (words 1) .status gives 22)
-    -- an index at the count is 20, though the record could not be read either (23)
-    ∷ (bspRecord [] (words 31) 14 0 (words 20) .status gives 20)
-    -- the textures (2) are no section of records; there is no section 15
-    ∷ (bspRecord [] (words 31) 2 0 (words 20) .status gives 20)
-    ∷ (bspCount (words 31) 15 (words 1) .status gives 20)
     -- bounds have six floats
     ∷ (bspBox (floats 5) (words 11) .status gives 22)
     ∷ (bspContentsBox [] (words 31) noTable (floats 5) [] (words 1) .status gives 22)
@@ -80,10 +65,6 @@ trials =
     -- a hull has eleven words, of which nine are asked for where a call takes it
     ∷ (bspHullCheck [] (words 31) noTable [] (words 9) .status gives 22)
     ∷ (bspHullCheck [] (words 31) noTable [] (words 11) .status gives 20)
-    -- a texture has five words, the number of a frame or of a static one a word
-    ∷ (bspTexture [] (words 31) 0 (words 4) .status gives 22)
-    ∷ (bspTextureFrame [] (words 31) 0 0 0 [] .status gives 22)
-    ∷ (bspTextureStatic [] (words 31) 0 [] .status gives 22)
     -- a box has no nodes in the file to be put in order
     ∷ (bspOrder [] (words 31) 2 0 [] [] (words 1) .status gives 20)
     ∷ (bspOrderContents [] (words 31) [] 0 (floats 2) (words 2) .status gives 22)

@@ -1,2 +1,2 @@
--- The trials of the calls for C.
+-- The trials of the calls for C that ask a hull.
 pub mod Calls

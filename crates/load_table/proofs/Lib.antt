@@ -1,0 +1,2 @@
+-- The table of trials, computed.
+pub mod Calls
