@@ -1,6 +1,6 @@
 -- A walk or a trace goes by its own sections and, in a node table, by no bounds: what is left out of the map record and of the hull does
 -- not change the table. Assumes nothing.
-use Prim.Native.Nat.{ℕ}
+use Prim.Native.Nat.{ℕ, _<_}
 use mathlib.Core.Path.{_≡_, refl, sym, ap, _∙_}
 use mathlib.Core.Bool.{Bool, true, false, cond}
 use mathlib.Core.List.{List}
@@ -13,6 +13,7 @@ use Rattle.format.specs.Refusal.{numberOf}
 use Rattle.format.specs.declared.contents.BspLeafContents.{BspLeafContents}
 use Rattle.format.specs.declared.refusal.Refusal.{Refusal}
 use Rattle.format.specs.declared.section.BspData.{BspData}
+use Rattle.math.specs.Vector.{vector, zero32}
 use Rattle.math.specs.declared.vector.Vector3.{Vector3}
 use Rattle.walk.specs.Table.{Table}
 use Rattle.words.specs.Words.{mapOf}
@@ -93,3 +94,17 @@ module _ {A : Type 0} (s ms ws : List ℕ) (ask : Table End BspLeafContents → 
     pub the-tables : (t : Tables) → t ≡ tablesOf m (h .table) (h .mins) (h .maxs) → ask (Fast.table s t) (h .«node_id») ≡ thenAnswer (hullFrom ws) (of (mapOf ms))
     the-tables t is-t =
         ap (λ (T : Table End BspLeafContents). ask T (h .«node_id»)) (ap (Fast.table s) is-t ∙ table-is s m (h .mins) (h .maxs) (h .table)) ∙ the-hull
+
+-- the same where a table of nodes is read off the first word
+abbrev pub origin : Vector3
+origin = vector zero32 zero32 zero32
+
+module _ (ws : List ℕ) (n : ℕ) (is-n : n ≡ getD ws 0 0) (l : n < 2) where
+  is-flat : answer (flatHull (eqb n 0) ws) ≡ walkedFrom ws
+  unfolding walkedFrom
+  is-flat = rw (← is-n, lt-ltb n 2 l)
+
+  pub flat-tables : {A : Type 0} (s ms : List ℕ) (ask : Table End BspLeafContents → ℕ → Answer A) (t : Tables) → t ≡ tablesOf (walkedMap ms) (fileTable (eqb n 0)) origin origin
+      → ask (Fast.table s t) (getD ws 1 0) ≡ thenAnswer (hullFrom ws) (λ h. ask (hullTable s (mapOf ms) h) (h .«node_id»))
+  flat-tables s ms ask t is-t =
+      the-tables s ms ws ask (Hull (flatHull (eqb n 0) ws)) is-flat (flatHull (eqb n 0) ws) refl (walkedMap ms) refl t is-t

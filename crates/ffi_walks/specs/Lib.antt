@@ -1,2 +1,3 @@
 -- What the contracts of `ffi_walks` cite.
 pub mod Calls
+pub mod Private

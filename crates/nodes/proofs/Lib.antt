@@ -12,7 +12,9 @@ pub mod Entering
 mod Making
 mod Stepping
 mod Beside
+mod Quicks
 pub mod Equal
 pub mod Ends
 mod Handed
 pub mod Numbering
+pub mod QuickTables

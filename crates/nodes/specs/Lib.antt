@@ -4,4 +4,5 @@ pub mod Fast
 pub mod Walks
 pub mod Numbered
 pub mod Lanes
+pub mod Quick
 pub mod Answers

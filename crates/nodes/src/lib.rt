@@ -5,6 +5,7 @@ mod here;
 pub mod lanes;
 pub mod lines;
 pub mod numbered;
+pub mod quick;
 pub mod read;
 pub mod segment;
 pub mod table;

@@ -71,6 +71,16 @@ pub fn plane_bytes(s: &[u8], t: Tables, whole: bool) -> &[u8]
     bytes_of(s, t.planes, 20, whole)
 }
 
+// How many nodes the bytes have.
+pub(crate) fn node_count(nodes: &[u8], render: bool) -> usize
+    ensures { λ r. ⌜ r ≡ length (now (nodes .entry)) / Fast.nodeSize render ⌝ }
+{
+    if render {
+        return nodes.len() / 24;
+    }
+    nodes.len() / 8
+}
+
 // Whether the bytes have a node of an index.
 pub(crate) fn has_node(nodes: &[u8], render: bool, index: usize) -> bool
     ensures { λ r. ⌜ r ≡ ltb index (length (now (nodes .entry)) / Fast.nodeSize render) ⌝ }

@@ -1,0 +1,2 @@
+-- What the proofs of `ffi_walks` share.
+mod Found
