@@ -45,7 +45,8 @@ two words a x y r l is-r e h =
 pub gives-found : {A : Type 0} (words : A → List ℕ) (a : Answer A) (r : ℕ) → Found words a r → 0 < r → (out : List ℕ) → 2 ≤ length out → (w : Written)
     → w ≡ give (r / 4294967296 ∷ r % 4294967296 ∷ []) out → w ≡ given (mapped words a) out
 gives-found words a r f h out l w e =
-    gives (λ (x : Answer (List ℕ)). x) (λ (x : List ℕ). x) out refl (f h) refl refl (omega (arith, l)) e
+    gives (λ (x : Answer (List ℕ)). x) (λ (x : List ℕ). x) out {a = answer (r / 4294967296 ∷ r % 4294967296 ∷ [])} refl refl refl refl (omega (arith, l)) e
+    ∙ ap (λ (b : Answer (List ℕ)). given b out) (sym (f h))
 
 module _ (s ms : List ℕ) (p : Vector3) (t : Tables) (root end : ℕ) (some : end ≡ 0 → ⊥) where
   abbrev w : ℕ
@@ -71,7 +72,7 @@ module _ (s ms : List ℕ) (p : Vector3) (t : Tables) (root end : ℕ) (some : e
 
   module _ (is-t : t ≡ tablesOf (walkedMap ms) (fileTable true) origin origin)
       (is-end : quickAnswer (fileTable true) end ≡ quickWalk s (tablesBy true (t .nodes .at) (t .nodes .count) (t .planes .at) (t .planes .count)) root p) where
-    pub leaf-found : 65535 - w < t .leaves .count → mapped leafWords (withVisits (pointWalk (leafTable s (mapOf ms)) root p)) ≡ answer (65535 - w ∷ v ∷ [])
+    pub leaf-found : 65535 - w < t .leaves .count → mapped leafWords (withVisits (pointWalk (leafTable s (mapOf ms)) root p)) ≡ answer ((65535 - w) ∷ v ∷ [])
     leaf-found h =
         sym (ap (mapped leafWords) (leaf-met s (walkedMap ms) origin origin t is-t root p (Word w v) (quick-end s (walkedMap ms) origin origin true t is-t root p end is-end some) w v refl h
         ∙ ap (λ (T : Table End ℕ). withVisits (pointWalk T root p)) (same-leaf-table s ms p)))

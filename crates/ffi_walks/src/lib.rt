@@ -42,8 +42,12 @@ fn quick_contents(file: &[u8], map: &[u32], hull: &[u64], point: &[f32]) -> u64
     if end == 0 {
         return 0;
     }
+    let word = end / 4294967296;
+    if 65535 < word {
+        return 0;
+    }
     let l = t.leaves;
-    let code = end_code(file, l.at, l.count, render, (end / 4294967296) as u16);
+    let code = end_code(file, l.at, l.count, render, word as u16);
     if code == 0 {
         return 0;
     }
@@ -63,8 +67,12 @@ fn quick_leaf(file: &[u8], map: &[u32], root: u64, point: &[f32]) -> u64
     if end == 0 {
         return 0;
     }
+    let word = end / 4294967296;
+    if 65535 < word {
+        return 0;
+    }
     let l = t.leaves;
-    let leaf = 65535 - end / 4294967296;
+    let leaf = 65535 - word;
     if (l.count as u64) <= leaf {
         return 0;
     }
