@@ -1,14 +1,15 @@
 -- A walk or a trace goes by its own sections and, in a node table, by no bounds: what is left out of the map record and of the hull does
 -- not change the table. Assumes nothing.
-use Prim.Native.Nat.{ℕ, _<_}
+use Prim.Native.Nat.{ℕ, _<_, _≤_}
 use mathlib.Core.Path.{_≡_, refl, sym, ap, _∙_}
 use mathlib.Core.Bool.{Bool, true, false, cond}
 use mathlib.Core.List.{List}
 use native.Mathlib.Omega.{arith}
 use borrow.Author.Tests.{lt-ltb, le-ltb, eqb-true, eqb-false}
 use lib.Dec.{eqb, ltb}
-use lib.ListN.{getD}
-use Rattle.format.specs.Answer.{Answer, answer, refused, thenAnswer}
+use lib.Ieee.{Float}
+use lib.ListN.{length, getD}
+use Rattle.format.specs.Answer.{Answer, answer, refused, mapped, thenAnswer}
 use Rattle.format.specs.Refusal.{numberOf}
 use Rattle.format.specs.declared.contents.BspLeafContents.{BspLeafContents}
 use Rattle.format.specs.declared.refusal.Refusal.{Refusal}
@@ -16,7 +17,7 @@ use Rattle.format.specs.declared.section.BspData.{BspData}
 use Rattle.math.specs.Vector.{vector, zero32}
 use Rattle.math.specs.declared.vector.Vector3.{Vector3}
 use Rattle.walk.specs.Table.{Table}
-use Rattle.words.specs.Words.{mapOf}
+use Rattle.words.specs.Words.{Written, given, atLeast, mapLength, mapOf}
 use Rattle.nodes.specs.Tables.{End, tableOf, leafTable, fileTable}
 use Rattle.nodes.specs.Fast as Fast
 use Rattle.nodes.specs.Fast.{tablesOf}
@@ -29,7 +30,7 @@ use Rattle.hull.specs.Answers.{hullAnswer}
 use Rattle.hull.specs.declared.collision.BspCollisionHull.{BspCollisionHull}
 use Rattle.hull.specs.declared.collision.HullAnswer.{HullAnswer}
 use Rattle.hull.specs.declared.collision.HullAnswer.the-variants.{Hull, Refused}
-use Rattle.ffi_hull.specs.Layout.{hullIn, hullFrom, flatHull, walkedFrom, walkedMap}
+use Rattle.ffi_hull.specs.Layout.{hullAsked, hullIn, hullFrom, flatHull, walkedFrom, walkedMap}
 
 -- ---- the map record
 
@@ -108,3 +109,11 @@ module _ (ws : List ℕ) (n : ℕ) (is-n : n ≡ getD ws 0 0) (l : n < 2) where
       → ask (Fast.table s t) (getD ws 1 0) ≡ thenAnswer (hullFrom ws) (λ h. ask (hullTable s (mapOf ms) h) (h .«node_id»))
   flat-tables s ms ask t is-t =
       the-tables s ms ws ask (Hull (flatHull (eqb n 0) ws)) is-flat (flatHull (eqb n 0) ws) refl (walkedMap ms) refl t is-t
+
+-- ---- a call that asks something of a hull by words: its four lists are long enough
+
+module _ {A : Type 0} (words : A → List ℕ) (ms ws : List ℕ) (fs : List Float) (k d : ℕ) (out : List ℕ) (a : Answer A) where
+  pub long-enough : mapLength ≤ length ms → hullAsked ≤ length ws → k ≤ length fs → d ≤ length out → (w : Written) → w ≡ given (mapped words a) out
+      → w ≡ atLeast mapLength ms out (atLeast hullAsked ws out (atLeast k fs out (atLeast d out out (given (mapped words a) out))))
+  long-enough e f g h w q =
+      q ∙ simp (le-ltb (length ms) mapLength e, le-ltb (length ws) hullAsked f, le-ltb (length fs) k g, le-ltb (length out) d h)

@@ -31,14 +31,15 @@ fn quick_contents(file: &[u8], map: &[u32], hull: &[u64], point: &[f32]) -> u64
     if 2 <= kind {
         return 0;
     }
-    let render = kind == 0;
-    let root = word_at_u64(hull, 1) as usize;
+    let drawn = kind == 0;
+    let id = word_at_u64(hull, 1) as usize;
     let none = Vector3::new(0.0, 0.0, 0.0);
-    let t = tables_of(layout::walked_map(map), layout::node_table(render), none, none);
+    let table = layout::node_table(drawn);
+    let t = tables_of(layout::walked_map(map), table, none, none);
     let n = t.nodes;
     let m = t.planes;
     let p = layout::first_point(point);
-    let end = walk_quick(file, n.at, n.count, m.at, m.count, render, root, p.x, p.y, p.z);
+    let end = walk_quick(file, n.at, n.count, m.at, m.count, drawn, id, p.x, p.y, p.z);
     if end == 0 {
         return 0;
     }
@@ -47,7 +48,7 @@ fn quick_contents(file: &[u8], map: &[u32], hull: &[u64], point: &[f32]) -> u64
         return 0;
     }
     let l = t.leaves;
-    let code = end_code(file, l.at, l.count, render, word as u16);
+    let code = end_code(file, l.at, l.count, drawn, word as u16);
     if code == 0 {
         return 0;
     }
@@ -63,7 +64,18 @@ fn quick_leaf(file: &[u8], map: &[u32], root: u64, point: &[f32]) -> u64
     let n = t.nodes;
     let m = t.planes;
     let p = layout::first_point(point);
-    let end = walk_quick(file, n.at, n.count, m.at, m.count, true, root as usize, p.x, p.y, p.z);
+    let end = walk_quick(
+        file,
+        n.at,
+        n.count,
+        m.at,
+        m.count,
+        true,
+        root as usize,
+        p.x,
+        p.y,
+        p.z,
+    );
     if end == 0 {
         return 0;
     }
@@ -156,5 +168,8 @@ pub fn find_leaf(file: &[u8], map: &[u32], root: u64, point: &[f32], out: &mut [
         return give(&[quick / 4294967296, quick % 4294967296], out);
     }
     let p = layout::first_point(point);
-    give_leaf(find_leaf_from(file, layout::walked_map(map), root as usize, p), out)
+    give_leaf(
+        find_leaf_from(file, layout::walked_map(map), root as usize, p),
+        out,
+    )
 }

@@ -46,7 +46,7 @@ give-contents-requires : tie.Need-give-contents-requires
 give-contents-requires c κs = c .before .before .before .before .before .before .before .before .before .before .before .before .before .pre
 
 returns : tie.Need-returns
-returns c = 
+returns c =
     let s = c .before .before .before .before .before .before .before .before .before .before .args in
     ap (λ (a : Answer (BspLeafContents × ℕ)). given (mapped contentsWords a) (s .out .now)) (no-hull (s .file .now) (s .map .now) (s .hull .now) (asked (pointAt (s .point .now) 0)) _ (c .before .before .before .before .walked-hull .ensures) _ (c .before .before .e .given .1) _ (c .number .ensures))
 
@@ -54,7 +54,7 @@ same-length : tie.Need-same-length
 same-length c = search needs
 
 returns-2 : tie.Need-returns-2
-returns-2 c = 
+returns-2 c =
     let s = c .before .before .before .before .before .before .before .before .before .before .before .before .before .before .before .before .args in
     let h = c .before .before .before .before .before .before .before .before .h .given .0 .0 in
     c .before .before .give-contents .ensures

@@ -38,7 +38,7 @@ same-length c = search needs
 
 returns-5 : tie.Need-returns-5
 unfolding bspContents
-returns-5 c = 
+returns-5 c =
     let s = c .before .before .before .before .before .before .before .before .before .before .before .before .before .before .before .before .args in
     simp (le-ltb _ _ (c .before .before .before .before .before .before .before .before .before .before .if1 .left), le-ltb _ _ (c .before .before .before .before .before .before .before .before .before .if2 .left), le-ltb _ _ (c .before .before .before .before .before .before .before .before .if3 .left), le-ltb _ _ (c .before .before .before .before .before .before .before .if4 .left))
     (gives-found contentsWords (contentsAsked (s .file .now) (s .map .now) (s .hull .now) (s .point .now)) (c .before .before .before .before .before .before .quick-contents .result) (c .before .before .before .before .before .before .quick-contents .ensures) (c .before .before .before .before .before .if5 .taken) (s .out .now) (c .before .before .before .before .before .before .before .if4 .left) _ (c .before .before .give .ensures))
@@ -51,7 +51,7 @@ same-length-2 c = search needs
 
 returns-6 : tie.Need-returns-6
 unfolding bspContents
-returns-6 c = 
+returns-6 c =
     simp (le-ltb _ _ (c .before .before .before .before .before .before .before .before .before .if1 .left), le-ltb _ _ (c .before .before .before .before .before .before .before .before .if2 .left), le-ltb _ _ (c .before .before .before .before .before .before .before .if3 .left), le-ltb _ _ (c .before .before .before .before .before .before .if4 .left))
     (c .before .before .any-contents .ensures)
 

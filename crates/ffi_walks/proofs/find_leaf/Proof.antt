@@ -43,7 +43,7 @@ same-length c = search needs
 
 returns-4 : tie.Need-returns-4
 unfolding bspFindLeaf
-returns-4 c = 
+returns-4 c =
     let s = c .before .before .before .before .before .before .before .before .before .before .before .before .before .before .args in
     simp (le-ltb _ _ (c .before .before .before .before .before .before .before .before .before .if1 .left), le-ltb _ _ (c .before .before .before .before .before .before .before .before .if2 .left), le-ltb _ _ (c .before .before .before .before .before .before .before .if3 .left))
     (gives-found leafWords (leafAsked (s .file .now) (s .map .now) (s .root) (s .point .now)) (c .before .before .before .before .before .before .quick-leaf .result) (c .before .before .before .before .before .before .quick-leaf .ensures) (c .before .before .before .before .before .if4 .taken) (s .out .now) (c .before .before .before .before .before .before .before .if3 .left) _ (c .before .before .give .ensures))
@@ -65,7 +65,7 @@ same-length-2 c = search needs
 
 returns-5 : tie.Need-returns-5
 unfolding bspFindLeaf
-returns-5 c = 
+returns-5 c =
     let s = c .before .before .before .before .before .before .before .before .before .before .before .before .before .before .before .before .args in
     simp (le-ltb _ _ (c .before .before .before .before .before .before .before .before .before .before .before .if1 .left), le-ltb _ _ (c .before .before .before .before .before .before .before .before .before .before .if2 .left), le-ltb _ _ (c .before .before .before .before .before .before .before .before .before .if3 .left))
     (c .before .before .give-leaf .ensures

@@ -67,7 +67,7 @@ add-result : tie.Need-add-result
 add-result c = search needs
 
 returns-5 : tie.Need-returns-5
-returns-5 c = 
+returns-5 c =
     let s = c .before .before .before .before .before .before .before .before .before .before .before .before .before .before .before .before .before .before .before .before .args in
     let k = c .before .before .before .before .before .before .before .before .before .before .before .before .before .before .before .word-at-u64 .result in
     let t = c .before .before .before .before .before .before .before .before .before .tables-of .result in
@@ -77,8 +77,8 @@ returns-5 c =
     two contentsWords (contentsAsked (s .file .now) (s .map .now) (s .hull .now) (s .point .now)) (c .before .end-code .result) (end % 4294967296) _ (omega arith) refl
     (contents-found (s .file .now) (s .map .now) (pointAt (s .point .now) 0) t root end (c .before .before .before .before .if2 .left) (s .hull .now) k (c .before .before .before .before .before .before .before .before .before .before .before .before .before .before .before .word-at-u64 .ensures) (omega (arith, c .before .before .before .before .before .before .before .before .before .before .before .before .before .before .if1 .left))
     (c .before .before .before .before .before .before .before .before .before .tables-of .ensures
-    ∙ ap (λ m. tablesOf m (c .before .before .before .before .before .before .before .before .before .before .node-table .result) z z) (c .before .before .before .before .before .before .before .before .before .before .before .walked-map .ensures)
-    ∙ ap (λ tab. tablesOf (walkedMap (s .map .now)) tab z z) (c .before .before .before .before .before .before .before .before .before .before .node-table .ensures)
+    ∙ ap (λ m. tablesOf m (c .before .before .before .before .before .before .before .before .before .before .before .node-table .result) z z) (c .before .before .before .before .before .before .before .before .before .before .walked-map .ensures)
+    ∙ ap (λ tab. tablesOf (walkedMap (s .map .now)) tab z z) (c .before .before .before .before .before .before .before .before .before .before .before .node-table .ensures)
     ∙ ap (λ v. tablesOf (walkedMap (s .map .now)) (fileTable (eqb k 0)) v v) (c .before .before .before .before .before .before .before .before .before .before .before .before .new .ensures))
     (c .before .before .before .before .before .before .before .before .before .before .before .before .before .word-at-u642 .ensures)
     (c .before .before .before .before .before .walk-quick .ensures
@@ -93,8 +93,8 @@ quick-contents-spec =
     returns
     word-at-u64-requires-2
     new-requires
-    walked-map-requires
     node-table-requires
+    walked-map-requires
     tables-of-requires
     first-point-requires
     walk-quick-requires

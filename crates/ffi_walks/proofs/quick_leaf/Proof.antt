@@ -49,7 +49,7 @@ add-result : tie.Need-add-result
 add-result c = search needs
 
 returns-4 : tie.Need-returns-4
-returns-4 c = 
+returns-4 c =
     let s = c .before .before .before .before .before .before .before .before .before .before .before .before .before .before .before .args in
     let t = c .before .before .before .before .before .before .before .before .before .tables-of .result in
     let z = c .before .before .before .before .before .before .before .before .before .before .before .new .result in
