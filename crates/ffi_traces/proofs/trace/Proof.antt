@@ -7,7 +7,7 @@ use Rattle.format.specs.Answer.{Answer, refused, mapped, thenAnswer}
 use Rattle.math.specs.declared.vector.Vector3.{Vector3}
 use Rattle.words.specs.Words.{given, mapOf}
 use Rattle.hull.specs.Hull.{hullTable}
-use Rattle.ffi_hull.proofs.Walked.{no-hull, the-hull}
+use Rattle.ffi_hull.proofs.Walked.{long-enough, no-hull, the-hull}
 use Rattle.format.specs.declared.contents.BspLeafContents.{BspLeafContents}
 use Rattle.walk.specs.Table.{Table}
 use Rattle.nodes.specs.Tables.{End}
@@ -15,7 +15,7 @@ use Rattle.walk.specs.Walk.{withVisits}
 use Rattle.walk.specs.Tracing as Tracing
 use Rattle.phys.specs.declared.Trace.{Trace}
 use Rattle.ffi_hull.specs.Layout.{pointAt, hullFrom}
-use Rattle.ffi_traces.specs.Layout.{traceWords}
+use Rattle.ffi_traces.specs.Layout.{traceLength, traceWords}
 use Rattle.ffi_traces.specs.Calls.{bspTrace}
 use Rattle.ffi_traces.proofs.trace.Statement.{statement}
 use Rattle.ffi_traces.proofs.trace.Tie as tie
@@ -30,8 +30,9 @@ at-hull : (c : tie.After-walked-hull) (a : Answer (Trace × ℕ)) → let s = c 
     → given (mapped traceWords a) (s .out .now) ≡ bspTrace (s .file .now) (s .map .now) (s .hull .now) (s .segment .now) (s .out .now)
 unfolding bspTrace
 at-hull c a g =
-    simp (le-ltb _ _ (c .before .before .before .before .if1 .left), le-ltb _ _ (c .before .before .before .if2 .left), le-ltb _ _ (c .before .before .if3 .left), le-ltb _ _ (c .before .if4 .left))
-    (ap (λ (a : Answer (Trace × ℕ)). given (mapped traceWords a) (c .before .before .before .before .before .before .before .before .before .before .args .out .now)) g)
+    let s = c .before .before .before .before .before .before .before .before .before .before .args in
+    long-enough traceWords (s .map .now) (s .hull .now) (s .segment .now) 6 traceLength (s .out .now) (thenAnswer (hullFrom (s .hull .now)) (λ h. asked (pointAt (s .segment .now) 0) (pointAt (s .segment .now) 3) (hullTable (s .file .now) (mapOf (s .map .now)) h) (h .«node_id»))) (c .before .before .before .before .if1 .left) (c .before .before .before .if2 .left) (c .before .before .if3 .left) (c .before .if4 .left) (given (mapped traceWords a) (s .out .now))
+    (ap (λ (a : Answer (Trace × ℕ)). given (mapped traceWords a) (s .out .now)) g)
 
 returns : tie.Need-returns
 unfolding bspTrace
