@@ -30,10 +30,6 @@ use Rattle.ffi_hull.proofs.Walked.{flat-tables, origin, same-leaf-table}
 use Rattle.ffi_walks.specs.Calls.{contentsWords, leafWords}
 use Rattle.ffi_walks.specs.Private.{Found}
 
--- nothing is said
-pub nothing : {A : Type 0} (words : A → List ℕ) (a : Answer A) → Found words a 0
-nothing words a h = absurd (omega (arith, h))
-
 -- two words as one number
 pub two : {A : Type 0} (words : A → List ℕ) (a : Answer A) (x y r : ℕ) → y < 4294967296 → r ≡ x * 4294967296 + y → mapped words a ≡ answer (x ∷ y ∷ []) → Found words a r
 two words a x y r l is-r e h =
