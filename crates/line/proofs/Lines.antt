@@ -62,7 +62,7 @@ differ-is true false e = refl
 differ-is false true e = refl
 differ-is false false e = let z : _≡_ {A = ℕ} 0 1 = cc in absurd (omega arith)
 
-other-side : (x : Bool) → Pl.sideIf (not x) ≡ Pl.negatedSide (Pl.sideIf x)
+pub other-side : (x : Bool) → Pl.sideIf (not x) ≡ Pl.negatedSide (Pl.sideIf x)
 other-side true = refl
 other-side false = refl
 
@@ -151,7 +151,7 @@ module _ (f : List ℕ) (t : Tables) (root k i : ℕ) (s : Stretch) (l : LineTra
 
     -- both ends on one side: on to the child, with the same ends
     module _ (same : not (Bool·beq (Ieee.le zero32 a) (Ieee.le zero32 b)) ≡ false) (word : ℕ) (is-word : word ≡ wordOn w (Ieee.le zero32 a)) where
-      on-child : onChild T go (childAt t w (Ieee.le zero32 a)) s l ≡ all
+      pub on-child : onChild T go (childAt t w (Ieee.le zero32 a)) s l ≡ all
       on-child = pick-true _ _ _ (same-is (Ieee.le zero32 a) (Ieee.le zero32 b) same) ∙ enters
 
       pub goes-on : word < 32768 → lineFrom T root (k - 1) word s l ≡ all

@@ -50,10 +50,10 @@ module _ (f : List ℕ) (t : Tables) (go : ℕ → Answer BspLeafContents) (w : 
   unfolding contentsMet
   look-end h = ap (contentsOn (Fast.table f t) go) (child-end (t .table) w b word is-word h)
 
-word-node : (tab : HullTable) (word : ℕ) → word < 32768 → childOf tab word ≡ node word
+pub word-node : (tab : HullTable) (word : ℕ) → word < 32768 → childOf tab word ≡ node word
 word-node tab word h = simp (lt-ltb _ _ h)
 
-word-end : (tab : HullTable) (word : ℕ) → 32768 ≤ word → childOf tab word ≡ end (endOf tab word)
+pub word-end : (tab : HullTable) (word : ℕ) → 32768 ≤ word → childOf tab word ≡ end (endOf tab word)
 word-end tab word h = simp (le-ltb _ _ h)
 
 -- at a node, by the child's word
@@ -67,7 +67,7 @@ module _ (f : List ℕ) (t : Tables) (k i : ℕ) (p : Vector3) where
   look-closed n (unread h z m) = sym (look-unread T p k (k - 1) i (omega (arith, z)) h n m)
 
   module _ (word : ℕ) (M : Made (childByDistance p) f t i k (childOf (t .table) word)) where
-    goes : contentsFrom T k i p ≡ contentsOn T (λ n. contentsFrom T (k - 1) n p) (childOf (t .table) word)
+    pub goes : contentsFrom T k i p ≡ contentsOn T (λ n. contentsFrom T (k - 1) n p) (childOf (t .table) word)
     goes =
         look-step T p k (k - 1) i (omega (arith, M .left)) (M .in-range) ∙ ap (contentsAt T (λ n. contentsFrom T (k - 1) n p) p) (M .entered)
         ∙ ap (contentsOn T (λ n. contentsFrom T (k - 1) n p)) (M .is-made)

@@ -2,17 +2,21 @@
 -- What the parts of the whole-line trace answer, in the terms of Line.antt.
 use Prim.Native.Nat.{ℕ, suc, _≤_}
 use mathlib.Core.Path.{_≡_}
-use mathlib.Core.Bool.{cond, false, Bool, not}
-use mathlib.Core.List.{List}
+use mathlib.Core.Bool.{cond, true, false, Bool, not, _&&_}
+use mathlib.Core.List.{List, [], _∷_}
 use lib.Dec.{ltb, eqb}
+use lib.Ieee as Ieee
 use lib.Ieee.{Float}
+use Rattle.math.specs.Vector.{zero32, one32}
 use Rattle.math.specs.Plane as Pl
 use Rattle.math.specs.declared.plane.Hyperplane.{Hyperplane}
 use Rattle.math.specs.declared.vector.Vector3.{Vector3}
 use Rattle.format.specs.Refusal.{numberOf}
 use Rattle.format.specs.Answer as Ans
 use Rattle.format.specs.Answer.{Answer, answer}
+use Rattle.format.specs.Contents as Contents
 use Rattle.format.specs.declared.contents.BspLeafContents.{BspLeafContents}
+use Rattle.format.specs.declared.contents.BspLeafContents.the-variants.{Solid}
 use Rattle.walk.specs.Walk.{Entered}
 use Rattle.walk.specs.Table.{Child, childOn}
 use Rattle.nodes.specs.Tables.{End}
@@ -20,7 +24,7 @@ use Rattle.nodes.specs.Walks.{madeFrom, Read}
 use Rattle.nodes.specs.Fast as Fast
 use Rattle.nodes.specs.declared.table.Tables.{Tables}
 use Rattle.nodes.specs.declared.read.Words.{Words}
-use Rattle.line.specs.Line.{Went, onward, stopped, refused, lineFrom, across, into, contentsBelow, onChild, pointAt, farPart, beyond}
+use Rattle.line.specs.Line.{Went, onward, stopped, refused, stretch, unset, lineFrom, across, into, intoLeaf, contentsOn, contentsFrom, contentsBelow, onChild, pointAt, nearPart, farPart, beyond, blocked, past}
 use Rattle.line.specs.declared.tracing.Going.{Going}
 use Rattle.line.specs.declared.tracing.Going.the-variants as G
 use Rattle.line.specs.declared.contents.Ground.{Ground}
@@ -30,6 +34,12 @@ use Rattle.line.specs.declared.tracing.Descent.{Descent}
 use Rattle.line.specs.declared.tracing.Descent.the-variants as D
 use Rattle.line.specs.declared.tracing.Far.{Far}
 use Rattle.line.specs.declared.tracing.Far.the-variants as F
+use Rattle.line.specs.declared.through.Waiting.{Waiting}
+use Rattle.line.specs.declared.through.Stand.{Stand}
+use Rattle.line.specs.declared.through.Reached.{Reached}
+use Rattle.line.specs.declared.through.Reached.the-variants as N
+use Rattle.line.specs.declared.through.Came.{Came}
+use Rattle.line.specs.declared.through.Came.the-variants as C
 
 abbrev pub wentOf : Going → Went
 wentOf (G.On l) = onward l
@@ -83,3 +93,67 @@ Beyond f g w front s k l r =
     (h : Hyperplane) → Fast.planeIn f (g .t) (w .plane) ≡ answer h → (go : ℕ → Stretch → LineTrace → Went)
     → farWent go (farPart s k) l r
     ≡ beyond (Fast.table f (g .t)) go (g .root) (Fast.nodeOf (g .t .table) w) h s (Pl.sideIf front) k l (contentsBeside f (g .t) w (not front) (pointAt s k))
+
+-- the whole line from the root
+abbrev pub allWent : List ℕ → Ground → Vector3 → Vector3 → Went
+allWent f g p q = lineFrom (Fast.table f (g .t)) (g .root) 512 (g .root) (stretch zero32 one32 p q) (unset q)
+
+-- ---- the whole line in one loop (`follow`)
+
+-- a child by its word, for a part of the line and for a look, with so many calls left
+abbrev pub wordWent : List ℕ → Tables → ℕ → ℕ → ℕ → Stretch → LineTrace → Went
+wordWent f t root left word s l = onChild (Fast.table f t) (λ n s l. lineFrom (Fast.table f t) root left n s l) (Fast.childOf (t .table) word) s l
+
+abbrev pub wordLook : List ℕ → Tables → ℕ → ℕ → Vector3 → Answer BspLeafContents
+wordLook f t left word p = contentsOn (Fast.table f t) (λ n. contentsFrom (Fast.table f t) left n p) (Fast.childOf (t .table) word)
+
+-- where the way down of the part s from the node i, with k calls left, comes to: what becomes of s there, and what a look from where s starts
+-- finds, are what they are at the node i
+abbrev pub Reaches : List ℕ → Tables → ℕ → ℕ → Stretch → Reached → Type 0
+Reaches f t i k s (N.End w) =
+    (32768 ≤ w)
+    × ((root : ℕ) (l : LineTrace) → intoLeaf (Fast.table f t) l (Fast.contentsMet f t w) ≡ lineFrom (Fast.table f t) root k i s l)
+    × (Fast.contentsMet f t w ≡ contentsFrom (Fast.table f t) k i (s .start))
+Reaches f t i k s (N.Crossing w a b left) =
+    Crossed f t i k s w a b left × (wordLook f t left (Fast.wordOn w (Ieee.le zero32 a)) (s .start) ≡ contentsFrom (Fast.table f t) k i (s .start))
+Reaches f t i k s N.Nothing = Unit {0}
+
+-- beyond the plane h that waits: its near side has come to w
+abbrev pub pastWaiting : List ℕ → Tables → ℕ → Waiting → Hyperplane → Went → Went
+pastWaiting f t root x h w =
+    past (Fast.table f t) (λ n s l. lineFrom (Fast.table f t) root (x .left) n s l) root (Fast.nodeOf (t .table) (x .w)) h (x .part) (Pl.fromDist (x .a)) (x .k) w
+
+-- beyond all planes that wait, the nearest first, it comes to `all`
+abbrev pub Resumes : List ℕ → Tables → ℕ → List Waiting → Went → Went → Type 0
+Resumes f t root [] w all = w ≡ all
+Resumes f t root (x ∷ xs) w all =
+    (x .left ≤ 512) × ((h : Hyperplane) × ((Fast.planeIn f t (x .w .plane) ≡ answer h) × Resumes f t root xs (pastWaiting f t root x h w) all))
+
+-- the line is blocked at the plane x
+abbrev pub Blocks : List ℕ → Tables → ℕ → Waiting → LineTrace → Went → Type 0
+Blocks f t root x l all =
+    (h : Hyperplane) × ((Fast.planeIn f t (x .w .plane) ≡ answer h) × (blocked (Fast.table f t) root h (Pl.fromDist (x .a)) (x .part) (x .k) l ≡ all))
+
+-- The line stands at a child, by its word, with the part s, and the planes xs wait; `looked`: the first end that it comes to is what the look
+-- beyond the plane x finds. Whatever that is, the line is blocked at x or goes on.
+abbrev pub Follows : List ℕ → Tables → ℕ → List Waiting → ℕ → Stretch → ℕ → LineTrace → Waiting → Bool → Went → Type 0
+Follows f t root xs left s word l x looked all =
+    (c : BspLeafContents) → wordLook f t left word (s .start) ≡ answer c
+    → (looked && Contents.equal c Solid ≡ true → Blocks f t root x l all)
+    × (looked && Contents.equal c Solid ≡ false → Resumes f t root xs (wordWent f t root left word s l) all)
+
+-- the two sides of a plane that waits
+abbrev pub nearSide : Waiting → Stand
+nearSide x = record { word = Fast.wordOn (x .w) (Ieee.le zero32 (x .a)); left = x .left; part = nearPart (x .part) (x .k) }
+
+abbrev pub farSide : Waiting → Stand
+farSide x = record { word = Fast.wordOn (x .w) (not (Ieee.le zero32 (x .a))); left = x .left; part = farPart (x .part) (x .k) }
+
+-- what becomes of the line from where it stands, and where it comes to
+abbrev pub standWent : List ℕ → Ground → Stand → LineTrace → Went
+standWent f g at l = wordWent f (g .t) (g .root) (at .left) (at .word) (at .part) l
+
+abbrev pub Arrives : List ℕ → Ground → Stand → LineTrace → Came → Type 0
+Arrives f g at l (C.Through m) = onward m ≡ standWent f g at l
+Arrives f g at l (C.Blocked x m) = Blocks f (g .t) (g .root) x m (standWent f g at l)
+Arrives f g at l C.Nothing = Unit {0}

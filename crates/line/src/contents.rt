@@ -7,7 +7,6 @@ ghost use Rattle.line.specs.Line as Line;
 ghost use Rattle.line.specs.Private as Private;
 use format::refusal::Refusal;
 use math::Vector3;
-use nodes::lines::ends_in;
 use nodes::lines::look_in;
 use nodes::lines::point_of;
 use nodes::read::Dists;
@@ -44,19 +43,9 @@ fn node_any(s: &[u8], t: Tables, index: usize, p: Vector3, q: Vector3) -> Segmen
     }
 }
 
-// The same with so many calls left, whole tables or not. 30: the node is outside its table; 32: no call is left.
-pub fn node_at(
-    s: &[u8],
-    nodes: &[u8],
-    planes: &[u8],
-    g: Ground,
-    index: usize,
-    left: u32,
-    p: &[f32; 3],
-    q: &[f32; 3],
-) -> SegmentAt
-    requires { ⌜ Private.Lent (now s) (now nodes) (now planes) g ⌝ }
-    ensures { λ r. ⌜ Walks.segmentAnswer (g .t .table) r ≡ Private.nodeFor (Walks.nodeAndDists (Fast.pointOf (now (p .entry))) (Fast.pointOf (now (q .entry)))) (now (s .entry)) (g .t) index left ⌝ }
+// The same with so many calls left. 30: the node is outside its table; 32: no call is left.
+pub fn node_at(s: &[u8], g: Ground, index: usize, left: u32, p: Vector3, q: Vector3) -> SegmentAt
+    ensures { λ r. ⌜ Walks.segmentAnswer (g .t .table) r ≡ Private.nodeFor (Walks.nodeAndDists p q) (now (s .entry)) (g .t) index left ⌝ }
 {
     let t = g.t;
     if (t.nodes.count as usize) <= index {
@@ -65,11 +54,7 @@ pub fn node_at(
     if left == 0 {
         return SegmentAt::Refused(Refusal::TooDeep);
     }
-    if g.whole {
-        let table = t.table;
-        return ends_in(nodes, planes, table.is_render(), index, p, q);
-    }
-    node_any(s, t, index, point_of(p), point_of(q))
+    node_any(s, t, index, p, q)
 }
 
 // The word of a node's child on a point's side of its plane, by the point's distance, from any table, record by record.

@@ -16,6 +16,9 @@ use crate::state::LineTrace;
 use crate::state::Stretch;
 use crate::state::crossing;
 use crate::state::plane_from;
+use crate::through::Came;
+use crate::through::Stand;
+use crate::through::follow;
 use format::contents::BspLeafContents;
 use format::refusal::Refusal;
 use format::section::BspData;
@@ -60,26 +63,15 @@ enum Far {
 }
 
 // Down from a node, with so many calls left, its own included, as long as the part lies on one side of each plane.
-fn descend(
-    s: &[u8],
-    nodes: &[u8],
-    planes: &[u8],
-    g: Ground,
-    top: usize,
-    calls: u32,
-    part: Stretch,
-) -> Descent
-    requires { ⌜ Private.Lent (now s) (now nodes) (now planes) g ⌝ }
+fn descend(s: &[u8], g: Ground, top: usize, calls: u32, part: Stretch) -> Descent
     ensures { λ r. ⌜ Private.Comes (now (s .entry)) (g .t) top calls part r ⌝ }
 {
     let start = part.start;
     let end = part.end;
-    let p = [start.x, start.y, start.z];
-    let q = [end.x, end.y, end.z];
     let mut node = top;
     let mut left = calls;
     loop {
-        match node_at(s, nodes, planes, g, node, left, &p, &q) {
+        match node_at(s, g, node, left, start, end) {
             SegmentAt::Refused(e) => return Descent::Refused(e),
             SegmentAt::Dists(w, a, b) => {
                 left -= 1;
@@ -243,7 +235,7 @@ fn line_from(
     let mut part = all;
     let mut line = before;
     loop {
-        match descend(s, nodes, planes, g, node, left, part) {
+        match descend(s, g, node, left, part) {
             Descent::Refused(e) => return Going::Refused(e),
             Descent::Leaf(c) => return Going::On(line.into_leaf(c)),
             Descent::Crossing(w, a, b, below) => {
@@ -266,6 +258,60 @@ fn line_from(
     }
 }
 
+// What a whole line is where `follow` says nothing: record by record.
+fn line_any(s: &[u8], nodes: &[u8], planes: &[u8], g: Ground, start: Vector3, end: Vector3) -> Going
+    requires { ⌜ Private.Lent (now s) (now nodes) (now planes) g ⌝ }
+    ensures { λ r. ⌜ Private.wentOf r ≡ Private.allWent (now (s .entry)) g start end ⌝ }
+{
+    let part = Stretch {
+        from: 0.0,
+        to: 1.0,
+        start,
+        end,
+    };
+    line_from(
+        s,
+        nodes,
+        planes,
+        g,
+        g.root,
+        512,
+        part,
+        LineTrace::unset(end),
+    )
+}
+
+// The whole line: in one loop where the tables are whole.
+fn line_all(s: &[u8], nodes: &[u8], planes: &[u8], g: Ground, start: Vector3, end: Vector3) -> Going
+    requires { ⌜ Private.Lent (now s) (now nodes) (now planes) g ⌝ }
+    ensures { λ r. ⌜ Private.wentOf r ≡ Private.allWent (now (s .entry)) g start end ⌝ }
+{
+    if g.whole {
+        if g.root < 32768 {
+            let first = Stand {
+                word: g.root as u16,
+                left: 512,
+                part: Stretch {
+                    from: 0.0,
+                    to: 1.0,
+                    start,
+                    end,
+                },
+            };
+            match follow(s, nodes, planes, g, first, LineTrace::unset(end)) {
+                Came::Nothing => {}
+                Came::Through(line) => return Going::On(line),
+                Came::Blocked(x, line) => {
+                    let w = x.w;
+                    let part = x.part;
+                    return blocked(s, nodes, planes, g, w, x.a >= 0.0, part, x.k, line);
+                }
+            }
+        }
+    }
+    line_any(s, nodes, planes, g, start, end)
+}
+
 // The whole-line trace from start to end through a hull.
 pub fn trace_line(
     s: &[u8],
@@ -283,13 +329,7 @@ pub fn trace_line(
     let planes = plane_bytes(s, t, whole);
     let root = hull.node_id;
     let g = Ground { t, whole, root };
-    let part = Stretch {
-        from: 0.0,
-        to: 1.0,
-        start,
-        end,
-    };
-    match line_from(s, nodes, planes, g, root, 512, part, LineTrace::unset(end)) {
+    match line_all(s, nodes, planes, g, start, end) {
         Going::On(line) => LineAnswer::Line(line),
         Going::Stopped(line) => LineAnswer::Line(line),
         Going::Refused(e) => LineAnswer::Refused(e),

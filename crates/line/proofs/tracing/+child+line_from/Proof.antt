@@ -132,7 +132,7 @@ line-from-loop-holds : (t : ℕ) → line-from-lts.Need-loop-holds (called-line-
 line-from-loop-holds t c = (search needs, refl)
 
 line-from-descend-requires : (t : ℕ) → line-from-lts.Need-descend-requires (called-line-from t) (line-from-at t) line-from.Post line-from-Inv-loop line-from-μ-loop
-line-from-descend-requires t c κs = c .before .before .before .before .pre .1
+line-from-descend-requires t c κs = tt
 
 line-from-enum-known-e : (t : ℕ) → line-from-lts.Need-enum-known-e (called-line-from t) (line-from-at t) line-from.Post line-from-Inv-loop line-from-μ-loop
 line-from-enum-known-e t c = search needs

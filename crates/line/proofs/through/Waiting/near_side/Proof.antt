@@ -1,0 +1,16 @@
+-- `line::through::Waiting::near_side` meets its contract. Assumes nothing.
+use borrow.Author.Needs.{needs}
+use Rattle.line.proofs.through.Waiting.near_side.Statement.{statement}
+use Rattle.line.proofs.through.Waiting.near_side.Tie as tie
+
+on-requires : tie.Need-on-requires
+on-requires c κs = search needs
+
+near-part-requires : tie.Need-near-part-requires
+near-part-requires c κs = search needs
+
+returns : tie.Need-returns
+returns c = simp (c .before .on .ensures, c .near-part .ensures)
+
+pub near-side-spec : {M : Type 1} → statement M
+near-side-spec = tie.close (tie.spec on-requires near-part-requires returns)

@@ -1,0 +1,212 @@
+// The whole-line trace where the file has all nodes and planes, in one loop: the planes whose far side waits for the near one are a list. The
+// point that is looked for beyond a plane is where the far part starts, so the first end that the far part comes to is what the look finds, and
+// no look is taken before it. Nothing is said where a record or a leaf is refused, no call is left or the list is full.
+ghost use mathlib.Core.Path.{_≡_};
+ghost use mathlib.Core.Bool.{true, _&&_};
+ghost use Prim.Native.Nat.{_≤_};
+ghost use Rattle.format.specs.Contents as Contents;
+ghost use Rattle.format.specs.declared.contents.BspLeafContents.the-variants.{Solid};
+ghost use Rattle.line.specs.Private as Private;
+use crate::contents::Ground;
+use crate::state::LineTrace;
+use crate::state::Stretch;
+use crate::state::crossing;
+use format::contents::BspLeafContents;
+use math::Vector3;
+use nodes::lines::ends_in;
+use nodes::read::EndContents;
+use nodes::read::Words;
+use nodes::read::end_contents;
+use nodes::segment::SegmentAt;
+
+// A plane that a part crosses at k, whose far side waits: the node's words, the calls left below it, the distance of the part's start.
+pub struct Waiting {
+    pub w: Words,
+    pub left: u32,
+    pub a: f32,
+    pub k: f32,
+    pub part: Stretch,
+}
+
+// Where the line stands: at a child, by its word, with the calls left and a part.
+pub struct Stand {
+    pub word: u16,
+    pub left: u32,
+    pub part: Stretch,
+}
+
+// Where the line comes to: it goes through; or it is blocked at a plane, with what is set before it; or nothing is said.
+pub enum Came {
+    Through(LineTrace),
+    Blocked(Waiting, LineTrace),
+    Nothing,
+}
+
+// Where a part's way down comes to: the word of an end; or a plane that it crosses, with the node's words, the distances of its ends and the
+// calls left below it; or nothing is said.
+enum Reached {
+    End(u16),
+    Crossing(Words, f32, f32, u32),
+    Nothing,
+}
+
+// Down from a node, with so many calls left, its own included, as long as the part lies on one side of each plane.
+fn down(
+    s: &[u8],
+    nodes: &[u8],
+    planes: &[u8],
+    g: Ground,
+    top: usize,
+    calls: u32,
+    part: Stretch,
+) -> Reached
+    requires { ⌜ Private.Lent (now s) (now nodes) (now planes) g × (g .whole ≡ true) ⌝ }
+    ensures { λ r. ⌜ Private.Reaches (now (s .entry)) (g .t) top calls part r ⌝ }
+{
+    let start = part.start;
+    let end = part.end;
+    let p = [start.x, start.y, start.z];
+    let q = [end.x, end.y, end.z];
+    let t = g.t;
+    let table = t.table;
+    let render = table.is_render();
+    let mut node = top;
+    let mut left = calls;
+    loop {
+        if left == 0 {
+            return Reached::Nothing;
+        }
+        match ends_in(nodes, planes, render, node, &p, &q) {
+            SegmentAt::Refused(_) => return Reached::Nothing,
+            SegmentAt::Dists(w, a, b) => {
+                left -= 1;
+                let front = a >= 0.0;
+                if front != (b >= 0.0) {
+                    return Reached::Crossing(w, a, b, left);
+                }
+                let word = w.on(front);
+                if 32768 <= word {
+                    return Reached::End(word);
+                }
+                node = word as usize;
+            }
+        }
+    }
+}
+
+fn no_plane() -> Waiting {
+    let zero = Vector3::new(0.0, 0.0, 0.0);
+    Waiting {
+        w: Words { plane: 0, both: 0 },
+        left: 0,
+        a: 0.0,
+        k: 0.0,
+        part: Stretch {
+            from: 0.0,
+            to: 0.0,
+            start: zero,
+            end: zero,
+        },
+    }
+}
+
+impl Waiting {
+    // Before the plane.
+    fn near_side(self) -> Stand
+        ensures { λ r. ⌜ r ≡ Private.nearSide self ⌝ }
+    {
+        let w = self.w;
+        let part = self.part;
+        Stand {
+            word: w.on(self.a >= 0.0),
+            left: self.left,
+            part: part.near_part(self.k),
+        }
+    }
+
+    // Beyond it.
+    fn far_side(self) -> Stand
+        ensures { λ r. ⌜ r ≡ Private.farSide self ⌝ }
+    {
+        let w = self.w;
+        let part = self.part;
+        Stand {
+            word: w.on(!(self.a >= 0.0)),
+            left: self.left,
+            part: part.far_part(self.k),
+        }
+    }
+}
+
+// Whether the first end beyond a plane is solid.
+fn is_blocked(looked: bool, contents: BspLeafContents) -> bool
+    ensures { λ r. ⌜ r ≡ looked && Contents.equal contents Solid ⌝ }
+{
+    if looked {
+        return contents.equals(BspLeafContents::Solid);
+    }
+    false
+}
+
+// The line from where it stands, with what is set before. A tree of 32,767 nodes has fewer ends and planes than there are turns.
+pub fn follow(
+    s: &[u8],
+    nodes: &[u8],
+    planes: &[u8],
+    g: Ground,
+    first: Stand,
+    before: LineTrace,
+) -> Came
+    requires { ⌜ Private.Lent (now s) (now nodes) (now planes) g × (g .whole ≡ true) × (first .left ≤ 512) ⌝ }
+    ensures { λ r. ⌜ Private.Arrives (now (s .entry)) g first before r ⌝ }
+{
+    let mut stack = [no_plane(); 12];
+    let mut n: usize = 12;
+    let mut at = first;
+    let mut line = before;
+    let mut x = no_plane();
+    let mut looked = false;
+    let mut turns: u32 = 131072;
+    while 0 < turns {
+        turns -= 1;
+        if at.word < 32768 {
+            let part = at.part;
+            match down(s, nodes, planes, g, at.word as usize, at.left, part) {
+                Reached::Nothing => return Came::Nothing,
+                Reached::End(word) => at.word = word,
+                Reached::Crossing(w, a, b, left) => {
+                    if n == 0 {
+                        return Came::Nothing;
+                    }
+                    n -= 1;
+                    let k = crossing(a, b);
+                    let plane = Waiting {
+                        w,
+                        left,
+                        a,
+                        k,
+                        part,
+                    };
+                    stack[n] = plane;
+                    at = plane.near_side();
+                }
+            }
+        } else {
+            let EndContents::Contents(c) = end_contents(s, g.t, at.word) else {
+                return Came::Nothing;
+            };
+            if is_blocked(looked, c) {
+                return Came::Blocked(x, line);
+            }
+            line = line.into_leaf(c);
+            if 12 <= n {
+                return Came::Through(line);
+            }
+            x = stack[n];
+            n += 1;
+            looked = true;
+            at = x.far_side();
+        }
+    }
+    Came::Nothing
+}
