@@ -26,7 +26,7 @@ use Rattle.math.specs.declared.plane.HyperplaneSide.{HyperplaneSide}
 use Rattle.walk.specs.Table.{Child, node, end, Node, Table, childOn}
 use Rattle.walk.specs.Walk.{Entered, enter, meet, withNode}
 use Rattle.nodes.specs.Tables.{End, isBox}
-use Rattle.nodes.specs.Fast.{childOf, endOf, nodeOf, wordOn, planeIn, placeIn, nodeIn, nodeAt, nodeSize, isRender, renderNodeHere, clipNodeHere, contentsMet, endAnswer}
+use Rattle.nodes.specs.Fast.{childOf, endOf, nodeOf, wordOn, planeIn, placeIn, nodeIn, nodeAt, nodeSize, isRender, renderNodeHere, clipNodeHere, contentsMet}
 use Rattle.nodes.specs.Fast as Fast
 use Rattle.nodes.specs.Walks.{Read, MadeOf, madeFrom, childByDistance, nodeAndDists, segmentAnswer, areWhole, isWhole}
 use Rattle.nodes.specs.declared.table.HullTable.{HullTable}
@@ -34,13 +34,11 @@ use Rattle.nodes.specs.declared.table.HullTable.the-variants.{Render, Clip, Box
 use Rattle.nodes.specs.declared.table.Part.{Part}
 use Rattle.nodes.specs.declared.table.Tables.{Tables}
 use Rattle.nodes.specs.declared.read.Words.{Words as WordsT}
-use Rattle.nodes.specs.declared.read.EndContents.{EndContents}
-use Rattle.nodes.specs.declared.read.EndContents.the-variants as E
 use Rattle.nodes.specs.declared.segment.SegmentAt.{SegmentAt}
 use Rattle.nodes.specs.declared.segment.SegmentAt.the-variants as G
 use Rattle.nodes.proofs.Entering.{child-is, child-end}
 use Rattle.line.specs.Line.{Went, onward, stopped, refused, stretch, unset, nearPart, farPart, pointAt, crossing, into, tenth, contentsOn, contentsAt, contentsFrom, backedOff, backOff, intoLeaf, onChild, blocked, beyond, past, lineFrom}
-use Rattle.line.specs.Private.{Crossed, Reaches, Resumes, Blocks, Follows, wordWent, wordLook, pastWaiting, nearSide, farSide, standWent, Arrives, allWent}
+use Rattle.line.specs.Private.{Crossed, Reaches, Resumes, Blocks, Follows, wordWent, wordLook, pastWaiting, nearSide, farSide, standWent, Turned, Arrives, allWent}
 use Rattle.line.specs.declared.contents.Ground.{Ground}
 use Rattle.line.specs.declared.state.Stretch.{Stretch}
 use Rattle.line.specs.declared.state.LineTrace.{LineTrace}
@@ -48,6 +46,8 @@ use Rattle.line.specs.declared.through.Waiting.{Waiting}
 use Rattle.line.specs.declared.through.Stand.{Stand}
 use Rattle.line.specs.declared.through.Reached.{Reached}
 use Rattle.line.specs.declared.through.Reached.the-variants as N
+use Rattle.line.specs.declared.through.Turn.{Turn}
+use Rattle.line.specs.declared.through.Turn.the-variants as U
 use Rattle.line.specs.declared.through.Came.{Came}
 use Rattle.line.specs.declared.through.Came.the-variants as C
 use Rattle.line.proofs.States.{pick-true, pick-false}
@@ -232,10 +232,10 @@ module _ (f : List ℕ) (t : Tables) (root : ℕ) where
 
   module _ (xs : List Waiting) (left : ℕ) (s : Stretch) (word : ℕ) (l : LineTrace) (x : Waiting) (looked : Bool) (all : Went) (F : Follows f t root xs left s word l x looked all) where
     -- an end
-    module _ (far : 32768 ≤ word) (e : EndContents) (is-e : endAnswer e ≡ contentsMet f t word) (c : BspLeafContents) (q : e ≡ E.Contents c) where
+    module _ (far : 32768 ≤ word) (c : BspLeafContents) (is-c : answer c ≡ contentsMet f t word) where
       met : meet T (endOf (t .table) word) ≡ answer c
       unfolding contentsMet
-      met = sym is-e ∙ ap endAnswer q
+      met = sym is-c
 
       found : wordLook f t left word (s .start) ≡ answer c
       found = ap (contentsOn T (λ n. contentsFrom T left n (s .start))) (word-end (t .table) word far) ∙ met
@@ -304,17 +304,23 @@ module _ (f : List ℕ) (t : Tables) (i k : ℕ) (s : Stretch) (r : Reached) (is
   pub at-plane : (w : WordsT) (a b : Float) (left : ℕ) → r ≡ N.Crossing w a b left → Reaches f t i k s (N.Crossing w a b left)
   at-plane w a b left e = subst (Reaches f t i k s) e is-r
 
+-- what a turn comes to
+pub turned : (f : List ℕ) (t : Tables) (at : Stand) (l : LineTrace) (looked : Bool) (r : Turn) → Turned f t at l looked r → (u : Turn) → r ≡ u → Turned f t at l looked u
+turned f t at l looked r is-r u e = subst (Turned f t at l looked) e is-r
+
+abbrev moved : Waiting → Stretch → Waiting
+moved y p = record { w = y .w; left = y .left; a = y .a; k = y .k; part = p }
+
 module _ (f : List ℕ) (t : Tables) (root : ℕ) (stack : List Waiting) (n : ℕ) (l : LineTrace) (all : Went) where
   -- a plane is put before the others, and the line goes on before it
-  pub push : (at : Stand) (x : Waiting) (looked : Bool) → Follows f t root (drop n stack) (at .left) (at .part) (at .word) l x looked all → at .word < 32768 → at .left ≤ 512
-      → 0 < n → n ≤ length stack → (w : WordsT) (a b : Float) (left : ℕ) → Reaches f t (at .word) (at .left) (at .part) (N.Crossing w a b left) → (k : Float) → k ≡ crossing a b
-      → (next : Stand) → next ≡ nearSide (record { w = w; left = left; a = a; k = k; part = at .part })
-      → (next .left ≤ 512) × Follows f t root (drop (n - 1) (set stack (n - 1) (record { w = w; left = left; a = a; k = k; part = at .part }))) (next .left) (next .part) (next .word) l x looked all
-  push at x looked F near most more room w a b left N k is-k next is-next =
+  pub push : (at : Stand) (x : Waiting) (looked : Bool) → Follows f t root (drop n stack) (at .left) (at .part) (at .word) l x looked all → at .left ≤ 512 → 0 < n → n ≤ length stack
+      → (y : Waiting) → Turned f t at l looked (U.Crossing y) → (next : Stand) → next ≡ nearSide y
+      → (next .left ≤ 512) × Follows f t root (drop (n - 1) (set stack (n - 1) y)) (next .left) (next .part) (next .word) l x looked all
+  push at x looked F most more room y Y next is-next =
       rw is-next (
-        omega (arith, N .0 .falls, most),
-        subst (λ (xs : List Waiting). Follows f t root xs left (nearPart (at .part) k) (wordOn w (Ieee.le zero32 a)) l x looked all) (sym (pushed stack n _ more room))
-            (reach-plane f t root (drop n stack) (at .left) (at .part) (at .word) l x looked all F near most w a b left N k is-k _ refl _ refl _ refl),
+        omega (arith, Y .2 .1 .1 .0 .falls, most),
+        subst (λ (xs : List Waiting). Follows f t root xs (y .left) (nearPart (y .part) (y .k)) (wordOn (y .w) (Ieee.le zero32 (y .a))) l x looked all) (sym (pushed stack n y more room))
+            (reach-plane f t root (drop n stack) (at .left) (at .part) (at .word) l x looked all F (Y .0) most (y .w) (y .a) (Y .2 .0) (y .left) (Y .2 .1 .1) (y .k) (Y .2 .1 .0) y (ap (moved y) (Y .1)) _ (ap (λ (p : Stretch). nearPart p (y .k)) (Y .1)) _ refl),
       )
 
   -- the first is taken, and the line goes on beyond it

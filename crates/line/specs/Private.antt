@@ -1,6 +1,6 @@
 -- For the contracts of functions that no other crate can name; a reader of the calls may leave this file out.
 -- What the parts of the whole-line trace answer, in the terms of Line.antt.
-use Prim.Native.Nat.{ℕ, suc, _≤_}
+use Prim.Native.Nat.{ℕ, suc, _<_, _≤_}
 use mathlib.Core.Path.{_≡_}
 use mathlib.Core.Bool.{cond, true, false, Bool, not, _&&_}
 use mathlib.Core.List.{List, [], _∷_}
@@ -24,7 +24,7 @@ use Rattle.nodes.specs.Walks.{madeFrom, Read}
 use Rattle.nodes.specs.Fast as Fast
 use Rattle.nodes.specs.declared.table.Tables.{Tables}
 use Rattle.nodes.specs.declared.read.Words.{Words}
-use Rattle.line.specs.Line.{Went, onward, stopped, refused, stretch, unset, lineFrom, across, into, intoLeaf, contentsOn, contentsFrom, contentsBelow, onChild, pointAt, nearPart, farPart, beyond, blocked, past}
+use Rattle.line.specs.Line.{Went, onward, stopped, refused, stretch, unset, lineFrom, across, into, intoLeaf, contentsOn, contentsFrom, contentsBelow, onChild, pointAt, crossing, nearPart, farPart, beyond, blocked, past}
 use Rattle.line.specs.declared.tracing.Going.{Going}
 use Rattle.line.specs.declared.tracing.Going.the-variants as G
 use Rattle.line.specs.declared.contents.Ground.{Ground}
@@ -38,6 +38,8 @@ use Rattle.line.specs.declared.through.Waiting.{Waiting}
 use Rattle.line.specs.declared.through.Stand.{Stand}
 use Rattle.line.specs.declared.through.Reached.{Reached}
 use Rattle.line.specs.declared.through.Reached.the-variants as N
+use Rattle.line.specs.declared.through.Turn.{Turn}
+use Rattle.line.specs.declared.through.Turn.the-variants as U
 use Rattle.line.specs.declared.through.Came.{Came}
 use Rattle.line.specs.declared.through.Came.the-variants as C
 
@@ -148,6 +150,20 @@ nearSide x = record { word = Fast.wordOn (x .w) (Ieee.le zero32 (x .a)); left = 
 
 abbrev pub farSide : Waiting → Stand
 farSide x = record { word = Fast.wordOn (x .w) (not (Ieee.le zero32 (x .a))); left = x .left; part = farPart (x .part) (x .k) }
+
+-- one turn of the line: on to an end, to a plane that it crosses, into a leaf, or it is blocked
+abbrev pub Turned : List ℕ → Tables → Stand → LineTrace → Bool → Turn → Type 0
+Turned f t at l looked (U.End w) = (at .word < 32768) × Reaches f t (at .word) (at .left) (at .part) (N.End w)
+Turned f t at l looked (U.Crossing y) =
+    (at .word < 32768)
+    × (y .part ≡ at .part)
+    × ((b : Float) × ((y .k ≡ crossing (y .a) b) × Reaches f t (at .word) (at .left) (at .part) (N.Crossing (y .w) (y .a) b (y .left))))
+Turned f t at l looked (U.Into m) =
+    (32768 ≤ at .word)
+    × ((c : BspLeafContents) × ((answer c ≡ Fast.contentsMet f t (at .word)) × (looked && Contents.equal c Solid ≡ false) × (m ≡ into c l)))
+Turned f t at l looked U.Blocked =
+    (32768 ≤ at .word) × ((c : BspLeafContents) × ((answer c ≡ Fast.contentsMet f t (at .word)) × (looked && Contents.equal c Solid ≡ true)))
+Turned f t at l looked U.Nothing = Unit {0}
 
 -- what becomes of the line from where it stands, and where it comes to
 abbrev pub standWent : List ℕ → Ground → Stand → LineTrace → Went

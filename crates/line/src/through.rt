@@ -50,6 +50,16 @@ enum Reached {
     Nothing,
 }
 
+// What one turn of the line comes to: an end, by its word; a plane that waits, before which the line goes on; a leaf, with what is set in it;
+// or the line is blocked; or nothing is said.
+enum Turn {
+    End(u16),
+    Crossing(Waiting),
+    Into(LineTrace),
+    Blocked,
+    Nothing,
+}
+
 // Down from a node, with so many calls left, its own included, as long as the part lies on one side of each plane.
 fn down(
     s: &[u8],
@@ -148,64 +158,83 @@ fn is_blocked(looked: bool, contents: BspLeafContents) -> bool
     false
 }
 
-// The line from where it stands, with what is set before. A tree of 32,767 nodes has fewer ends and planes than there are turns.
-pub fn follow(
+// One turn of the line from where it stands, with what is set so far; `looked`: the first end is what the look beyond a plane finds.
+fn one_turn(
     s: &[u8],
     nodes: &[u8],
     planes: &[u8],
     g: Ground,
-    first: Stand,
-    before: LineTrace,
-) -> Came
+    at: Stand,
+    line: LineTrace,
+    looked: bool,
+) -> Turn
+    requires { ⌜ Private.Lent (now s) (now nodes) (now planes) g × (g .whole ≡ true) ⌝ }
+    ensures { λ r. ⌜ Private.Turned (now (s .entry)) (g .t) at line looked r ⌝ }
+{
+    let part = at.part;
+    if at.word < 32768 {
+        return match down(s, nodes, planes, g, at.word as usize, at.left, part) {
+            Reached::Nothing => Turn::Nothing,
+            Reached::End(word) => Turn::End(word),
+            Reached::Crossing(w, a, b, left) => {
+                let k = crossing(a, b);
+                Turn::Crossing(Waiting {
+                    w,
+                    left,
+                    a,
+                    k,
+                    part,
+                })
+            }
+        };
+    }
+    match end_contents(s, g.t, at.word) {
+        EndContents::Refused(_) => Turn::Nothing,
+        EndContents::Contents(c) => {
+            if is_blocked(looked, c) {
+                return Turn::Blocked;
+            }
+            Turn::Into(line.into_leaf(c))
+        }
+    }
+}
+
+// The line from where it stands, with what is set before. A tree of 32,767 nodes has fewer ends and planes than there are turns.
+pub fn follow(s: &[u8], nodes: &[u8], planes: &[u8], g: Ground, first: Stand, l: LineTrace) -> Came
     requires { ⌜ Private.Lent (now s) (now nodes) (now planes) g × (g .whole ≡ true) × (first .left ≤ 512) ⌝ }
-    ensures { λ r. ⌜ Private.Arrives (now (s .entry)) g first before r ⌝ }
+    ensures { λ r. ⌜ Private.Arrives (now (s .entry)) g first l r ⌝ }
 {
     let mut stack = [no_plane(); 12];
     let mut n: usize = 12;
     let mut at = first;
-    let mut line = before;
+    let mut line = l;
     let mut x = no_plane();
     let mut looked = false;
     let mut turns: u32 = 131072;
     while 0 < turns {
         turns -= 1;
-        if at.word < 32768 {
-            let part = at.part;
-            match down(s, nodes, planes, g, at.word as usize, at.left, part) {
-                Reached::Nothing => return Came::Nothing,
-                Reached::End(word) => at.word = word,
-                Reached::Crossing(w, a, b, left) => {
-                    if n == 0 {
-                        return Came::Nothing;
-                    }
-                    n -= 1;
-                    let k = crossing(a, b);
-                    let plane = Waiting {
-                        w,
-                        left,
-                        a,
-                        k,
-                        part,
-                    };
-                    stack[n] = plane;
-                    at = plane.near_side();
+        match one_turn(s, nodes, planes, g, at, line, looked) {
+            Turn::Nothing => return Came::Nothing,
+            Turn::Blocked => return Came::Blocked(x, line),
+            Turn::End(word) => at.word = word,
+            Turn::Crossing(plane) => {
+                if n == 0 {
+                    return Came::Nothing;
                 }
+                n -= 1;
+                stack[n] = plane;
+                at = plane.near_side();
             }
-        } else {
-            let EndContents::Contents(c) = end_contents(s, g.t, at.word) else {
-                return Came::Nothing;
-            };
-            if is_blocked(looked, c) {
-                return Came::Blocked(x, line);
+            Turn::Into(so_far) => {
+                line = so_far;
+                if 12 <= n {
+                    return Came::Through(line);
+                }
+                x = stack[n];
+                n += 1;
+                looked = true;
+                at = x.far_side();
             }
-            line = line.into_leaf(c);
-            if 12 <= n {
-                return Came::Through(line);
-            }
-            x = stack[n];
-            n += 1;
-            looked = true;
-            at = x.far_side();
         }
     }
     Came::Nothing
