@@ -6,20 +6,31 @@ use mathlib.Core.Bool.{Bool, true, false, cond, not, _||_, _&&_}
 use mathlib.Core.List.{List}
 use native.Mathlib.Omega.{arith}
 use lib.Ieee.{Float}
-use Rattle.format.specs.Answer.{answer}
+use Rattle.format.specs.Answer.{Answer, answer}
+use Rattle.format.specs.Refusal.{numberOf}
+use Rattle.format.specs.declared.refusal.Refusal.{Refusal}
 use Rattle.format.specs.Contents as Contents
 use Rattle.format.specs.declared.contents.BspLeafContents.the-variants.{Solid}
+use Rattle.format.specs.declared.contents.BspLeafContents.{BspLeafContents}
+use Rattle.math.specs.Plane as Pl
 use Rattle.math.specs.Vector as Vec
 use Rattle.math.specs.declared.vector.Vector3.{Vector3}
 use Rattle.math.specs.declared.plane.Hyperplane.{Hyperplane}
 use Rattle.phys.specs.Trace as Tr
 use Rattle.phys.specs.declared.Trace.{Trace as TraceT}
 use Rattle.phys.specs.declared.TraceStart.{TraceStart}
+use Rattle.walk.specs.Table.{Node, Table}
 use Rattle.walk.specs.Walk.{Outcome}
 use Rattle.walk.specs.Private.{after}
+use Rattle.walk.specs.Tracing.{recursiveTrace}
 use Rattle.walk.proofs.Steps.{after-done}
 use Rattle.nodes.specs.declared.table.Tables.{Tables}
-use Rattle.hull.specs.Traces.{planeMet, wentTrace, wayAnswer, endsWith, carriedTo, countedAs, joinWay, stopsAt, joinedWith, joinFar}
+use Rattle.nodes.specs.Tables.{End}
+use Rattle.nodes.specs.Fast as Fast
+use Rattle.nodes.specs.Fast.{nodeOf, planeIn}
+use Rattle.nodes.specs.declared.read.Words.{Words as WordsT}
+use Rattle.hull.proofs.Crossings.{nearPart, farPart, near-declined, near-stops, both}
+use Rattle.hull.specs.Traces.{atStart, outOfLeaf, leftBy, planeMet, wentTrace, wayAnswer, endsWith, carriedTo, countedAs, joinWay, stopsAt, joinedWith, joinFar, crossedAt}
 use Rattle.hull.specs.declared.tracing.Went.{Went}
 use Rattle.hull.specs.declared.tracing.Way.{Way}
 use Rattle.hull.specs.declared.tracing.Way.the-variants as Y
@@ -27,6 +38,19 @@ use Rattle.hull.specs.declared.tracing.Way.the-variants as Y
 -- visits that are answered are below 2^64
 pub visits-small : (n : ℕ) (o : Outcome TraceT) (y : TraceT) (v : ℕ) → after n o ≡ answer (y, v) → v < 2 ^ 64
 visits-small n o y v e = let d = after-done n o y v e in omega (arith, d .2)
+
+-- out of a leaf through a plane, and all in one leaf
+module _ (f : List ℕ) (t : Tables) (s e : Vector3) (k : Float) (c : BspLeafContents) (v : ℕ) where
+  pub left-is : (i : ℕ) (front : Bool) (h : Hyperplane) → planeIn f t i ≡ answer h → Pl.sideIf front ≡ Pl.pointSide h s
+      → wayAnswer f t (atStart s) (Y.Went (leftBy e k i front c v)) ≡ answer (outOfLeaf s e k (Pl.facing (Pl.pointSide h s) h) c, v)
+  left-is i front h p q = rw (p, q)
+
+-- what is said of two points is said of the same points
+pub moved : (f : List ℕ) (t : Tables) (k i v : ℕ) (r : Way) {s s′ e e′ : Vector3} → s ≡ s′ → e ≡ e′
+    → wayAnswer f t (atStart s) r ≡ after v (recursiveTrace (Fast.table f t) k i s e) → wayAnswer f t (atStart s′) r ≡ after v (recursiveTrace (Fast.table f t) k i s′ e′)
+moved f t k i v r {s} {s′} {e} {e′} p q h =
+    sym (ap (λ (x : Vector3). wayAnswer f t (atStart x) r) p) ∙ h
+    ∙ ap (λ (x : Vector3). after v (recursiveTrace (Fast.table f t) k i x e)) p ∙ ap (λ (x : Vector3). after v (recursiveTrace (Fast.table f t) k i s′ x)) q
 
 by-end : (b : Bool) (e m : Vector3) (k : Float) (h : Hyperplane)
     → cond b (not (Vec.same e m)) true
@@ -71,3 +95,42 @@ module _ (f : List ℕ) (t : Tables) (st : TraceStart) (g : Went) (m : Vector3) 
         ap answer (chosen u (Contents.equal (g .contents) (u .contents)) (Contents.equal (g .contents) Solid && not (Contents.equal (u .contents) Solid)))
         ∙ sym (ap (joinedWith (u .visits)) (met u))
     joins-way (Y.Refused e) = refl
+
+-- ---- a crossing's two parts, each a trace by numbers alone
+
+module _ (f : List ℕ) (t : Tables) (w : WordsT) (s e : Vector3) (a b : Float) (k : ℕ) (h : Hyperplane) where
+  abbrev table : Table End BspLeafContents
+  table = Fast.table f t
+
+  abbrev nd : Node End
+  nd = nodeOf (t .table) w
+
+  abbrev pub nearIn : Outcome TraceT
+  nearIn = nearPart table nd s e a b k h
+
+  abbrev pub farIn : Outcome TraceT
+  farIn = farPart table nd s e a b k h
+
+  module _ (n : ℕ) (all : Answer (TraceT × ℕ)) (says : after n (crossedAt table k nd s e a b (planeIn f t (w .plane))) ≡ all) (q : planeIn f t (w .plane) ≡ answer h) (near : Way) (near-is : wayAnswer f t (atStart s) near ≡ after n nearIn) where
+    pub way-declined : (z : Refusal) → near ≡ Y.Refused z → wayAnswer f t (atStart s) near ≡ all
+    way-declined z is-z =
+        ap (wayAnswer f t (atStart s)) is-z
+        ∙ near-declined table nd s e a b k h n all (planeIn f t (w .plane)) says q (wayAnswer f t (atStart s) near) near-is (numberOf z) (ap (wayAnswer f t (atStart s)) is-z)
+
+    module _ (g : Went) (is-g : near ≡ Y.Went g) (mid : Vector3) (is-mid : mid ≡ Pl.crossing h s e a b (Pl.fromDist a) .point) (st : Bool) (is-st : st ≡ endsWith g mid) where
+      abbrev is-near : wayAnswer f t (atStart s) near ≡ answer (wentTrace f t (atStart s) g, g .visits)
+      is-near = ap (wayAnswer f t (atStart s)) is-g
+
+      pub way-small : g .visits < 2 ^ 64
+      way-small = visits-small n nearIn (wentTrace f t (atStart s) g) (g .visits) (sym near-is ∙ is-near)
+
+      pub way-stops : st ≡ true → (r : Way) → r ≡ Y.Went g → wayAnswer f t (atStart s) r ≡ all
+      way-stops z r is-r =
+          ap (wayAnswer f t (atStart s)) is-r
+          ∙ near-stops table nd s e a b k h n all (planeIn f t (w .plane)) says q (wayAnswer f t (atStart s) near) near-is (wentTrace f t (atStart s) g) (g .visits) is-near mid is-mid st (is-st ∙ ends-stops f t (atStart s) g mid) z
+
+      pub way-both : st ≡ false → (far : Way) (c : Float) → wayAnswer f t (Tr.start mid c) far ≡ after (g .visits) farIn → (r : Way) → r ≡ joinWay g far → wayAnswer f t (atStart s) r ≡ all
+      way-both z far c far-is r is-r =
+          both table nd s e a b k h n all (planeIn f t (w .plane)) says q (wayAnswer f t (atStart s) near) near-is (wentTrace f t (atStart s) g) (g .visits) is-near mid is-mid st (is-st ∙ ends-stops f t (atStart s) g mid) z
+          (wayAnswer f t (Tr.start mid c) far) far-is (wayAnswer f t (atStart s) r)
+          (ap (wayAnswer f t (atStart s)) is-r ∙ joins-way f t (atStart s) g mid (sym is-st ∙ z) c far)

@@ -26,6 +26,7 @@ use Rattle.walk.specs.Walk.{Outcome, refused, meet}
 use Rattle.walk.specs.Private.{after}
 use Rattle.walk.specs.Tracing.{recursiveTrace, nearOf, withNear}
 use Rattle.nodes.specs.Fast as Fast
+use Rattle.nodes.specs.Owned.{Owned}
 use Rattle.nodes.specs.declared.table.Tables.{Tables}
 use Rattle.nodes.specs.declared.read.Words.{Words}
 use Rattle.hull.specs.declared.tracing.Went.{Went}
@@ -66,6 +67,11 @@ wayAnswer f t s (Y.Refused e) = Ans.refused (numberOf e)
 abbrev pub endedIn : Vector3 → BspLeafContents → ℕ → Went
 endedIn e c v =
     record { end = e; contents = c; «start_solid» = Contents.equal c Solid; met = false; plane = 0; front = false; ratio = zero32; visits = v }
+
+-- out of a leaf through the plane of the number i, on whose front it lies or not
+abbrev pub leftBy : Vector3 → Float → ℕ → Bool → BspLeafContents → ℕ → Went
+leftBy e k i front c v =
+    record { end = e; contents = c; «start_solid» = Contents.equal c Solid; met = true; plane = i; front = front; ratio = k; visits = v }
 
 -- the trace ends with its near part
 abbrev pub endsWith : Went → Vector3 → Bool
@@ -130,10 +136,10 @@ abbrev pub joinFar : TraceT → Answer (TraceT × ℕ) → Answer (TraceT × ℕ
 joinFar near (answer f) = joinedWith (f .1) (Tr.join near (f .0))
 joinFar near (Ans.refused n) = Ans.refused n
 
--- out of a leaf through the plane h, which has the number i
-abbrev pub MetAt : Vector3 → Vector3 → Float → ℕ → Hyperplane → BspLeafContents → ℕ → Way → Type 0
-MetAt s e k i h c v r =
-    (f : List ℕ) (t : Tables) → Fast.planeIn f t i ≡ answer h → wayAnswer f t (atStart s) r ≡ answer (outOfLeaf s e k (Pl.facing (Pl.pointSide h s) h) c, v)
+-- what an end says, made into a trace by `here`, with the visits
+abbrev pub endedAs : (BspLeafContents → TraceT) → ℕ → Answer BspLeafContents → Answer (TraceT × ℕ)
+endedAs here v (answer c) = answer (here c, v)
+endedAs here v (Ans.refused n) = Ans.refused n
 
 -- the trace at a crossing whose ends are at the distances a and b, with k calls left below it
 abbrev pub crossedAt : {E : Type 0} → Table E BspLeafContents → ℕ → Node E → Vector3 → Vector3 → Float → Float → Answer Hyperplane → Outcome TraceT
@@ -158,3 +164,25 @@ withOneMore (D.Refused n) = 0
 pub record Descends (f : List ℕ) (t : Tables) (s e : Vector3) (left : ℕ) (all : Answer (TraceT × ℕ)) (r : Descent) : Type 0 where
   pub says : resumed f t s e r ≡ all
   pub falls : withOneMore r ≤ left
+
+-- ---- the same by the bytes of nodes, planes and leaves: for every file and table whose own bytes they are
+
+pub record GoesDown (render : Bool) (n m l : List ℕ) (left i : ℕ) (s e : Vector3) (v : ℕ) (r : Descent) : Type 0 where
+  pub says : (f : List ℕ) (t : Tables) → Owned f t render n m l → resumed f t s e r ≡ after v (recursiveTrace (Fast.table f t) left i s e)
+  pub falls : withOneMore r ≤ left
+
+abbrev pub GoesOn : Bool → List ℕ → List ℕ → List ℕ → ℕ → ℕ → Vector3 → Vector3 → ℕ → Way → Type 0
+GoesOn render n m l left i s e v r =
+    (f : List ℕ) (t : Tables) → Owned f t render n m l → wayAnswer f t (atStart s) r ≡ after v (recursiveTrace (Fast.table f t) left i s e)
+
+-- a way down, a far part and a near part that come to an end, which says x
+abbrev pub EndsDown : ℕ → Answer BspLeafContents → Descent → Type 0
+EndsDown v x r = ((f : List ℕ) (t : Tables) (s e : Vector3) → resumed f t s e r ≡ endedAs (withinLeaf s zero32 e) v x) × (withOneMore r ≤ 0)
+
+abbrev pub EndsFar : Vector3 → ℕ → Answer BspLeafContents → Way → Type 0
+EndsFar e v x r = (f : List ℕ) (t : Tables) (s : Vector3) (k : Float) → wayAnswer f t (Tr.start s k) r ≡ endedAs (withinLeaf s k e) v x
+
+abbrev pub EndsNear : Vector3 → Float → ℕ → Bool → ℕ → Answer BspLeafContents → Way → Type 0
+EndsNear e k i front v x r =
+    (f : List ℕ) (t : Tables) (s : Vector3) (h : Hyperplane) → Fast.planeIn f t i ≡ answer h → Pl.sideIf front ≡ Pl.pointSide h s
+    → wayAnswer f t (atStart s) r ≡ endedAs (outOfLeaf s e k (Pl.facing (Pl.pointSide h s) h)) v x

@@ -2,3 +2,4 @@
 pub mod collision;
 pub mod point;
 pub mod tracing;
+mod whole;

@@ -30,7 +30,7 @@ module _ (c : BspLeafContents) (o : OptionalOffset) (s : List ℕ) (at : ℕ) (h
   first-place : at + 6 + 6 ≡ at + 12
   first-place = omega arith
 
-  rest-is : mapped leafContents (reading (leafEndAt c o s at)) ≡ answer c
+  pub rest-is : mapped leafContents (reading (leafEndAt c o s at)) ≡ answer c
   unfolding leafEndAt
   rest-is = rw (point s at (omega arith) .1, point s (at + 6) (omega arith) .1, first-place, u16-is s (at + 12) (omega arith), u16-is s (at + 12 + 2) (omega arith))
 

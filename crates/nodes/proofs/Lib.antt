@@ -18,3 +18,4 @@ pub mod Ends
 mod Handed
 pub mod Numbering
 pub mod QuickTables
+pub mod Owning

@@ -158,10 +158,10 @@ module _ (s : List ℕ) (t : Tables) (e : areWhole t (length s) ≡ true) where
   abbrev whole-nodes : (t .nodes .count ≤ t .nodes .readable) × (t .nodes .at + t .nodes .count * nodeSize render ≤ length s)
   whole-nodes = whole-is (t .nodes) (nodeSize render) (length s) (all-whole t (length s) e .1)
 
-  abbrev whole-planes : (t .planes .count ≤ t .planes .readable) × (t .planes .at + t .planes .count * 20 ≤ length s)
+  abbrev pub whole-planes : (t .planes .count ≤ t .planes .readable) × (t .planes .at + t .planes .count * 20 ≤ length s)
   whole-planes = whole-is (t .planes) 20 (length s) (all-whole t (length s) e .2)
 
-  at-place : (q : Part) (size j : ℕ) → q .count ≤ q .readable → q .at + q .count * size ≤ length s → j < q .count → placeIn q size (length s) j ≡ answer (q .at + j * size)
+  pub at-place : (q : Part) (size j : ℕ) → q .count ≤ q .readable → q .at + q .count * size ≤ length s → j < q .count → placeIn q size (length s) j ≡ answer (q .at + j * size)
   at-place q size j f g k =
       sym (inside q size (length s) j k (omega arith) (omega (arith, record-inside s q size g j k)))
 
@@ -170,7 +170,7 @@ module _ (s : List ℕ) (t : Tables) (e : areWhole t (length s) ≡ true) where
       ap (λ (x : Answer ℕ). thenAnswer x (planeRead s)) (at-place (t .planes) 20 j (whole-planes .0) (whole-planes .1) k)
       ∙ plane-is s (t .planes .at + j * 20) (omega (arith, record-inside s (t .planes) 20 (whole-planes .1) j k, whole-planes .1))
 
-  plane-of : (tab : HullTable) → isBox tab ≡ false → (j : ℕ) → j < t .planes .count → planeFor tab s t j ≡ answer (planeHere s (t .planes .at + j * 20))
+  pub plane-of : (tab : HullTable) → isBox tab ≡ false → (j : ℕ) → j < t .planes .count → planeFor tab s t j ≡ answer (planeHere s (t .planes .at + j * 20))
   plane-of Render b j k = plane-by j k
   plane-of Clip b j k = plane-by j k
   plane-of Box b j k = let z : _≡_ {A = ℕ} 0 1 = cc in absurd (omega arith)
@@ -206,19 +206,19 @@ module _ (s : List ℕ) (t : Tables) (e : areWhole t (length s) ≡ true) where
 
 -- the bytes that were taken of it
 module _ (s : List ℕ) (t : Tables) (n m : List ℕ) (b : Bool) (read : Read s t n m b) (on : b ≡ true) where
-  is-whole : areWhole t (length s) ≡ true
+  pub is-whole : areWhole t (length s) ≡ true
   is-whole = sym (read .told) ∙ on
 
   is-n : n ≡ allBytes s (t .nodes) (nodeSize (isRender (t .table)))
   is-n = read .its-nodes ∙ all-taken s (t .nodes) (nodeSize (isRender (t .table))) b (ap not on) true (sym (all-whole t (length s) is-whole .1)) refl
 
-  is-m : m ≡ allBytes s (t .planes) 20
+  pub is-m : m ≡ allBytes s (t .planes) 20
   is-m = read .its-planes ∙ all-taken s (t .planes) 20 b (ap not on) true (sym (all-whole t (length s) is-whole .2)) refl
 
   nodes-length : length n ≡ t .nodes .count * nodeSize (isRender (t .table))
   nodes-length = rw is-n (bytes-length s (t .nodes) (nodeSize (isRender (t .table))) (whole-nodes s t is-whole .1))
 
-  planes-counted : length m / 20 ≡ t .planes .count
+  pub planes-counted : length m / 20 ≡ t .planes .count
   planes-counted = rw (is-m, bytes-length s (t .planes) 20 (whole-planes s t is-whole .1)) (omega arith)
 
   by-size : (k : Bool) (c l : ℕ) → l ≡ c * nodeSize k → l / nodeSize k ≡ c

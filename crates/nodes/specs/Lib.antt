@@ -3,6 +3,7 @@ pub mod Tables
 pub mod Fast
 pub mod Walks
 pub mod Numbered
+pub mod Owned
 pub mod Lanes
 pub mod Quick
 pub mod Answers

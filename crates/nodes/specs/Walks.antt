@@ -1,5 +1,5 @@
 -- For the contracts of functions below the calls; a reader of the calls may leave this file out.
--- The walk of a point to an end (`walk_to_end`), and what a trace sees at a node (`segment_from`): both make something of a node and its
+-- The walk of a point to an end (`walk_to_end`), and what a trace sees at a node (`segment_in`, `segment_any`): both make something of a node and its
 -- plane. Then the bytes of the nodes and the planes, where the file has all of them (`are_whole`, `node_bytes`, `plane_bytes`).
 use Prim.Native.Nat.{ℕ, _+_, _*_, _/_}
 use mathlib.Core.Path.{_≡_}
@@ -127,13 +127,8 @@ abbrev pub madeIn : {X : Type 0} → (Entered End → X) → Bool → List ℕ �
 madeIn make render n m i =
     cond (ltb i (length n / nodeSize render)) (madeAt make render (n ++ m) (i * nodeSize render) (length n) (length m / 20)) (refused 20)
 
--- what `ends_in` and `look_in` answer, x, is made so; and where the bytes are those of a table that is whole, it is what the table says
+-- what `segment_in`, `ends_in` and `look_in` answer, x, is made so; and where the bytes are those of a table that is whole, it is what the table says
 abbrev pub MadeOf : {X : Type 0} → (Entered End → X) → Bool → List ℕ → List ℕ → ℕ → (HullTable → Answer X) → Type 0
 MadeOf make render n m i x =
     (x (fileTable render) ≡ madeIn make render n m i)
     × ((s : List ℕ) (t : Tables) (whole : Bool) → Read s t n m whole → whole ≡ true → render ≡ isRender (t .table) → x (t .table) ≡ madeFrom make s t i)
-
--- `segment_from`: by these bytes, or record by record
-unfoldable pub segmentFrom : List ℕ → Tables → List ℕ → List ℕ → Bool → ℕ → Vector3 → Vector3 → Answer (Node End × (Float × Float))
-segmentFrom s t n m whole i p q =
-    cond whole (madeIn (nodeAndDists p q) (isRender (t .table)) n m i) (madeFrom (nodeAndDists p q) s t i)

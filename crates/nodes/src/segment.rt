@@ -24,7 +24,7 @@ pub enum SegmentAt {
 }
 
 // A node's words, and how far two points are from its plane, from the bytes of the two sections.
-fn segment_in(
+fn segment_at(
     nodes: &[u8],
     planes: &[u8],
     render: bool,
@@ -50,8 +50,25 @@ fn segment_in(
     }
 }
 
+// The same of the node of an index, whatever the bytes are. 20: there is no such node.
+pub fn segment_in(
+    nodes: &[u8],
+    planes: &[u8],
+    render: bool,
+    index: usize,
+    p: Vector3,
+    q: Vector3,
+) -> SegmentAt
+    ensures { λ r. ⌜ Walks.MadeOf (Walks.nodeAndDists p q) render (now (nodes .entry)) (now (planes .entry)) index (λ t. Walks.segmentAnswer t r) ⌝ }
+{
+    if has_node(nodes, render, index) {
+        return segment_at(nodes, planes, render, index, p, q);
+    }
+    SegmentAt::Refused(Refusal::NoSuchRecord)
+}
+
 // The same from any table, record by record.
-fn segment_any(s: &[u8], t: Tables, index: usize, p: Vector3, q: Vector3) -> SegmentAt
+pub fn segment_any(s: &[u8], t: Tables, index: usize, p: Vector3, q: Vector3) -> SegmentAt
     ensures { λ r. ⌜ Walks.segmentAnswer (t .table) r ≡ Walks.madeFrom (Walks.nodeAndDists p q) (now (s .entry)) t index ⌝ }
 {
     match read_words(s, t, index) {
@@ -61,28 +78,4 @@ fn segment_any(s: &[u8], t: Tables, index: usize, p: Vector3, q: Vector3) -> Seg
             Dists::Two(a, b) => SegmentAt::Dists(words, a, b),
         },
     }
-}
-
-// A node's words, and how far two points are from its plane: whole tables or not, if the bytes are the tables' own.
-pub fn segment_from(
-    s: &[u8],
-    t: Tables,
-    nodes: &[u8],
-    planes: &[u8],
-    whole: bool,
-    index: usize,
-    p: Vector3,
-    q: Vector3,
-) -> SegmentAt
-    ensures { λ r. ⌜ (Walks.segmentAnswer (t .table) r ≡ Walks.segmentFrom (now (s .entry)) t (now (nodes .entry)) (now (planes .entry)) whole index p q) × (Walks.Read (now (s .entry)) t (now (nodes .entry)) (now (planes .entry)) whole → Walks.segmentAnswer (t .table) r ≡ Walks.madeFrom (Walks.nodeAndDists p q) (now (s .entry)) t index) ⌝ }
-{
-    if whole {
-        let table = t.table;
-        let render = table.is_render();
-        if has_node(nodes, render, index) {
-            return segment_in(nodes, planes, render, index, p, q);
-        }
-        return SegmentAt::Refused(Refusal::NoSuchRecord);
-    }
-    segment_any(s, t, index, p, q)
 }

@@ -18,7 +18,7 @@ pub(crate) fn node_size(render: bool) -> u8
 }
 
 // Whether all records of a part are within the limit and lie in `len` bytes.
-fn is_whole(part: Part, size: u8, len: usize) -> bool
+pub(crate) fn is_whole(part: Part, size: u8, len: usize) -> bool
     ensures { λ r. ⌜ r ≡ Walks.isWhole part size len ⌝ }
 {
     if part.readable < part.count {
@@ -42,7 +42,7 @@ pub fn are_whole(t: Tables, len: usize) -> bool
 }
 
 // The bytes of a part where it is asked for and whole, else none.
-fn bytes_of(s: &[u8], part: Part, size: u8, whole: bool) -> &[u8]
+pub(crate) fn bytes_of(s: &[u8], part: Part, size: u8, whole: bool) -> &[u8]
     ensures { λ r. ⌜ now r ≡ Walks.bytesOf whole (now (s .entry)) part size ⌝ }
 {
     if !whole {

@@ -3,12 +3,16 @@
 use Prim.Native.Nat.{_/_, _≤_}
 use native.Mathlib.Omega.{arith}
 use mathlib.Core.Path.{_≡_, refl, sym, ap, _∙_}
+use lib.Ieee.{le}
 use lib.ListN.{length}
+use Rattle.format.specs.Answer.{answer}
+use Rattle.math.specs.Vector.{zero32}
 use Rattle.walk.specs.Private.{after}
 use Rattle.walk.specs.Tracing.{recursiveTrace}
 use Rattle.walk.proofs.Steps.{trace-outside, trace-spent}
 use Rattle.ordered.specs.Rows.{rows}
-use Rattle.ordered.proofs.Descents.{unread, crosses, to-node, in-leaf}
+use Rattle.hull.proofs.Descents.{unread, crosses, to-node, to-end}
+use Rattle.ordered.proofs.Descents.{plane-same, not-seen, seen, meets-node, meets-end}
 use borrow.Author.Needs.{needs}
 use Rattle.ordered.proofs.tracing.descend.Statement.{statement}
 use Rattle.ordered.proofs.tracing.descend.Tie as tie
@@ -35,22 +39,22 @@ row-dists-requires : tie.Need-row-dists-requires Inv-loop μ-loop
 row-dists-requires c κs = omega (arith, c .before .before .loop .inv .0, c .before .if1 .left)
 
 returns-3 : tie.Need-returns-3 Inv-loop μ-loop
-returns-3 c = record { says = unread _ _ (c .before .before .before .before .before .before .before .before .args .table .now) _ _ _ _ (c .before .before .before .before .before .before .loop .place) (c .before .before .before .before .if2 .left) (omega (arith, c .before .before .before .before .before .before .loop .inv .0, c .before .before .before .before .before .if1 .left)) (c .before .before .before .row-dists .result) (c .before .before .before .row-dists .ensures) _ (c .before .e .given .1) ∙ c .before .before .before .before .before .before .loop .inv .2; falls = search needs }
+returns-3 c = record { says = unread (rows (c .before .before .before .before .before .before .before .before .args .planes .now) (c .before .before .before .before .before .before .before .before .args .count) (c .before .before .before .before .before .before .before .before .args .table .now)) _ _ _ _ (c .before .before .before .before .before .before .loop .place) (c .before .before .before .before .if2 .left) (omega (arith, c .before .before .before .before .before .before .loop .inv .0, c .before .before .before .before .before .if1 .left)) _ (not-seen (c .before .before .before .before .before .before .before .before .args .planes .now) (c .before .before .before .before .before .before .before .before .args .count) (c .before .before .before .before .before .before .before .before .args .table .now) _ _ _ (c .before .before .before .row-dists .result) (c .before .before .before .row-dists .ensures) _ (c .before .e .given .1)) ∙ c .before .before .before .before .before .before .loop .inv .2; falls = search needs }
 
 sub-left : tie.Need-sub-left Inv-loop μ-loop
 sub-left c = omega (arith, c .before .before .before .before .before .if2 .left)
 
 returns-4 : tie.Need-returns-4 Inv-loop μ-loop
-returns-4 c = record { says = crosses _ _ (c .before .before .before .before .before .before .before .before .before .before .args .table .now) _ _ _ _ (c .before .before .before .before .before .before .before .before .loop .place) (c .before .before .before .before .before .before .if2 .left) (omega (arith, c .before .before .before .before .before .before .before .before .loop .inv .0, c .before .before .before .before .before .before .before .if1 .left)) (c .before .before .before .before .before .row-dists .result) (c .before .before .before .before .before .row-dists .ensures) _ _ _ (c .before .before .before .w .given .1) (c .if3 .taken) _ (c .before .one-more .ensures) ∙ c .before .before .before .before .before .before .before .before .loop .inv .2; falls = omega (arith, c .before .before .before .before .before .before .if2 .left, c .before .before .before .before .before .before .before .before .loop .inv .1) }
+returns-4 c = record { says = crosses (rows (c .before .before .before .before .before .before .before .before .before .before .args .planes .now) (c .before .before .before .before .before .before .before .before .before .before .args .count) (c .before .before .before .before .before .before .before .before .before .before .args .table .now)) _ _ _ _ (c .before .before .before .before .before .before .before .before .loop .place) (c .before .before .before .before .before .before .if2 .left) (omega (arith, c .before .before .before .before .before .before .before .before .loop .inv .0, c .before .before .before .before .before .before .before .if1 .left)) _ _ _ (seen (c .before .before .before .before .before .before .before .before .before .before .args .planes .now) (c .before .before .before .before .before .before .before .before .before .before .args .count) (c .before .before .before .before .before .before .before .before .before .before .args .table .now) _ _ _ (c .before .before .before .before .before .row-dists .result) (c .before .before .before .before .before .row-dists .ensures) (c .before .before .before .w .given .0 .0) _ _ (c .before .before .before .w .given .1)) _ (c .before .one-more .ensures) (c .if3 .taken) _ (plane-same (c .before .before .before .before .before .before .before .before .before .before .args .planes .now) (c .before .before .before .before .before .before .before .before .before .before .args .count) (c .before .before .before .before .before .before .before .before .before .before .args .table .now) _) ∙ c .before .before .before .before .before .before .before .before .loop .inv .2; falls = omega (arith, c .before .before .before .before .before .before .if2 .left, c .before .before .before .before .before .before .before .before .loop .inv .1) }
 
 returns-5 : tie.Need-returns-5 Inv-loop μ-loop
-returns-5 c = record { says = in-leaf _ _ (c .before .before .before .before .before .before .before .before .before .before .before .before .before .args .table .now) _ _ _ _ (c .before .before .before .before .before .before .before .before .before .before .before .loop .place) (c .before .before .before .before .before .before .before .before .before .if2 .left) (omega (arith, c .before .before .before .before .before .before .before .before .before .before .before .loop .inv .0, c .before .before .before .before .before .before .before .before .before .before .if1 .left)) (c .before .before .before .before .before .before .before .before .row-dists .result) (c .before .before .before .before .before .before .before .before .row-dists .ensures) _ _ _ (c .before .before .before .before .before .before .w .given .1) (c .before .before .before .if3 .left) _ (c .before .before .on .ensures) _ (c .before .before .before .before .one-more .ensures) (c .before .if4 .taken) _ (c .contents-of-word .ensures) ∙ c .before .before .before .before .before .before .before .before .before .before .before .loop .inv .2; falls = search needs }
+returns-5 c = record { says = to-end (rows (c .before .before .before .before .before .before .before .before .before .before .before .before .before .args .planes .now) (c .before .before .before .before .before .before .before .before .before .before .before .before .before .args .count) (c .before .before .before .before .before .before .before .before .before .before .before .before .before .args .table .now)) _ _ _ _ (c .before .before .before .before .before .before .before .before .before .before .before .loop .place) (c .before .before .before .before .before .before .before .before .before .if2 .left) (omega (arith, c .before .before .before .before .before .before .before .before .before .before .before .loop .inv .0, c .before .before .before .before .before .before .before .before .before .before .if1 .left)) _ _ _ (seen (c .before .before .before .before .before .before .before .before .before .before .before .before .before .args .planes .now) (c .before .before .before .before .before .before .before .before .before .before .before .before .before .args .count) (c .before .before .before .before .before .before .before .before .before .before .before .before .before .args .table .now) _ _ _ (c .before .before .before .before .before .before .before .before .row-dists .result) (c .before .before .before .before .before .before .before .before .row-dists .ensures) (c .before .before .before .before .before .before .w .given .0 .0) _ _ (c .before .before .before .before .before .before .w .given .1)) _ (c .before .before .before .before .one-more .ensures) (c .before .before .before .if3 .left) (answer (c .contents-of-word .result)) (meets-end (c .before .before .before .before .before .before .before .before .before .before .before .before .before .args .planes .now) (c .before .before .before .before .before .before .before .before .before .before .before .before .before .args .count) (c .before .before .before .before .before .before .before .before .before .before .before .before .before .args .table .now) (c .before .before .before .before .before .before .w .given .0 .0) (le zero32 (c .before .before .before .before .before .before .w .given .0 .1 .0)) _ (c .before .before .on .ensures) (c .before .if4 .taken) _ (c .contents-of-word .ensures)) ∙ c .before .before .before .before .before .before .before .before .before .before .before .loop .inv .2; falls = search needs }
 
 loop-less : tie.Need-loop-less Inv-loop μ-loop
 loop-less c = omega (arith, c .before .before .before .before .before .before .before .before .if2 .left)
 
 loop-again : tie.Need-loop-again Inv-loop μ-loop
-loop-again c = (c .before .before .before .before .before .before .before .before .before .before .loop .inv .0, omega (arith, c .before .before .before .before .before .before .before .before .before .before .loop .inv .1), sym (to-node _ _ (c .before .before .before .before .before .before .before .before .before .before .before .before .args .table .now) _ _ _ _ (c .before .before .before .before .before .before .before .before .before .before .loop .place) (c .before .before .before .before .before .before .before .before .if2 .left) (omega (arith, c .before .before .before .before .before .before .before .before .before .before .loop .inv .0, c .before .before .before .before .before .before .before .before .before .if1 .left)) (c .before .before .before .before .before .before .before .row-dists .result) (c .before .before .before .before .before .before .before .row-dists .ensures) _ _ _ (c .before .before .before .before .before .w .given .1) (c .before .before .if3 .left) _ (c .before .on .ensures) _ (c .before .before .before .one-more .ensures) (c .if4 .left)) ∙ c .before .before .before .before .before .before .before .before .before .before .loop .inv .2)
+loop-again c = (c .before .before .before .before .before .before .before .before .before .before .loop .inv .0, omega (arith, c .before .before .before .before .before .before .before .before .before .before .loop .inv .1), sym (to-node (rows (c .before .before .before .before .before .before .before .before .before .before .before .before .args .planes .now) (c .before .before .before .before .before .before .before .before .before .before .before .before .args .count) (c .before .before .before .before .before .before .before .before .before .before .before .before .args .table .now)) _ _ _ _ (c .before .before .before .before .before .before .before .before .before .before .loop .place) (c .before .before .before .before .before .before .before .before .if2 .left) (omega (arith, c .before .before .before .before .before .before .before .before .before .before .loop .inv .0, c .before .before .before .before .before .before .before .before .before .if1 .left)) _ _ _ (seen (c .before .before .before .before .before .before .before .before .before .before .before .before .args .planes .now) (c .before .before .before .before .before .before .before .before .before .before .before .before .args .count) (c .before .before .before .before .before .before .before .before .before .before .before .before .args .table .now) _ _ _ (c .before .before .before .before .before .before .before .row-dists .result) (c .before .before .before .before .before .before .before .row-dists .ensures) (c .before .before .before .before .before .w .given .0 .0) _ _ (c .before .before .before .before .before .w .given .1)) _ (c .before .before .before .one-more .ensures) (c .before .before .if3 .left) _ (meets-node (c .before .before .before .before .before .before .before .before .before .before .before .before .args .planes .now) (c .before .before .before .before .before .before .before .before .before .before .before .before .args .count) (c .before .before .before .before .before .before .before .before .before .before .before .before .args .table .now) (c .before .before .before .before .before .w .given .0 .0) (le zero32 (c .before .before .before .before .before .w .given .0 .1 .0)) _ (c .before .on .ensures) (c .if4 .left))) ∙ c .before .before .before .before .before .before .before .before .before .before .loop .inv .2)
 
 pub descend-spec : {M : Type 1} → statement M
 descend-spec =
