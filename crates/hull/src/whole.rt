@@ -8,12 +8,15 @@ ghost use Rattle.nodes.specs.Owned.{endAmong};
 ghost use Rattle.hull.specs.Traces as Traces;
 use crate::tracing::Descent;
 use crate::tracing::Way;
+use crate::tracing::Went;
 use crate::tracing::again;
+use crate::tracing::carried;
+use crate::tracing::counted;
 use crate::tracing::ended;
 use crate::tracing::ends_with;
-use crate::tracing::join_way;
 use crate::tracing::met_on;
 use crate::tracing::one_more;
+use format::contents::BspLeafContents;
 use format::refusal::Refusal;
 use math::Vector3;
 use nodes::crossing::Sides;
@@ -117,6 +120,34 @@ fn ended_at(leaves: &[u8], render: bool, word: u16, end: &[f32; 3], visits: u64)
     }
 }
 
+// The near part joined with the far one: `join_parts` and `join_way` of `tracing`, written out once more, since what two recursions call is a
+// call in both, and its records are copied.
+fn join_two(near: Went, far: Went) -> Went
+    ensures { λ r. ⌜ r ≡ Traces.joinParts near far ⌝ }
+{
+    let contents = near.contents;
+    let other = far.contents;
+    if contents.equals(other) {
+        return carried(far, contents, near.start_solid);
+    }
+    if contents.equals(BspLeafContents::Solid) {
+        if other.equals(BspLeafContents::Solid) {
+            return counted(near, far.visits);
+        }
+        return carried(far, other, true);
+    }
+    counted(near, far.visits)
+}
+
+fn join_whole(near: Went, far: Way) -> Way
+    ensures { λ r. ⌜ r ≡ Traces.joinWay near far ⌝ }
+{
+    match far {
+        Way::Refused(e) => Way::Refused(e),
+        Way::Went(part) => Way::Went(join_two(near, part)),
+    }
+}
+
 // The trace below a node from p to q, with the calls left and the nodes entered before, and how many nodes were entered in all. The points
 // are lent as lists: records would be copied at each call, and a copy waits for what was just written (docs/DECISIONS.md 105).
 pub(crate) fn trace_whole(
@@ -162,7 +193,7 @@ pub(crate) fn trace_whole(
                 } else {
                     ended_at(leaves, render, j, q, v)
                 };
-                join_way(part, far)
+                join_whole(part, far)
             }
         },
     }

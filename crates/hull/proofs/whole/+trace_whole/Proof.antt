@@ -39,7 +39,7 @@ use Rattle.hull.proofs.whole.+trace_whole.Lts-trace_whole as lts
 use Rattle.hull.proofs.tracing.again.Reads as again-reads
 use Rattle.hull.proofs.tracing.ended.Reads as ended-reads
 use Rattle.hull.proofs.tracing.ends_with.Reads as ends-with-reads
-use Rattle.hull.proofs.tracing.join_way.Reads as join-way-reads
+use Rattle.hull.proofs.whole.join_whole.Reads as join-whole-reads
 use Rattle.hull.proofs.whole.ended_at.Reads as ended-at-reads
 use Rattle.hull.proofs.whole.go_down.Reads as go-down-reads
 use Rattle.hull.proofs.whole.left_at.Reads as left-at-reads
@@ -65,7 +65,7 @@ below t = and 5 kinds.ps (falls 5 kinds.ps _<_ μ t) self.Pre
 -- what each call asks and gives
 abbrev claims : ℕ → lts.Claims
 claims t =
-    (point-of-reads.Asked, point-of-reads.Learnt, go-down-reads.Asked, go-down-reads.Learnt, ended-reads.Asked, ended-reads.Learnt, sides-in-reads.Asked, sides-in-reads.Learnt, sub-reads.Asked, sub-reads.Learnt, scale-reads.Asked, scale-reads.Learnt, add-reads.Asked, add-reads.Learnt, on-reads.Asked, on-reads.Learnt, below t, self.Post, left-at-reads.Asked, left-at-reads.Learnt, ends-with-reads.Asked, ends-with-reads.Learnt, again-reads.Asked, again-reads.Learnt, ended-at-reads.Asked, ended-at-reads.Learnt, join-way-reads.Asked, join-way-reads.Learnt)
+    (point-of-reads.Asked, point-of-reads.Learnt, go-down-reads.Asked, go-down-reads.Learnt, ended-reads.Asked, ended-reads.Learnt, sides-in-reads.Asked, sides-in-reads.Learnt, sub-reads.Asked, sub-reads.Learnt, scale-reads.Asked, scale-reads.Learnt, add-reads.Asked, add-reads.Learnt, on-reads.Asked, on-reads.Learnt, below t, self.Post, left-at-reads.Asked, left-at-reads.Learnt, ends-with-reads.Asked, ends-with-reads.Learnt, again-reads.Asked, again-reads.Learnt, ended-at-reads.Asked, ended-at-reads.Learnt, join-whole-reads.Asked, join-whole-reads.Learnt)
 
 module _ (t : ℕ) where
   -- ---- at a crossing: the call's arguments, the node's words, the distances, the calls left below, the visits
@@ -175,7 +175,7 @@ module _ (t : ℕ) where
   returns-5 c f u own = let x = c .before .before .before .before .before in lent x f u (Y.Refused (c .before .e2 .given .0 .0)) (no-plane (Fast.table f u) (nodeOf (u .table) (w x)) (s x) (e x) (a x) (b x) (k x) (axisX (a x)) (n x) _ (planeIn f u (w x .plane)) (says x f u own) _ (no-sides f u _ _ _ _ own _ (s x) (e x) (c .before .before .before .sides-in .result) (c .before .before .before .sides-in .ensures) _ (c .before .e2 .given .1)))
 
   returns-6 : lts.Need-returns-6 (claims t) (at t) self.Post
-  returns-6 c f u own = lent (c .before .before .before .before .before .before .before .before .before .before .before .before .before .before .before .before .before .before) f u (c .join-way .result) (way-both f u (w (c .before .before .before .before .before .before .before .before .before .before .before .before .before .before .before .before .before .before)) (s (c .before .before .before .before .before .before .before .before .before .before .before .before .before .before .before .before .before .before)) (e (c .before .before .before .before .before .before .before .before .before .before .before .before .before .before .before .before .before .before)) (a (c .before .before .before .before .before .before .before .before .before .before .before .before .before .before .before .before .before .before)) (b (c .before .before .before .before .before .before .before .before .before .before .before .before .before .before .before .before .before .before)) (k (c .before .before .before .before .before .before .before .before .before .before .before .before .before .before .before .before .before .before)) (h (c .before .before .before .before .before .before .before .before .before) f u own) (n (c .before .before .before .before .before .before .before .before .before .before .before .before .before .before .before .before .before .before)) _ (says (c .before .before .before .before .before .before .before .before .before .before .before .before .before .before .before .before .before .before) f u own) (sides (c .before .before .before .before .before .before .before .before .before) f u own .1) _ (near-is (c .before .before .before .before .before .before .before .before) f u own) _ (c .before .before .before .before .before .before .near .given .1) _ (mid-is (c .before .before .before .before .before .before .before .before .before) f u own) _ (c .before .before .before .before .ends-with .ensures) (c .before .before .before .if2 .left) (c .before .if3 .far) (far-is (c .before) f u own .0) (far-is (c .before) f u own .1) _ (c .join-way .ensures))
+  returns-6 c f u own = lent (c .before .before .before .before .before .before .before .before .before .before .before .before .before .before .before .before .before .before) f u (c .join-whole .result) (way-both f u (w (c .before .before .before .before .before .before .before .before .before .before .before .before .before .before .before .before .before .before)) (s (c .before .before .before .before .before .before .before .before .before .before .before .before .before .before .before .before .before .before)) (e (c .before .before .before .before .before .before .before .before .before .before .before .before .before .before .before .before .before .before)) (a (c .before .before .before .before .before .before .before .before .before .before .before .before .before .before .before .before .before .before)) (b (c .before .before .before .before .before .before .before .before .before .before .before .before .before .before .before .before .before .before)) (k (c .before .before .before .before .before .before .before .before .before .before .before .before .before .before .before .before .before .before)) (h (c .before .before .before .before .before .before .before .before .before) f u own) (n (c .before .before .before .before .before .before .before .before .before .before .before .before .before .before .before .before .before .before)) _ (says (c .before .before .before .before .before .before .before .before .before .before .before .before .before .before .before .before .before .before) f u own) (sides (c .before .before .before .before .before .before .before .before .before) f u own .1) _ (near-is (c .before .before .before .before .before .before .before .before) f u own) _ (c .before .before .before .before .before .before .near .given .1) _ (mid-is (c .before .before .before .before .before .before .before .before .before) f u own) _ (c .before .before .before .before .ends-with .ensures) (c .before .before .before .if2 .left) (c .before .if3 .far) (far-is (c .before) f u own .0) (far-is (c .before) f u own .1) _ (c .join-whole .ensures))
 
 pub +trace-whole-spec : {M : Type 1} → statement M
 +trace-whole-spec =
