@@ -14,8 +14,9 @@
  * thread may call it at any time.
  *
  * Stack, measured on a chain of 512 nodes, the deepest there can be, and not proved: bsp_trace_nodes
- * needs up to 551,000 bytes, bsp_trace_line 533,000, bsp_order_trace 427,000, bsp_trace 419,000,
- * bsp_accept 329,000, bsp_contents_box 262,000, bsp_tree_check, bsp_hull_check and bsp_order 165,000.
+ * needs up to 551,000 bytes, bsp_trace_line 477,000, bsp_order_trace 427,000, bsp_trace 402,000 (296,000
+ * with the map record of a file that was loaded), bsp_accept 329,000, bsp_contents_box 263,000,
+ * bsp_tree_check, bsp_hull_check and bsp_order 165,000.
  * bsp_load, bsp_load_place, bsp_texture_frame and bsp_texture_static need up to 554,000 bytes,
  * bsp_texture_numbers 966,000 and bsp_record of a texture info 1,011,000, whatever the nodes. The other
  * calls have no such depth.
