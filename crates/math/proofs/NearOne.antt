@@ -1,5 +1,5 @@
--- Normalising a vector whose square is one of the eight f32 next to 1: there 1 / root is 1 + 2 ^ -23 (0x3f800001), 1, or 1 - 2 ^ -23
--- (0x3f7ffffe), and a number times 1 is itself, so that `normalize` works out no root. Assumes nothing.
+-- 1 / root of the eight f32 next to 1: it is 1 + 2 ^ -23 (0x3f800001), 1, or 1 - 2 ^ -23 (0x3f7ffffe), and a number times 1 is itself, so
+-- that normalising a vector whose square is one of them works out no root. Assumes nothing.
 use mathlib.Core.Path.{_≡_, refl, sym, ap, _∙_, subst}
 use Prim.Native.Nat.{ℕ, zero, suc, _+_, _-_, _*_, _/_, _%_, _^_, _≤_, _<_}
 use native.Mathlib.Nat.{one-mul, mul-one, zero-mul, mul-assoc, mul-right-comm, lt-of-lt-of-le, lt-of-le-of-lt, lt-irrefl}
@@ -134,27 +134,25 @@ above-one zero h = refl
 above-one (suc zero) h = refl
 above-one (suc (suc k)) h = absurd (omega arith)
 
--- ---- normalising there
+-- a number and its pattern
+module _ (d : Float) {b : ℕ} (F : T (fits binary32 d)) (B : b ≡ toBits binary32 d) where
+  -- the number is the f32 of its pattern
+  number-is : (n : ℕ) → b ≡ n → d ≡ ofBits binary32 n
+  number-is n e = sym (ofBits-toBits binary32 d F) ∙ ap (ofBits binary32) (sym B ∙ e)
 
--- a vector, its square, and the square's pattern
-module _ (v : Vector3) {d : Float} {b : ℕ} (D : d ≡ Vec.dot v v) (B : b ≡ toBits binary32 d) where
-  -- the square is the f32 of its pattern
-  square-is : (n : ℕ) → b ≡ n → d ≡ ofBits binary32 n
-  square-is n e = sym (ofBits-toBits binary32 d (subst (λ (x : Float). T (fits binary32 x)) (sym D) (dot-fits v v))) ∙ ap (ofBits binary32) (sym B ∙ e)
+  pub inverse-below : 0x3f7f_fffc ≤ b → b < 0x3f80_0000 → inverseRoot d ≡ ofBits binary32 0x3f80_0001
+  inverse-below l u = ap inverseRoot (number-is (b - 0x3f7f_fffc + 0x3f7f_fffc) (omega arith)) ∙ below-one (b - 0x3f7f_fffc) (omega arith)
 
-  normalize-by : (k : Float) → inverseRoot d ≡ k → Vec.normalize v ≡ Vec.scaled k v
-  unfolding Vec.normalize
-  normalize-by k e = ap (λ (i : Float). Vec.scaled i v) (ap inverseRoot (sym D) ∙ e)
+  pub inverse-at : 0x3f80_0000 ≤ b → b < 0x3f80_0002 → inverseRoot d ≡ Vec.one32
+  inverse-at l u = ap inverseRoot (number-is (b - 0x3f80_0000 + 0x3f80_0000) (omega arith)) ∙ at-one (b - 0x3f80_0000) (omega arith)
 
-  pub normalize-below : 0x3f7f_fffc ≤ b → b < 0x3f80_0000 → Vec.normalize v ≡ Vec.scaled (ofBits binary32 0x3f80_0001) v
-  normalize-below l u =
-      normalize-by (ofBits binary32 0x3f80_0001) (ap inverseRoot (square-is (b - 0x3f7f_fffc + 0x3f7f_fffc) (omega arith)) ∙ below-one (b - 0x3f7f_fffc) (omega arith))
+  pub inverse-above : 0x3f80_0002 ≤ b → b < 0x3f80_0004 → inverseRoot d ≡ ofBits binary32 0x3f7f_fffe
+  inverse-above l u = ap inverseRoot (number-is (b - 0x3f80_0002 + 0x3f80_0002) (omega arith)) ∙ above-one (b - 0x3f80_0002) (omega arith)
 
-  pub normalize-at : Fits3 v → 0x3f80_0000 ≤ b → b < 0x3f80_0002 → Vec.normalize v ≡ v
-  normalize-at f l u =
-      normalize-by Vec.one32 (ap inverseRoot (square-is (b - 0x3f80_0000 + 0x3f80_0000) (omega arith)) ∙ at-one (b - 0x3f80_0000) (omega arith))
-      ∙ simp (one-times (v .x) (f .x-fits), one-times (v .y) (f .y-fits), one-times (v .z) (f .z-fits))
+-- ---- normalising a vector whose square is 1 or the next f32
 
-  pub normalize-above : 0x3f80_0002 ≤ b → b < 0x3f80_0004 → Vec.normalize v ≡ Vec.scaled (ofBits binary32 0x3f7f_fffe) v
-  normalize-above l u =
-      normalize-by (ofBits binary32 0x3f7f_fffe) (ap inverseRoot (square-is (b - 0x3f80_0002 + 0x3f80_0002) (omega arith)) ∙ above-one (b - 0x3f80_0002) (omega arith))
+pub normalize-at : (v : Vector3) {d : Float} {b : ℕ} → d ≡ Vec.dot v v → b ≡ toBits binary32 d → Fits3 v → 0x3f80_0000 ≤ b → b < 0x3f80_0002 → Vec.normalize v ≡ v
+unfolding Vec.normalize
+normalize-at v D B f l u =
+    ap (λ (i : Float). Vec.scaled i v) (inverse-at (Vec.dot v v) (dot-fits v v) (B ∙ ap (toBits binary32) D) l u)
+    ∙ simp (one-times (v .x) (f .x-fits), one-times (v .y) (f .y-fits), one-times (v .z) (f .z-fits))

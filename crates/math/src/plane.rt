@@ -3,6 +3,7 @@ ghost use mathlib.Core.Path.{_≡_};
 ghost use Rattle.math.specs.Plane as Pl;
 use crate::vector::Axis;
 use crate::vector::Vector3;
+use crate::vector::inverse_root;
 
 pub enum HyperplaneSide {
     Positive,
@@ -137,7 +138,13 @@ impl Hyperplane {
                 dist,
             };
         }
-        Hyperplane::from_normal(normal.normalize(), dist)
+        // twice, as the published code does; by numbers, so that no vector is handed on
+        let once = normal.scale(inverse_root(normal.dot(normal)));
+        let unit = once.scale(inverse_root(once.dot(once)));
+        Hyperplane {
+            alignment: Alignment::Normal(unit),
+            dist,
+        }
     }
 
     pub fn axis_x(dist: f32) -> Hyperplane

@@ -1,6 +1,8 @@
 // Vectors of three f32: cgmath's `Vector3<f32>`, as far as the map code uses it.
 ghost use mathlib.Core.Path.{_≡_};
 ghost use mathlib.Core.Bool.{true};
+ghost use lib.Ieee.{binary32, div};
+ghost use Rattle.float.specs.Root.{sqrt};
 ghost use Rattle.math.specs.Vector as Vec;
 
 pub enum Axis {
@@ -13,6 +15,27 @@ pub struct Vector3 {
     pub x: f32,
     pub y: f32,
     pub z: f32,
+}
+
+// 1 / √x. The normals of a map are mostly of length 1, rounded: their square is one of the eight f32 next to 1, and there the number is
+// known. A number goes in and out, so that it stays in a register.
+pub(crate) fn inverse_root(x: f32) -> f32
+    ensures { λ r. ⌜ r ≡ div binary32 Vec.one32 (sqrt x) ⌝ }
+{
+    let bits = float::num::to_bits(x);
+    // the four f32 below 1, then 1 and the one above it, then the next two
+    if 0x3f7f_fffc <= bits {
+        if bits < 0x3f80_0000 {
+            return 1.00000012;
+        }
+        if bits < 0x3f80_0002 {
+            return 1.0;
+        }
+        if bits < 0x3f80_0004 {
+            return 0.99999988;
+        }
+    }
+    1.0 / float::root::sqrt(x)
 }
 
 impl Vector3 {
@@ -104,26 +127,11 @@ impl Vector3 {
         float::root::sqrt(self.dot(self))
     }
 
-    // Each coordinate times 1 / magnitude. The normals of a map are mostly of length 1, rounded: their
-    // square is one of the eight f32 next to 1, and there 1 / magnitude is known.
+    // Each coordinate times 1 / magnitude.
     pub fn normalize(self) -> Vector3
         ensures { λ r. ⌜ r ≡ Vec.normalize self ⌝ }
     {
-        let square = self.dot(self);
-        let bits = float::num::to_bits(square);
-        // the four f32 below 1, then 1 and the one above it, then the next two
-        if 0x3f7f_fffc <= bits {
-            if bits < 0x3f80_0000 {
-                return self.scale(1.00000012);
-            }
-            if bits < 0x3f80_0002 {
-                return self;
-            }
-            if bits < 0x3f80_0004 {
-                return self.scale(0.99999988);
-            }
-        }
-        self.scale(1.0 / float::root::sqrt(square))
+        self.scale(inverse_root(self.dot(self)))
     }
 
     // Whether the square is 1 or the f32 above 1: normalising leaves such a vector as it is.

@@ -2,9 +2,11 @@
 use borrow.Author.Needs.{needs}
 use mathlib.Core.Path.{_≡_, sym, ap, _∙_}
 use mathlib.Core.Bool.{Bool, false}
+use lib.Ieee.{Float}
 use Rattle.math.specs.Vector as Vec
 use Rattle.math.specs.Plane as Pl
 use Rattle.math.specs.declared.vector.Vector3.{Vector3}
+use Rattle.math.proofs.NearOne.{inverseRoot}
 use Rattle.math.proofs.Planes.{new-x, new-y, new-z, new-slanted}
 use Rattle.math.proofs.plane.Hyperplane.new.Statement.{statement}
 use Rattle.math.proofs.plane.Hyperplane.new.Tie as tie
@@ -75,18 +77,36 @@ is-unit-requires c κs = search needs
 returns-4 : tie.Need-returns-4
 returns-4 c = sym (slanted (c .before .before) ∙ simp (c .before .is-unit .ensures (c .if4 .taken)))
 
-normalize-requires : tie.Need-normalize-requires
-normalize-requires c κs = search needs
+dot-requires : tie.Need-dot-requires
+dot-requires c κs = search needs
 
-from-normal-requires : tie.Need-from-normal-requires
-from-normal-requires c κs = search needs
+inverse-root-requires : tie.Need-inverse-root-requires
+inverse-root-requires c κs = search needs
+
+scale-requires : tie.Need-scale-requires
+scale-requires c κs = search needs
+
+dot-requires-2 : tie.Need-dot-requires-2
+dot-requires-2 c κs = search needs
+
+inverse-root-requires-2 : tie.Need-inverse-root-requires-2
+inverse-root-requires-2 c κs = search needs
+
+scale-requires-2 : tie.Need-scale-requires-2
+scale-requires-2 c κs = search needs
+
+-- a vector by 1 / root of its square is the vector normalised
+normalized : (v : Vector3) {d i : Float} {r : Vector3} → d ≡ Vec.dot v v → i ≡ inverseRoot d → r ≡ Vec.scaled i v → r ≡ Vec.normalize v
+unfolding Vec.normalize
+normalized v D I R = R ∙ ap (λ (k : Float). Vec.scaled k v) (I ∙ ap inverseRoot D)
 
 returns-5 : tie.Need-returns-5
 returns-5 c =
-    let e = c .before .before .before .before in
-    c .from-normal .ensures
-    ∙ ap (λ (n : Vector3). Pl.fromNormal n (e .before .before .before .before .before .before .before .before .before .args .dist)) (c .before .normalize .ensures)
-    ∙ sym (slanted e)
+    let o = c .before .before .before in
+    let e = o .before .before .before .before .before in
+    let once = normalized _ (o .before .before .dot .ensures) (o .before .inverse-root .ensures) (o .scale .ensures) in
+    let unit = normalized _ (c .before .before .dot2 .ensures) (c .before .inverse-root2 .ensures) (c .scale2 .ensures) in
+    sym (slanted e ∙ simp (sym (unit ∙ ap Vec.normalize once)))
 
 pub new-spec : {M : Type 1} → statement M
 new-spec =
@@ -106,6 +126,10 @@ new-spec =
     returns-3
     is-unit-requires
     returns-4
-    normalize-requires
-    from-normal-requires
+    dot-requires
+    inverse-root-requires
+    scale-requires
+    dot-requires-2
+    inverse-root-requires-2
+    scale-requires-2
     returns-5)
