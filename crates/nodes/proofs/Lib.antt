@@ -13,6 +13,7 @@ mod Making
 mod Stepping
 mod Beside
 mod Quicks
+mod AnyTables
 pub mod Equal
 pub mod Ends
 mod Handed

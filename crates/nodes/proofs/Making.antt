@@ -198,7 +198,7 @@ module _ (s : List ℕ) (t : Tables) (e : areWhole t (length s) ≡ true) where
     unfolding Fast.nodeAt
     node-is = node-by (t .table) (all-whole t (length s) e .0) (whole-nodes .1)
 
-    made-is : {X : Type 0} (make : Entered End → X) → madeAt make render s (t .nodes .at + i * nodeSize render) (t .planes .at) (t .planes .count) ≡ madeFrom make s t i
+    pub made-is : {X : Type 0} (make : Entered End → X) → madeAt make render s (t .nodes .at + i * nodeSize render) (t .planes .at) (t .planes .count) ≡ madeFrom make s t i
     unfolding enter
     made-is make =
         ap (λ (x : Answer (Node End)). thenAnswer x (madeWith make s (t .planes .at) (t .planes .count))) (sym node-is)

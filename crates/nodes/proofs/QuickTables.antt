@@ -25,12 +25,7 @@ use Rattle.nodes.specs.Walks.{areWhole, ends}
 use Rattle.nodes.specs.Quick.{codeOr, endCode, leavesBy, orNothing, quickAnswer, quickWalk, tablesBy}
 use Rattle.nodes.specs.declared.table.HullTable.{HullTable}
 use Rattle.nodes.specs.declared.table.Tables.{Tables}
-
--- what was said was answered
-answered : {A : Type 0} (x : Answer A) (b : Bool) (a : A) → answer a ≡ cond b (orNothing x) (Ans.refused 0) → answer a ≡ x
-answered (answer y) true a e = e
-answered (Ans.refused n) true a e = let z : _≡_ {A = ℕ} 0 1 = cc in absurd (omega arith)
-answered x false a e = let z : _≡_ {A = ℕ} 0 1 = cc in absurd (omega arith)
+use Rattle.nodes.proofs.AnyTables.{by-numbers}
 
 coded : (x : Answer BspLeafContents) (c : ℕ) → c ≡ codeOr x → (c ≡ 0 → ⊥) → (y : BspLeafContents) × (answer y ≡ x) × (codeOf y ≡ c)
 coded (answer y) c e some = (y, refl, sym e)
@@ -64,18 +59,11 @@ module _ (s : List ℕ) (m : BspData) (a b : Vector3) where
     is-table = ap (λ (x : Tables). x .table) is-t ∙ table-of k
 
     module _ (root : ℕ) (p : Vector3) (r : ℕ) where
-      is-said : (r ≡ 0 → ⊥) → quickAnswer (fileTable k) r ≡ answer (endOf (fileTable k) (r / 4294967296), r % 4294967296)
-      is-said some = rw (ne-eqb r 0 some)
-
-      by-numbers : (r ≡ 0 → ⊥) → (u : Tables) → quickAnswer (fileTable k) r ≡ quickWalk s u root p → answer (endOf (fileTable k) (r / 4294967296), r % 4294967296) ≡ withVisits (pointWalk (ends (table s u)) root p)
-      unfolding quickWalk
-      by-numbers some u e = answered (withVisits (pointWalk (ends (table s u)) root p)) (areWhole u (length s)) _ (sym (is-said some) ∙ e)
-
       pub quick-end : quickAnswer (fileTable k) r ≡ quickWalk s (tablesBy k (t .nodes .at) (t .nodes .count) (t .planes .at) (t .planes .count)) root p → (r ≡ 0 → ⊥)
           → answer (endOf (t .table) (r / 4294967296), r % 4294967296) ≡ withVisits (pointWalk (ends (table s t)) root p)
       quick-end e some =
           ap (λ (x : HullTable). answer (endOf x (r / 4294967296), r % 4294967296)) is-table
-          ∙ by-numbers some (tablesBy k (t .nodes .at) (t .nodes .count) (t .planes .at) (t .planes .count)) e
+          ∙ by-numbers s (fileTable k) root p r some (tablesBy k (t .nodes .at) (t .nodes .count) (t .planes .at) (t .planes .count)) e
           ∙ ap (λ (x : Tables). withVisits (pointWalk (ends (table s (tablesBy k (x .nodes .at) (x .nodes .count) (x .planes .at) (x .planes .count)))) root p)) is-t
           ∙ ap (λ (T : Table End End). withVisits (pointWalk T root p)) (same-ends k)
           ∙ sym (ap (λ (x : Tables). withVisits (pointWalk (ends (table s x)) root p)) is-t)

@@ -101,7 +101,7 @@ module _ (n m : List ℕ) (render : Bool) (root : ℕ) (p : Vector3) where
 
 -- ---- the tables of some numbers
 
-is-render-of : (k : Bool) → isRender (fileTable k) ≡ k
+pub is-render-of : (k : Bool) → isRender (fileTable k) ≡ k
 is-render-of true = refl
 is-render-of false = refl
 

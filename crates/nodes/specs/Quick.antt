@@ -59,8 +59,11 @@ orNothing (answer a) = answer a
 orNothing (refused n) = refused 0
 
 -- the end of a word, and visits: a word times 2^32 and the visits
+abbrev pub endAndVisits : HullTable → ℕ → Answer (End × ℕ)
+endAndVisits t r = answer (endOf t (r / 4294967296), r % 4294967296)
+
 abbrev pub quickAnswer : HullTable → ℕ → Answer (End × ℕ)
-quickAnswer t r = cond (eqb r 0) (refused 0) (answer (endOf t (r / 4294967296), r % 4294967296))
+quickAnswer t r = cond (eqb r 0) (refused 0) (endAndVisits t r)
 
 abbrev pub quickIn : List ℕ → Tables → ℕ → Vector3 → Answer (End × ℕ)
 quickIn s t root p = orNothing (withVisits (pointWalk (ends (table s t)) root p))

@@ -1,29 +1,55 @@
--- `onward_from` meets its contract: from the sections' bytes, or record by record.
+-- `onward_from` meets its contract: by what the readers answer.
 -- Assumes nothing.
-use Rattle.nodes.specs.Walks.{childToward, onwardAnswer}
-use denote.Ref.{now}
-use mathlib.Core.Path.{sym, ap, _∙_}
-use Rattle.nodes.proofs.Making.{node-inside, whole-made, own-table}
+use Rattle.nodes.proofs.Making.{any-unread, any-no-plane, any-made, no-side, side-of, toward}
 use borrow.Author.Needs.{needs}
 use Rattle.nodes.proofs.walking.onward_from.Statement.{statement}
 use Rattle.nodes.proofs.walking.onward_from.Tie as tie
 
-is-render-requires : tie.Need-is-render-requires
-is-render-requires c κs = search needs
+read-words-requires : tie.Need-read-words-requires
+read-words-requires c κs = search needs
 
-onward-in-requires : tie.Need-onward-in-requires
-onward-in-requires c κs = let a = c .before .before .before .before .before .args in let p = c .before .before .before .before .before .pre in node-inside (now (a .s)) (a .t) (now (a .nodes)) (now (a .planes)) (a .whole) (p .0) (c .before .if1 .taken) (c .is-render .result) (c .is-render .ensures) (a .index) (p .1)
+enum-known-e : tie.Need-enum-known-e
+enum-known-e c = search needs
+
+enum-known-words : tie.Need-enum-known-words
+enum-known-words c = search needs
+
+cast-side-at : tie.Need-cast-side-at
+cast-side-at c = search needs
+
+side-at-requires : tie.Need-side-at-requires
+side-at-requires c κs = search needs
+
+enum-known-e-2 : tie.Need-enum-known-e-2
+enum-known-e-2 c = search needs
+
+enum-known-front : tie.Need-enum-known-front
+enum-known-front c = search needs
+
+on-requires : tie.Need-on-requires
+on-requires c κs = search needs
 
 returns : tie.Need-returns
-returns c = let a = c .before .before .before .before .before .before .args in let p = c .before .before .before .before .before .before .pre in let k = c .before .is-render .result in let is-k = c .before .is-render .ensures in ap (λ x. onwardAnswer x (c .onward-in .result)) (sym (own-table (now (a .s)) (a .t) (now (a .nodes)) (now (a .planes)) (a .whole) (p .0) (c .before .before .if1 .taken) k is-k)) ∙ whole-made (now (a .s)) (a .t) (now (a .nodes)) (now (a .planes)) (a .whole) (p .0) (c .before .before .if1 .taken) k is-k (a .index) (childToward (a .point)) (p .1) _ (c .onward-in .ensures)
-
-onward-any-requires : tie.Need-onward-any-requires
-onward-any-requires c κs = search needs
+returns c = any-unread _ _ _ _ _ (c .before .before .before .read-words .ensures) _ (c .before .e .given .1)
 
 returns-2 : tie.Need-returns-2
-returns-2 c = search needs
+returns-2 c = any-no-plane _ _ _ _ _ (c .before .before .before .before .before .before .before .before .read-words .ensures) _ (c .before .before .before .before .before .before .words .given .1) _ (no-side _ _ _ (c .before .before .before .side-at .ensures) _ (c .before .e2 .given .1))
+
+returns-3 : tie.Need-returns-3
+returns-3 c = let a = c .before .before .before .before .before .before .before .before .before .before .before .args in let f = c .before .before .front .given .0 .0 in let w = c .before .before .before .before .before .before .before .words .given .0 .0 in let h = side-of _ (a .point) (c .before .before .before .before .side-at .result) (c .before .before .before .before .side-at .ensures) f (c .before .before .front .given .1) in any-made _ _ _ _ _ (c .before .before .before .before .before .before .before .before .before .read-words .ensures) w (c .before .before .before .before .before .before .before .words .given .1) (h .0) (h .1) _ (toward (a .t .table) w (a .point) (h .0) f (h .2) _ (c .on .ensures))
 
 pub onward-from-spec : {M : Type 1} → statement M
 onward-from-spec =
     tie.close
-    (tie.spec is-render-requires onward-in-requires returns onward-any-requires returns-2)
+    (tie.spec
+    read-words-requires
+    enum-known-e
+    enum-known-words
+    cast-side-at
+    side-at-requires
+    enum-known-e-2
+    enum-known-front
+    on-requires
+    returns
+    returns-2
+    returns-3)
