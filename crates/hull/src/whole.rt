@@ -61,12 +61,11 @@ fn go_down(
 ) -> Descent
     ensures { λ r. ⌜ Traces.GoesDown render (now (nodes .entry)) (now (planes .entry)) (now (leaves .entry)) left0 node0 start end visits0 r ⌝ }
 {
-    let count = node_count(nodes, render);
     let mut node = node0;
     let mut left = left0;
     let mut visits = visits0;
     loop {
-        if count <= node {
+        if node_count(nodes, render) <= node {
             return Descent::Refused(Refusal::IndexOutsideTable);
         }
         if left == 0 {
@@ -77,11 +76,10 @@ fn go_down(
             SegmentAt::Dists(w, a, b) => {
                 visits = one_more(visits);
                 left -= 1;
-                let front = a >= 0.0;
-                if front != (b >= 0.0) {
+                if (a >= 0.0) != (b >= 0.0) {
                     return Descent::Crossing(w, a, b, left, visits);
                 }
-                let word = w.on(front);
+                let word = w.on(a >= 0.0);
                 if 32768 <= word {
                     return leaf_of(leaves, render, word, visits);
                 }

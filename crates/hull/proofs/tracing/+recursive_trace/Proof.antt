@@ -77,10 +77,10 @@ module _ (t : ℕ) where
   tb c = c .before .before .before .before .args .t
 
   abbrev s : W → Vector3
-  s c = c .before .before .before .before .args .start
+  s c = c .before .before .before .before .args .p
 
   abbrev e : W → Vector3
-  e c = c .before .before .before .before .args .end
+  e c = c .before .before .before .before .args .q
 
   abbrev w : W → Words
   w c = c .w .given .0 .0
@@ -102,7 +102,7 @@ module _ (t : ℕ) where
       let l : suc (k c) ≤ c .before .before .before .before .args .left = subst (λ r. withOneMore r ≤ c .before .before .before .before .args .left) (c .w .given .1) (c .before .before .descend .ensures .falls) in
       omega (arith, l, c .before .before .before .before .pre .0)
 
-  says : (c : W) → after (n c) (crossedAt (Fast.table (f c) (tb c)) (k c) (nodeOf (tb c .table) (w c)) (s c) (e c) (a c) (b c) (planeIn (f c) (tb c) (w c .plane))) ≡ after (c .before .before .before .before .args .visits) (recursiveTrace (Fast.table (f c) (tb c)) (c .before .before .before .before .args .left) (c .before .before .before .before .args .node) (s c) (e c))
+  says : (c : W) → after (n c) (crossedAt (Fast.table (f c) (tb c)) (k c) (nodeOf (tb c .table) (w c)) (s c) (e c) (a c) (b c) (planeIn (f c) (tb c) (w c .plane))) ≡ after (c .before .before .before .before .args .n) (recursiveTrace (Fast.table (f c) (tb c)) (c .before .before .before .before .args .left) (c .before .before .before .before .args .i) (s c) (e c))
   says c = sym (ap (resumed _ _ _ _) (c .w .given .1)) ∙ c .before .before .descend .ensures .says
 
   small-n : (c : lts.After-known-told3 (claims t) (at t) self.Post) → n (c .before) < 2 ^ 64
