@@ -10,7 +10,6 @@ ghost use Rattle.walk.specs.Tracing.{recursiveTrace};
 ghost use Rattle.nodes.specs.Fast as Fast;
 ghost use Rattle.nodes.specs.Walks as Walks;
 ghost use Rattle.hull.specs.Hull.{hullTable};
-ghost use Rattle.hull.specs.Traces.{joinFar};
 ghost use Rattle.hull.specs.Answers.{tracedAnswer};
 ghost use Rattle.entered.specs.Lists as Lists;
 ghost use Rattle.entered.specs.Answers as Answers;
@@ -20,6 +19,7 @@ use format::refusal::Refusal;
 use format::section::BspData;
 use hull::collision::BspCollisionHull;
 use hull::tracing::Traced;
+use hull::tracing::join_far;
 use hull::tracing::one_more;
 use hull::tracing::stops;
 use hull::tracing::trace;
@@ -36,7 +36,6 @@ use nodes::read::read_words;
 use nodes::segment::SegmentAt;
 use nodes::table::Tables;
 use nodes::table::tables_of;
-use phys::Joined;
 use phys::Trace;
 use phys::TraceEnd;
 use phys::TraceStart;
@@ -146,7 +145,8 @@ fn write_at(list: &mut [u32], place: u64, node: u32)
     }
 }
 
-// A node's words, and how far the segment's ends are from its plane.
+// A node's words, and how far the segment's ends are from its plane. `segment_any` of `nodes` says the same: with two callers it would be a
+// call in the trace itself, and a trace through a box took a quarter longer.
 fn seen_at(s: &[u8], t: Tables, node: usize, start: Vector3, end: Vector3) -> SegmentAt
     ensures { λ r. ⌜ Walks.segmentAnswer (t .table) r ≡ Walks.madeFrom (Walks.nodeAndDists start end) (now (s .entry)) t node ⌝ }
 {
@@ -193,19 +193,6 @@ fn go_down(s: &[u8], t: Tables, node: usize, way: Way, c: Counts, list: &mut [u3
     }
 }
 
-// The near part joined with the far one. `join_far` of `hull` says the same: with two callers it would be a call in the trace itself.
-fn join_rest(near: Trace, far: Traced) -> Traced
-    ensures { λ r. ⌜ tracedAnswer r ≡ joinFar near (tracedAnswer far) ⌝ }
-{
-    match far {
-        Traced::Refused(e) => Traced::Refused(e),
-        Traced::Trace(far_trace, visits) => match near.join(far_trace) {
-            Joined::Trace(joined) => Traced::Trace(joined, visits),
-            Joined::Refused(e) => Traced::Refused(e),
-        },
-    }
-}
-
 // The part of a trace that goes on to a child, with the calls left and the nodes entered before; the nodes that it enters are written into
 // the list, as far as it goes. At most 513 calls deep: one for each of 512 nodes, and one for an end.
 fn write_onward(
@@ -235,7 +222,7 @@ fn write_onward(
                         return part;
                     }
                     let rest = write_onward(s, t, far, from_mid, below, n, list);
-                    join_rest(near_trace, rest)
+                    join_far(near_trace, rest)
                 }
             },
         },

@@ -1,12 +1,25 @@
 -- `ffi_walks::contents` meets its contract.
 -- Assumes nothing.
+use mathlib.Core.Path.{_≡_}
 use borrow.Author.Tests.{lt-ltb, le-ltb}
-use Rattle.ffi_walks.specs.Calls.{contentsWords, bspContents}
+use Rattle.format.specs.Answer.{mapped}
+use Rattle.words.specs.Words.{Written, given}
+use Rattle.ffi_hull.proofs.Walked.{long-enough}
+use Rattle.ffi_walks.specs.Calls.{contentsLength, contentsWords, bspContents}
 use Rattle.ffi_walks.specs.Private.{contentsAsked}
 use Rattle.ffi_walks.proofs.Found.{gives-found}
 use borrow.Author.Needs.{needs}
 use Rattle.ffi_walks.proofs.contents.Statement.{statement}
 use Rattle.ffi_walks.proofs.contents.Tie as tie
+
+-- where the lists are long enough
+at-lists : (x : tie.After-quick-contents) (w : Written) → let s = x .before .before .before .before .before .before .before .before .before .before .args in
+    w ≡ given (mapped contentsWords (contentsAsked (s .file .now) (s .map .now) (s .hull .now) (s .point .now))) (s .out .now)
+    → w ≡ bspContents (s .file .now) (s .map .now) (s .hull .now) (s .point .now) (s .out .now)
+unfolding bspContents
+at-lists x w =
+    let s = x .before .before .before .before .before .before .before .before .before .before .args in
+    long-enough contentsWords (s .map .now) (s .hull .now) (s .point .now) 3 contentsLength (s .out .now) (contentsAsked (s .file .now) (s .map .now) (s .hull .now) (s .point .now)) (x .before .before .before .before .if1 .left) (x .before .before .before .if2 .left) (x .before .before .if3 .left) (x .before .if4 .left) w
 
 returns : tie.Need-returns
 unfolding bspContents
@@ -37,11 +50,11 @@ same-length : tie.Need-same-length
 same-length c = search needs
 
 returns-5 : tie.Need-returns-5
-unfolding bspContents
 returns-5 c =
-    let s = c .before .before .before .before .before .before .before .before .before .before .before .before .before .before .before .before .args in
-    simp (le-ltb _ _ (c .before .before .before .before .before .before .before .before .before .before .if1 .left), le-ltb _ _ (c .before .before .before .before .before .before .before .before .before .if2 .left), le-ltb _ _ (c .before .before .before .before .before .before .before .before .if3 .left), le-ltb _ _ (c .before .before .before .before .before .before .before .if4 .left))
-    (gives-found contentsWords (contentsAsked (s .file .now) (s .map .now) (s .hull .now) (s .point .now)) (c .before .before .before .before .before .before .quick-contents .result) (c .before .before .before .before .before .before .quick-contents .ensures) (c .before .before .before .before .before .if5 .taken) (s .out .now) (c .before .before .before .before .before .before .before .if4 .left) _ (c .before .before .give .ensures))
+    let x = c .before .before .before .before .before .before in
+    let s = x .before .before .before .before .before .before .before .before .before .before .args in
+    at-lists x _
+    (gives-found contentsWords (contentsAsked (s .file .now) (s .map .now) (s .hull .now) (s .point .now)) (x .quick-contents .result) (x .quick-contents .ensures) (c .before .before .before .before .before .if5 .taken) (s .out .now) (x .before .if4 .left) _ (c .before .before .give .ensures))
 
 any-contents-requires : tie.Need-any-contents-requires
 any-contents-requires c κs = search needs
@@ -50,10 +63,7 @@ same-length-2 : tie.Need-same-length-2
 same-length-2 c = search needs
 
 returns-6 : tie.Need-returns-6
-unfolding bspContents
-returns-6 c =
-    simp (le-ltb _ _ (c .before .before .before .before .before .before .before .before .before .if1 .left), le-ltb _ _ (c .before .before .before .before .before .before .before .before .if2 .left), le-ltb _ _ (c .before .before .before .before .before .before .before .if3 .left), le-ltb _ _ (c .before .before .before .before .before .before .if4 .left))
-    (c .before .before .any-contents .ensures)
+returns-6 c = at-lists (c .before .before .before .before .before) _ (c .before .before .any-contents .ensures)
 
 pub contents-spec : {M : Type 1} → statement M
 contents-spec =

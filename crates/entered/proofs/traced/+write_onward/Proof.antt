@@ -17,7 +17,7 @@ use Rattle.entered.proofs.traced.go_down.Reads as go-down-reads
 use Rattle.entered.proofs.traced.in_leaf.Reads as in-leaf-reads
 use Rattle.entered.proofs.traced.parts_of.Reads as parts-of-reads
 use Rattle.entered.proofs.traced.whole_of.Reads as whole-of-reads
-use Rattle.entered.proofs.traced.join_rest.Reads as join-rest-reads
+use Rattle.hull.proofs.tracing.join_far.Reads as join-far-reads
 use Rattle.hull.proofs.tracing.stops.Reads as stops-reads
 use Rattle.entered.proofs.traced.+write_onward.{statement}
 use Rattle.entered.proofs.traced.+write_onward.Tie.{close}
@@ -35,7 +35,7 @@ below t = and 2 kinds.ps (falls 2 kinds.ps _<_ μ t) self.Pre
 -- what each call asks and gives
 abbrev claims : ℕ → lts.Claims
 claims t =
-    (in-leaf-reads.Asked, in-leaf-reads.Learnt, go-down-reads.Asked, go-down-reads.Learnt, whole-of-reads.Asked, whole-of-reads.Learnt, parts-of-reads.Asked, parts-of-reads.Learnt, below t, self.Post, stops-reads.Asked, stops-reads.Learnt, join-rest-reads.Asked, join-rest-reads.Learnt)
+    (in-leaf-reads.Asked, in-leaf-reads.Learnt, go-down-reads.Asked, go-down-reads.Learnt, whole-of-reads.Asked, whole-of-reads.Learnt, parts-of-reads.Asked, parts-of-reads.Learnt, below t, self.Post, stops-reads.Asked, stops-reads.Learnt, join-far-reads.Asked, join-far-reads.Learnt)
 
 module _ (t : ℕ) where
   -- a slice takes fewer than 2^63 bytes
@@ -91,7 +91,7 @@ module _ (t : ℕ) where
   same-length-6 c = c .before .before .list3 .given ∙ c .before .before .before .before .before .before .before .before .before .before .before .list2 .given ∙ c .before .before .before .before .before .before .before .before .before .before .before .before .before .before .before .before .before .before .before .before .before .before .list .given
 
   returns-7 : lts.Need-returns-7 (claims t) (at t) self.Post
-  returns-7 c = both _ _ _ _ _ _ _ _ (c .before .before .before .before .before .before .before .before .before .before .before .before .before .before .before .before .before .before .before .before .before .before .before .before .before .before .child2 .given .1) _ (c .before .before .before .before .before .before .before .before .before .before .before .before .before .before .before .before .before .before .before .before .before .before .before .go-down .result) (c .before .before .before .before .before .before .before .before .before .before .before .before .before .before .before .before .before .before .before .before .before .before .before .go-down .ensures) _ _ _ _ _ (c .before .before .before .before .before .before .before .before .before .before .before .before .before .before .before .before .before .before .before .w .given .1) (c .before .before .before .before .before .before .before .before .before .before .before .before .before .before .before .before .before .parts-of .result) (c .before .before .before .before .before .before .before .before .before .before .before .before .before .before .before .before .before .parts-of .ensures) _ _ _ _ (c .before .before .before .before .before .before .before .before .before .before .before .before .before .before .before .near .given .1) _ (c .before .before .before .before .before .before .before .before .before .before .before .before .write-onward .result) (c .before .before .before .before .before .before .before .before .before .before .before .before .write-onward .ensures) _ _ (c .before .before .before .before .before .before .before .before .part .given .1) _ (c .before .before .before .before .before .before .stops .ensures) (c .before .before .before .before .before .if1 .left) _ (c .before .before .before .write-onward2 .result) (c .before .before .before .write-onward2 .ensures) (c .join-rest .result) (c .join-rest .ensures) (shorter (c .before .before .before .before .before .before .before .before .before .before .before .before .before .before .before .before .before .before .before .before .before .before .list .given) (bytes (c .before .before .before .before .before .before .before .before .before .before .before .before .before .before .before .before .before .before .before .before .before .before .before .before .before .before .before .before)))
+  returns-7 c = both _ _ _ _ _ _ _ _ (c .before .before .before .before .before .before .before .before .before .before .before .before .before .before .before .before .before .before .before .before .before .before .before .before .before .before .child2 .given .1) _ (c .before .before .before .before .before .before .before .before .before .before .before .before .before .before .before .before .before .before .before .before .before .before .before .go-down .result) (c .before .before .before .before .before .before .before .before .before .before .before .before .before .before .before .before .before .before .before .before .before .before .before .go-down .ensures) _ _ _ _ _ (c .before .before .before .before .before .before .before .before .before .before .before .before .before .before .before .before .before .before .before .w .given .1) (c .before .before .before .before .before .before .before .before .before .before .before .before .before .before .before .before .before .parts-of .result) (c .before .before .before .before .before .before .before .before .before .before .before .before .before .before .before .before .before .parts-of .ensures) _ _ _ _ (c .before .before .before .before .before .before .before .before .before .before .before .before .before .before .before .near .given .1) _ (c .before .before .before .before .before .before .before .before .before .before .before .before .write-onward .result) (c .before .before .before .before .before .before .before .before .before .before .before .before .write-onward .ensures) _ _ (c .before .before .before .before .before .before .before .before .part .given .1) _ (c .before .before .before .before .before .before .stops .ensures) (c .before .before .before .before .before .if1 .left) _ (c .before .before .before .write-onward2 .result) (c .before .before .before .write-onward2 .ensures) (c .join-far .result) (c .join-far .ensures) (shorter (c .before .before .before .before .before .before .before .before .before .before .before .before .before .before .before .before .before .before .before .before .before .before .list .given) (bytes (c .before .before .before .before .before .before .before .before .before .before .before .before .before .before .before .before .before .before .before .before .before .before .before .before .before .before .before .before)))
 
 pub +write-onward-spec : {M : Type 1} → statement M
 +write-onward-spec =
