@@ -6,15 +6,55 @@ ghost use Rattle.format.specs.Answer.{mapped};
 ghost use Rattle.words.specs.Words.{written, left, given, numberWords};
 ghost use Rattle.points.specs.Answers.{pointsAnswer};
 ghost use Rattle.ffi_points.specs.Calls as Calls;
+ghost use Rattle.ffi_points.specs.Private as Private;
 use ffi_hull::layout;
 use hull::collision::HullAnswer;
+use math::Vector3;
+use nodes::quick::end_code;
+use nodes::quick::walk_quick;
+use nodes::table::tables_of;
 use points::many::PointsAnswer;
 use points::many::contents_at_points;
 use words::LIST_TOO_SHORT;
 use words::give;
+use words::word_at_u64;
 
 // More than 1,024 points, or coordinates not in threes.
 pub const NOT_POINTS: u32 = 24;
+
+// One point: the code of the contents times 2^32 and the visits, where the file has all nodes and planes and the walk is answered; else 0. It
+// says what `quick_contents` of `ffi_walks` says: a second caller of that would make it a call in `bsp_contents`.
+fn quick_one(file: &[u8], map: &[u32], hull: &[u64], point: &[f32]) -> u64
+    requires { ⌜ length (now point) ≡ 3 ⌝ }
+    ensures { λ r. ⌜ Private.Found (Private.asked (now (file .entry)) (now (map .entry)) (now (hull .entry)) (now (point .entry))) r ⌝ }
+{
+    let kind = word_at_u64(hull, 0);
+    if 2 <= kind {
+        return 0;
+    }
+    let drawn = kind == 0;
+    let id = word_at_u64(hull, 1) as usize;
+    let none = Vector3::new(0.0, 0.0, 0.0);
+    let table = layout::node_table(drawn);
+    let t = tables_of(layout::walked_map(map), table, none, none);
+    let n = t.nodes;
+    let m = t.planes;
+    let p = layout::first_point(point);
+    let end = walk_quick(file, n.at, n.count, m.at, m.count, drawn, id, p.x, p.y, p.z);
+    if end == 0 {
+        return 0;
+    }
+    let word = end / 4294967296;
+    if 65535 < word {
+        return 0;
+    }
+    let l = t.leaves;
+    let code = end_code(file, l.at, l.count, drawn, word as u16);
+    if code == 0 {
+        return 0;
+    }
+    (code as u64) * 4294967296 + end % 4294967296
+}
 
 fn give_reads(answer: PointsAnswer, out: &mut [u64]) -> u32
     requires { ⌜ 1 ≤ length (now out) ⌝ }
@@ -56,6 +96,13 @@ pub fn contents_points(
     }
     if list.len() < points.len() / 3 {
         return LIST_TOO_SHORT;
+    }
+    if points.len() == 3 {
+        let quick = quick_one(file, map, hull, points);
+        if 0 < quick {
+            list[0] = (quick / 4294967296) as u8;
+            return give_reads(PointsAnswer::Reads(quick % 4294967296), out);
+        }
     }
     match layout::walked_hull(hull) {
         HullAnswer::Refused(e) => e.number(),
