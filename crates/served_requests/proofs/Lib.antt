@@ -6,3 +6,6 @@ pub mod BodySizes
 pub mod SameCalls
 pub mod MadeUp
 pub mod Places
+pub mod Refusals
+-- what these rest on
+mod Orders

@@ -1,7 +1,6 @@
 -- Whole lines by the calls for C (specs/Lines.antt says it): `every-line` of line_loaded/proofs/EveryLine.antt, on the words of the calls. Assumes nothing.
 use Prim.Native.Nat.{ℕ}
 use mathlib.Core.Path.{_≡_, ap, _∙_}
-use lib.ListN.{length}
 use Rattle.format.specs.Answer.{Answer, answer, mapped, thenAnswer}
 use Rattle.hull.specs.Hull.{hullTable}
 use Rattle.hull.specs.declared.collision.BspCollisionHull.{BspCollisionHull}

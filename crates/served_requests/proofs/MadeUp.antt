@@ -6,7 +6,7 @@ use mathlib.Core.List.{List, _++_}
 use mathlib.Core.Path.{_≡_, refl, sym, ap, subst, _∙_}
 use borrow.Author.Tests.{le-ltb}
 use lib.Dec.{ltb}
-use lib.ListN.{length, take, drop}
+use lib.ListN.{length, drop}
 use Rattle.format.specs.Answer.{Answer, answer, refused, mapped}
 use Rattle.format.specs.Listed.{Listed, listed, into}
 use Rattle.format.specs.declared.section.BspData.{BspData}
@@ -15,7 +15,7 @@ use Rattle.accept.specs.Accept.{Judged, accept}
 use Rattle.made.specs.File.{madeMap, fileOf, isNodeCount, madeUp}
 use Rattle.made_loads.specs.EveryMap.{Sound, accepted}
 use Rattle.made_loads.proofs.EveryMap.{every-buffer}
-use Rattle.words.specs.Words.{Written, given, Left, left, listedIn, mapWords, mapOf}
+use Rattle.words.specs.Words.{Written, given, left, listedIn, mapWords, mapOf}
 use Rattle.ffi_load.specs.Calls.{bspLoad}
 use Rattle.ffi_accept.specs.Calls.{judgedIn, bspAccept}
 use Rattle.ffi_made.specs.Calls.{bspMadeUp}

@@ -6,3 +6,4 @@ pub mod BodySizes
 pub mod SameCalls
 pub mod MadeUp
 pub mod Places
+pub mod Refusals

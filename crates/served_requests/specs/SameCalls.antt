@@ -7,14 +7,10 @@ use mathlib.Core.Path.{_≡_}
 use lib.IntN.{ℤ}
 use lib.Ieee.{Float}
 use lib.ListN.{length, getD}
-use Rattle.format.specs.Answer.{answer}
-use Rattle.words.specs.Words.{mapOf}
-use Rattle.walk.specs.Writing.{orderNodes}
-use Rattle.ordered.specs.Same.{fileNodes}
 use Rattle.ffi_hull.specs.Layout.{hullAsked}
 use Rattle.ffi_walks.specs.Calls.{bspContents}
 use Rattle.ffi_traces.specs.Calls.{bspTrace}
-use Rattle.ffi_order.specs.Calls.{bspOrderContents, bspOrderTrace}
+use Rattle.ffi_order.specs.Calls.{bspOrder, bspOrderContents, bspOrderTrace}
 
 -- the number of a table: 0 render nodes, 1 clip nodes
 abbrev pub tableNumber : Bool → ℕ
@@ -31,9 +27,9 @@ pub record Same (s map : List ℕ) (render : Bool) (root : ℕ) (table : List �
   pub contents : (hull : List ℕ) → HullOf render root hull → (point : List Float) (out : List ℕ) → bspOrderContents s map table 0 point out ≡ bspContents s map hull point out
   pub trace : (hull : List ℕ) → HullOf render root hull → (segment : List Float) (out : List ℕ) → bspOrderTrace s map table 0 segment out ≡ bspTrace s map hull segment out
 
--- the table that `bsp_order` leaves is that of `orderNodes`
+-- where `bsp_order` answers 0, by the table that it leaves
 abbrev pub SameCalls : Type 0
 SameCalls =
-    (s map : List ℕ) (render : Bool) (root : ℕ) (marks : List ℕ) (list : List ℤ) (n : ℕ)
-    → orderNodes (fileNodes s (mapOf map) render) marks root list .answer ≡ answer n
-    → Same s map render root (orderNodes (fileNodes s (mapOf map) render) marks root list .table)
+    (s map : List ℕ) (render : Bool) (root : ℕ) (marks : List ℕ) (list : List ℤ) (out : List ℕ)
+    → bspOrder s map (tableNumber render) root marks list out .status ≡ 0
+    → Same s map render root (bspOrder s map (tableNumber render) root marks list out .table)
