@@ -1,6 +1,6 @@
 -- A walk by numbers alone says what the walk over any table says that is whole and has these numbers.
 -- Assumes nothing.
-use Prim.Native.Nat.{ℕ, zero, suc, _+_, _*_, _/_, _%_, _<_}
+use Prim.Native.Nat.{ℕ, zero, suc, _+_, _*_, _<_}
 use native.Mathlib.Omega.{arith}
 use mathlib.Core.Bool.{Bool, true, false, cond}
 use mathlib.Core.List.{List}
@@ -16,7 +16,7 @@ use Rattle.walk.specs.Table.{Child, node, end, Table, childOn}
 use Rattle.walk.specs.Walk.{Outcome, refused, Entered, entered, withVisits, ended, enter, meet, onto, walk, walkAt, pointWalk}
 use Rattle.nodes.specs.Tables.{End, fileTable}
 use Rattle.nodes.specs.Fast.{isRender, nodeSize, table}
-use Rattle.nodes.specs.Walks.{areWhole, ends, madeAt, madeFrom}
+use Rattle.nodes.specs.Walks.{areWhole, ends, madeAt}
 use Rattle.nodes.specs.Quick.{endAndVisits, orNothing, quickAnswer, quickIn, quickWalk, tablesBy}
 use Rattle.nodes.specs.declared.table.HullTable.{HullTable}
 use Rattle.nodes.specs.declared.table.Tables.{Tables}

@@ -1,12 +1,9 @@
 -- What a quick walk and the code of an end say of the tables of a map record.
 -- Assumes nothing.
 use Prim.Native.Nat.{ℕ, _-_, _/_, _%_}
-use native.Mathlib.Omega.{arith}
-use mathlib.Core.Bool.{Bool, true, false, cond}
+use mathlib.Core.Bool.{Bool, true, false}
 use mathlib.Core.List.{List}
 use mathlib.Core.Path.{_≡_, refl, sym, ap, _∙_}
-use borrow.Author.Tests.{ne-eqb}
-use lib.ListN.{length}
 use Rattle.format.specs.Answer as Ans
 use Rattle.format.specs.Answer.{Answer, answer}
 use Rattle.format.specs.Code.{contentsOf}
@@ -21,8 +18,8 @@ use Rattle.walk.specs.Walk.{withVisits, meet, pointWalk}
 use Rattle.nodes.specs.Tables.{End, fileTable}
 use Rattle.nodes.specs.Fast as Fast
 use Rattle.nodes.specs.Fast.{contentsMet, endOf, planeOfIndex, table, tablesOf}
-use Rattle.nodes.specs.Walks.{areWhole, ends}
-use Rattle.nodes.specs.Quick.{codeOr, endCode, leavesBy, orNothing, quickAnswer, quickWalk, tablesBy}
+use Rattle.nodes.specs.Walks.{ends}
+use Rattle.nodes.specs.Quick.{codeOr, endCode, leavesBy, quickAnswer, quickWalk, tablesBy}
 use Rattle.nodes.specs.declared.table.HullTable.{HullTable}
 use Rattle.nodes.specs.declared.table.Tables.{Tables}
 use Rattle.nodes.proofs.AnyTables.{by-numbers}

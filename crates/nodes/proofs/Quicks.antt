@@ -1,6 +1,6 @@
 -- Each way through a walk by the bytes of whole sections, which says nothing where the walk is refused; and the code of the contents at an end.
 -- Assumes nothing.
-use Prim.Native.Nat.{ℕ, suc, _+_, _-_, _*_, _/_, _%_, _<_, _≤_}
+use Prim.Native.Nat.{ℕ, _+_, _-_, _*_, _/_, _%_, _<_, _≤_}
 use native.Mathlib.Omega.{arith}
 use mathlib.Core.Bool.{Bool, true, false, not, cond}
 use mathlib.Core.List.{List}
@@ -12,7 +12,6 @@ use Rattle.format.specs.Answer as Ans
 use Rattle.format.specs.Answer.{Answer, answer, thenAnswer}
 use Rattle.format.specs.Answers.{placeAnswer}
 use Rattle.format.specs.Code.{contentsOf}
-use Rattle.format.specs.Refusal.{numberOf}
 use Rattle.format.specs.declared.code.CodedContents.{CodedContents}
 use Rattle.format.specs.declared.code.CodedContents.the-variants.{Contents, Invalid}
 use Rattle.format.specs.declared.contents.BspLeafContents.{BspLeafContents}
@@ -20,10 +19,10 @@ use Rattle.format.specs.declared.refusal.Refusal.{Refusal}
 use Rattle.format.specs.declared.section.Place.{Place}
 use Rattle.format.specs.declared.section.Place.the-variants as P
 use Rattle.math.specs.declared.vector.Vector3.{Vector3}
-use Rattle.walk.specs.Walk.{withVisits, meet, walk, pointWalk}
+use Rattle.walk.specs.Walk.{withVisits, meet, walk}
 use Rattle.walk.specs.Private.{after}
 use Rattle.walk.proofs.Steps.{walk-outside, walk-spent}
-use Rattle.nodes.specs.Tables.{End, fileTable}
+use Rattle.nodes.specs.Tables.{fileTable}
 use Rattle.nodes.specs.Fast.{coded, endOf, isRender, leafContentsHere, nodeSize, placeIn, table, contentsMet}
 use Rattle.nodes.specs.Walks.{areWhole, ends, childToward, madeFrom, MadeIn, nodeBytes, onwardAnswer, planeBytes}
 use Rattle.nodes.specs.Quick.{codeOr, endCode, leavesBy, orNothing, partWith, quickAnswer, quickIn, QuickIn, quickWalk, said, tablesBy, Whole, wordContents}

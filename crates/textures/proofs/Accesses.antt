@@ -1,13 +1,12 @@
 -- The ways through the accessors of textures.
 -- Assumes nothing.
-use Prim.Native.Nat.{ℕ, _+_, _*_, _-_, _%_, _<_, _≤_}
-use mathlib.Core.Path.{_≡_, refl, sym, _∙_, subst}
+use Prim.Native.Nat.{ℕ, _-_, _<_, _≤_}
+use mathlib.Core.Path.{_≡_, refl, sym, _∙_}
 use mathlib.Core.Bool.{Bool, true, false, _&&_, cond}
 use mathlib.Core.List.{List}
 use native.Mathlib.Omega.{arith}
-use borrow.Author.Tests.{ne-eqb, lt-ltb, le-ltb, leb-true, le-leb, lt-leb}
+use borrow.Author.Tests.{ne-eqb, le-ltb, leb-true, le-leb, lt-leb}
 use lib.Dec.{eqb, ltb}
-use lib.ListN.{getD, take, drop}
 use Rattle.format.specs.Answer as Answer
 use Rattle.format.specs.Answer.{Answer, answer, refused, thenAnswer}
 use Rattle.format.specs.Refusal.{numberOf}

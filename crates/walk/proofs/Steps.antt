@@ -50,10 +50,6 @@ module _ {E A : Type 0} (T : Table E A) where
   enter-unread i n r = rw r
 
   module _ (i : ℕ) (nd : Node E) (r : T .nodes .nodeAt i ≡ answer nd) where
-    pub enter-no-plane : (n : ℕ) → nd .plane < T .nodes .planes → T .planeAt (nd .plane) ≡ Ans.refused n → enter T i ≡ Ans.refused n
-    unfolding enter
-    enter-no-plane n h q = rw (r, lt-ltb _ _ h, q)
-
     pub enter-is : (h : Hyperplane) → nd .plane < T .nodes .planes → T .planeAt (nd .plane) ≡ answer h → enter T i ≡ answer (record { nd = nd; plane = h })
     unfolding enter
     enter-is pl h q = rw (r, lt-ltb _ _ h, q)

@@ -1,7 +1,7 @@
 -- `walk_whole` meets its contract. The loop's invariant: the walk from the root on is the walk from the present node, which may enter as many
 -- nodes as are left.
 -- Assumes nothing.
-use Prim.Native.Nat.{_*_, _/_, _-_, _<_, _≤_}
+use Prim.Native.Nat.{_/_, _-_, _<_, _≤_}
 use native.Mathlib.Omega.{arith}
 use denote.Ref.{now}
 use lib.ListN.{length}
