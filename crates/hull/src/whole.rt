@@ -1,8 +1,6 @@
 // The trace of a segment where the file has all nodes, planes and leaves, by the bytes of their sections: what `recursive_trace` of
 // `tracing` does record by record.
 ghost use mathlib.Core.Path.{_≡_};
-ghost use Prim.Native.Nat.{_/_};
-ghost use lib.ListN.{length};
 ghost use Rattle.nodes.specs.Fast as Fast;
 ghost use Rattle.nodes.specs.Owned.{endAmong};
 ghost use Rattle.hull.specs.Traces as Traces;
@@ -26,16 +24,7 @@ use nodes::lines::point_of;
 use nodes::read::EndContents;
 use nodes::segment::SegmentAt;
 use nodes::segment::segment_in;
-
-// How many nodes the bytes have.
-fn node_count(nodes: &[u8], render: bool) -> usize
-    ensures { λ r. ⌜ r ≡ length (now (nodes .entry)) / Fast.nodeSize render ⌝ }
-{
-    if render {
-        return nodes.len() / 24;
-    }
-    nodes.len() / 8
-}
+use nodes::whole::node_count;
 
 // The way down comes to the end of a word.
 fn leaf_of(leaves: &[u8], render: bool, word: u16, visits: u64) -> Descent

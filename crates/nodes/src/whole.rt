@@ -72,7 +72,7 @@ pub fn plane_bytes(s: &[u8], t: Tables, whole: bool) -> &[u8]
 }
 
 // How many nodes the bytes have.
-pub(crate) fn node_count(nodes: &[u8], render: bool) -> usize
+pub fn node_count(nodes: &[u8], render: bool) -> usize
     ensures { λ r. ⌜ r ≡ length (now (nodes .entry)) / Fast.nodeSize render ⌝ }
 {
     if render {
