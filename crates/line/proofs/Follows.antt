@@ -1,11 +1,11 @@
 -- The whole line in one loop: what a node says to a part and to a look, and what becomes of the planes that wait. Assumes nothing.
-use Prim.Native.Nat.{ℕ, zero, suc, _+_, _-_, _*_, _<_, _≤_}
+use Prim.Native.Nat.{ℕ, zero, suc, _+_, _-_, _*_, _/_, _%_, _<_, _≤_}
 use native.Mathlib.Omega.{arith}
 use mathlib.Core.Path.{_≡_, refl, sym, ap, subst, _∙_}
 use mathlib.Core.Bool.{Bool, true, false, cond, not, _&&_, Bool·beq}
 use mathlib.Core.Logic.{_⊎_, inl, inr}
 use mathlib.Core.List.{List, [], _∷_}
-use borrow.Author.Tests.{leb-false}
+use borrow.Author.Tests.{leb-false, lt-ltb, le-ltb}
 use lib.Dec.{leb, ltb}
 use lib.Ieee as Ieee
 use lib.Ieee.{Float, binary32}
@@ -26,7 +26,12 @@ use Rattle.math.specs.declared.plane.HyperplaneSide.{HyperplaneSide}
 use Rattle.walk.specs.Table.{Child, node, end, Node, Table, childOn}
 use Rattle.walk.specs.Walk.{Entered, enter, meet, withNode}
 use Rattle.nodes.specs.Tables.{End, isBox}
-use Rattle.nodes.specs.Fast.{childOf, endOf, nodeOf, wordOn, planeIn, placeIn, nodeIn, nodeAt, nodeSize, isRender, renderNodeHere, clipNodeHere, contentsMet}
+use Rattle.records.specs.Answers.{planeAnswer}
+use Rattle.records.specs.declared.plane.PlaneAnswer.{PlaneAnswer}
+use Rattle.records.specs.declared.plane.PlaneAnswer.the-variants as P
+use Rattle.nodes.specs.declared.read.EndContents.{EndContents}
+use Rattle.nodes.specs.declared.read.EndContents.the-variants as E
+use Rattle.nodes.specs.Fast.{endAnswer, childOf, endOf, nodeOf, wordOn, planeIn, placeIn, nodeIn, nodeAt, nodeSize, isRender, renderNodeHere, clipNodeHere, contentsMet}
 use Rattle.nodes.specs.Fast as Fast
 use Rattle.nodes.specs.Walks.{Read, MadeOf, madeFrom, childByDistance, nodeAndDists, segmentAnswer, areWhole, isWhole}
 use Rattle.nodes.specs.declared.table.HullTable.{HullTable}
@@ -37,11 +42,12 @@ use Rattle.nodes.specs.declared.read.Words.{Words as WordsT}
 use Rattle.nodes.specs.declared.segment.SegmentAt.{SegmentAt}
 use Rattle.nodes.specs.declared.segment.SegmentAt.the-variants as G
 use Rattle.nodes.proofs.Entering.{child-is, child-end}
-use Rattle.line.specs.Line.{Went, onward, stopped, refused, stretch, unset, nearPart, farPart, pointAt, crossing, into, tenth, contentsOn, contentsAt, contentsFrom, backedOff, backOff, intoLeaf, onChild, blocked, beyond, past, lineFrom}
-use Rattle.line.specs.Private.{Crossed, Reaches, Resumes, Blocks, Follows, wordWent, wordLook, pastWaiting, nearSide, farSide, standWent, Turned, Arrives, allWent}
+use Rattle.line.specs.Line.{fractionAt, planeFrom, withPlane, Went, onward, stopped, refused, stretch, unset, nearPart, farPart, pointAt, crossing, into, tenth, contentsOn, contentsAt, contentsFrom, backedOff, backOff, intoLeaf, onChild, blocked, beyond, past, lineFrom}
+use Rattle.line.specs.Private.{Cut, Keeps, Kept, fromFront, Stops, ended, Crossed, Reaches, Resumes, Blocks, Follows, wordWent, wordLook, pastWaiting, nearSide, farSide, beyondIt, beyondNext, standWent, Turned, Arrives, allWent}
 use Rattle.line.specs.declared.contents.Ground.{Ground}
 use Rattle.line.specs.declared.state.Stretch.{Stretch}
 use Rattle.line.specs.declared.state.LineTrace.{LineTrace}
+use Rattle.line.specs.declared.state.LinePlane.{LinePlane}
 use Rattle.line.specs.declared.through.Waiting.{Waiting}
 use Rattle.line.specs.declared.through.Stand.{Stand}
 use Rattle.line.specs.declared.through.Reached.{Reached}
@@ -50,10 +56,13 @@ use Rattle.line.specs.declared.through.Turn.{Turn}
 use Rattle.line.specs.declared.through.Turn.the-variants as U
 use Rattle.line.specs.declared.through.Came.{Came}
 use Rattle.line.specs.declared.through.Came.the-variants as C
+use Rattle.line.specs.declared.tracing.Stop.{Stop}
+use Rattle.line.specs.declared.tracing.Stop.the-variants as S
 use Rattle.line.proofs.States.{pick-true, pick-false}
 use Rattle.line.proofs.Seen.{Made, Opened, opened, note-read}
 use Rattle.line.proofs.Looks.{look-outside, look-step, word-node, word-end, goes, to-node, to-end}
-use Rattle.line.proofs.Lines.{goes-on, on-child, crosses-here, other-side}
+use Rattle.line.proofs.Lines.{goes-on, on-child, crosses-here, other-side, blocked-by, blocked-plane}
+use Rattle.line.proofs.Backs.{back-open}
 
 -- ---- a node of a whole table
 
@@ -185,17 +194,17 @@ module _ (f : List ℕ) (t : Tables) (root : ℕ) where
   abbrev T : Table End BspLeafContents
   T = Fast.table f t
 
-  passes : (x : Waiting) (h : Hyperplane) (w : Went) → Settled w → pastWaiting f t root x h w ≡ w
+  passes : (x : Cut) (h : Hyperplane) (w : Went) → Settled w → pastWaiting f t root x h w ≡ w
   passes x h (onward l) u = absurd u
   passes x h (stopped l) u = refl
   passes x h (refused n) u = refl
 
-  resume-ends : (xs : List Waiting) (w all : Went) → Settled w → Resumes f t root xs w all → w ≡ all
+  resume-ends : (xs : List Cut) (w all : Went) → Settled w → Resumes f t root xs w all → w ≡ all
   resume-ends [] w all u r = r
   resume-ends (x ∷ xs) w all u r = resume-ends xs w all u (subst (λ (y : Went). Resumes f t root xs y all) (passes x (r .1 .0) w u) (r .1 .1 .1))
 
   -- the near side of the first was traced: on to its far side
-  module _ (x : Waiting) (xs : List Waiting) (l : LineTrace) (all : Went) (r : Resumes f t root (x ∷ xs) (onward l) all) where
+  module _ (x : Cut) (xs : List Cut) (l : LineTrace) (all : Went) (r : Resumes f t root (x ∷ xs) (onward l) all) where
     abbrev h : Hyperplane
     h = r .1 .0
 
@@ -230,7 +239,7 @@ module _ (f : List ℕ) (t : Tables) (root : ℕ) where
 
   -- ---- the line stands at a child
 
-  module _ (xs : List Waiting) (left : ℕ) (s : Stretch) (word : ℕ) (l : LineTrace) (x : Waiting) (looked : Bool) (all : Went) (F : Follows f t root xs left s word l x looked all) where
+  module _ (xs : List Cut) (left : ℕ) (s : Stretch) (word : ℕ) (l : LineTrace) (x : Cut) (looked : Bool) (all : Went) (F : Follows f t root xs left s word l x looked all) where
     -- an end
     module _ (far : 32768 ≤ word) (c : BspLeafContents) (is-c : answer c ≡ contentsMet f t word) where
       met : meet T (endOf (t .table) word) ≡ answer c
@@ -268,7 +277,7 @@ module _ (f : List ℕ) (t : Tables) (root : ℕ) where
           (k .0, λ z. subst (λ (y : Went). Resumes f t root xs y all) (at-node ∙ sym (N .1 root l) ∙ sym (ap (λ (y : Child End). onChild T (λ n s l. lineFrom T root left n s l) y s l) (word-end (t .table) to (N .0)))) (k .1 z))
 
       module _ (most : left ≤ 512) (w : WordsT) (a b : Float) (below : ℕ) (N : Crossed f t word left s w a b below × (wordLook f t below (wordOn w (Ieee.le zero32 a)) (s .start) ≡ contentsFrom T left word (s .start))) where
-        pub reach-plane : (k : Float) → k ≡ crossing a b → (y : Waiting) → y ≡ record { w = w; left = below; a = a; k = k; part = s } → (part : Stretch) → part ≡ nearPart s k → (to : ℕ) → to ≡ wordOn w (Ieee.le zero32 a)
+        pub reach-plane : (k : Float) → k ≡ crossing a b → (y : Cut) → y ≡ record { w = w; left = below; a = a; k = k; part = s } → (part : Stretch) → part ≡ nearPart s k → (to : ℕ) → to ≡ wordOn w (Ieee.le zero32 a)
             → Follows f t root (y ∷ xs) below part to l x looked all
         reach-plane k is-k y is-y part is-part to is-to =
             rw (is-y, is-part, is-to) (λ c e.
@@ -308,35 +317,157 @@ module _ (f : List ℕ) (t : Tables) (i k : ℕ) (s : Stretch) (r : Reached) (is
 pub turned : (f : List ℕ) (t : Tables) (at : Stand) (l : LineTrace) (looked : Bool) (r : Turn) → Turned f t at l looked r → (u : Turn) → r ≡ u → Turned f t at l looked u
 turned f t at l looked r is-r u e = subst (Turned f t at l looked) e is-r
 
-abbrev moved : Waiting → Stretch → Waiting
-moved y p = record { w = y .w; left = y .left; a = y .a; k = y .k; part = p }
+-- the planes that wait, as they are kept
+abbrev KeptAll : List Cut → List Waiting → Type 0
+KeptAll [] [] = Unit {0}
+KeptAll [] (y ∷ ys) = ⊥
+KeptAll (x ∷ xs) [] = ⊥
+KeptAll (x ∷ xs) (y ∷ ys) = Kept x y × KeptAll xs ys
 
-module _ (f : List ℕ) (t : Tables) (root : ℕ) (stack : List Waiting) (n : ℕ) (l : LineTrace) (all : Went) where
-  -- a plane is put before the others, and the line goes on before it
-  pub push : (at : Stand) (x : Waiting) (looked : Bool) → Follows f t root (drop n stack) (at .left) (at .part) (at .word) l x looked all → at .left ≤ 512 → 0 < n → n ≤ length stack
-      → (y : Waiting) → Turned f t at l looked (U.Crossing y) → (next : Stand) → next ≡ nearSide y
-      → (next .left ≤ 512) × Follows f t root (drop (n - 1) (set stack (n - 1) y)) (next .left) (next .part) (next .word) l x looked all
-  push at x looked F most more room y Y next is-next =
-      rw is-next (
-        omega (arith, Y .2 .1 .1 .0 .falls, most),
-        subst (λ (xs : List Waiting). Follows f t root xs (y .left) (nearPart (y .part) (y .k)) (wordOn (y .w) (Ieee.le zero32 (y .a))) l x looked all) (sym (pushed stack n y more room))
-            (reach-plane f t root (drop n stack) (at .left) (at .part) (at .word) l x looked all F (Y .0) most (y .w) (y .a) (Y .2 .0) (y .left) (Y .2 .1 .1) (y .k) (Y .2 .1 .0) y (ap (moved y) (Y .1)) _ (ap (λ (p : Stretch). nearPart p (y .k)) (Y .1)) _ refl),
-      )
+-- the fraction and the point at which the line ends before all planes that wait; s is the whole line
+abbrev fractionTo : Stretch → List Cut → Float
+fractionTo s [] = s .to
+fractionTo s (x ∷ xs) = fractionAt (x .part) (x .k)
 
-  -- the first is taken, and the line goes on beyond it
-  pub pop : (d : Waiting) → Resumes f t root (drop n stack) (onward l) all → n < length stack → (next : Stand) → next ≡ farSide (getD stack n d)
-      → (next .left ≤ 512) × Follows f t root (drop (n + 1) stack) (next .left) (next .part) (next .word) l (getD stack n d) true all
-  pop d r h next is-next =
-      let q = subst (λ (xs : List Waiting). Resumes f t root xs (onward l) all) (popped stack n d h) r in
-      rw is-next (q .0, resumes f t root (getD stack n d) (drop (n + 1) stack) l all q _ refl _ refl)
+abbrev pointTo : Stretch → List Cut → Vector3
+pointTo s [] = s .end
+pointTo s (x ∷ xs) = pointAt (x .part) (x .k)
 
-  -- none waits
-  pub last : Resumes f t root (drop n stack) (onward l) all → length stack ≤ n → onward l ≡ all
-  last r h = subst (λ (xs : List Waiting). Resumes f t root xs (onward l) all) (none-waits stack n h) r
+-- each part that a plane cuts ends where the next plane is crossed
+abbrev Chain : Stretch → List Cut → Type 0
+Chain s [] = Unit {0}
+Chain s (x ∷ xs) = (x .part .to ≡ fractionTo s xs) × (x .part .end ≡ pointTo s xs) × Chain s xs
+
+-- beyond the plane x, which is kept as z, it is the far part of what x cuts
+far-is : (whole : Stretch) (x : Cut) (z : Waiting) → Kept x z → (xs : List Cut) (ys : List Waiting) → KeptAll xs ys → x .part .to ≡ fractionTo whole xs → x .part .end ≡ pointTo whole xs
+    → beyondIt z ys whole ≡ record { word = wordOn (x .w) (not (Ieee.le zero32 (x .a))); left = x .left; part = farPart (x .part) (x .k) }
+far-is whole x z K [] [] k to-is end-is = rw (K .word-is, K .left-is, K .at-is, K .point-is, to-is, end-is)
+far-is whole x z K [] (y ∷ ys) k to-is end-is = absurd k
+far-is whole x z K (w ∷ xs) [] k to-is end-is = absurd k
+far-is whole x z K (w ∷ xs) (y ∷ ys) k to-is end-is = rw (K .word-is, K .left-is, K .at-is, K .point-is, k .0 .at-is, k .0 .point-is, to-is, end-is)
+
+-- the line stands at a child, and the planes that are kept in ys wait; y: the plane that was passed last, if any was
+pub record Standing (f : List ℕ) (t : Tables) (root : ℕ) (whole : Stretch) (ys : List Waiting) (at : Stand) (l : LineTrace) (y : Waiting) (looked : Bool) (all : Went) : Type 0 where
+  pub xs : List Cut
+  pub its-planes : KeptAll xs ys
+  pub chain : Chain whole xs
+  pub to-is : at .part .to ≡ fractionTo whole xs
+  pub end-is : at .part .end ≡ pointTo whole xs
+  pub x : Cut
+  pub passed : looked ≡ true → Kept x y
+  pub follows : Follows f t root xs (at .left) (at .part) (at .word) l x looked all
+
+looked-at : (looked b : Bool) → looked && b ≡ true → looked ≡ true
+looked-at true b e = refl
+looked-at false b e = e
+
+module _ (f : List ℕ) (t : Tables) (root : ℕ) (whole : Stretch) where
+  -- an end is come to
+  pub to-an-end : (ys : List Waiting) (at : Stand) (l : LineTrace) (y : Waiting) (looked : Bool) (all : Went) → Standing f t root whole ys at l y looked all → (w : ℕ) → Turned f t at l looked (U.End w)
+      → Standing f t root whole ys (record { word = w; left = at .left; part = at .part }) l y looked all
+  to-an-end ys at l y looked all S w T =
+      record {
+        xs = S .xs;
+        its-planes = S .its-planes;
+        chain = S .chain;
+        to-is = S .to-is;
+        end-is = S .end-is;
+        x = S .x;
+        passed = S .passed;
+        follows = reach-end f t root (S .xs) (at .left) (at .part) (at .word) l (S .x) looked all (S .follows) (T .0) w (T .1);
+      }
+
+  -- the line is blocked
+  pub is-stopped : (ys : List Waiting) (at : Stand) (l : LineTrace) (y : Waiting) (looked : Bool) (all : Went) → Standing f t root whole ys at l y looked all → Turned f t at l looked U.Blocked
+      → (x : Cut) × (Kept x y × Blocks f t root x l all)
+  is-stopped ys at l y looked all S T =
+      (S .x, (S .passed (looked-at looked _ (T .1 .1 .1)), end-blocks f t root (S .xs) (at .left) (at .part) (at .word) l (S .x) looked all (S .follows) (T .0) (T .1 .0) (T .1 .1 .0) (T .1 .1 .1)))
+
+  -- a leaf is traced into
+  goes-into : (ys : List Waiting) (at : Stand) (l : LineTrace) (y : Waiting) (looked : Bool) (all : Went) → (S : Standing f t root whole ys at l y looked all) → (m : LineTrace) → Turned f t at l looked (U.Into m)
+      → Resumes f t root (S .xs) (onward m) all
+  goes-into ys at l y looked all S m T = end-goes f t root (S .xs) (at .left) (at .part) (at .word) l (S .x) looked all (S .follows) (T .0) (T .1 .0) (T .1 .1 .0) (T .1 .1 .1) m (T .1 .1 .2)
+
+  module _ (stack : List Waiting) (n : ℕ) (at : Stand) (l : LineTrace) (y : Waiting) (looked : Bool) (all : Went) (S : Standing f t root whole (drop n stack) at l y looked all) where
+    -- a plane is put before the others, and the line goes on before it
+    pub push : at .left ≤ 512 → 0 < n → n ≤ length stack → (w : WordsT) (front : Bool) (left : ℕ) (near : Stretch) → Turned f t at l looked (U.Crossing w front left near) → (z : Waiting) → Keeps w front left near z
+        → (next : Stand) → next ≡ nearSide w front left near → (next .left ≤ 512) × Standing f t root whole (drop (n - 1) (set stack (n - 1) z)) next l y looked all
+    push most more room w front left near T z Z next is-next =
+        let a = T .1 .0 in
+        let b = T .1 .1 .0 in
+        let k = crossing a b in
+        let cut : Cut = record { w = w; left = left; a = a; k = k; part = at .part } in
+        let in-front = T .1 .1 .1 .0 in
+        let is-near = T .1 .1 .1 .1 in
+        let here : Kept cut z = subst (λ (s : Stretch). Keeps w (Ieee.le zero32 a) left s z) is-near (subst (λ (c : Bool). Keeps w c left near z) in-front Z) in (
+          subst (λ (s : Stand). s .left ≤ 512) (sym is-next) (omega (arith, T .1 .1 .1 .2 .0 .falls, most)),
+          record {
+            xs = cut ∷ S .xs;
+            its-planes = subst (KeptAll (cut ∷ S .xs)) (sym (pushed stack n z more room)) (here, S .its-planes);
+            chain = (S .to-is, S .end-is, S .chain);
+            to-is = ap (λ (s : Stand). s .part .to) is-next ∙ ap (λ (s : Stretch). s .to) is-near;
+            end-is = ap (λ (s : Stand). s .part .end) is-next ∙ ap (λ (s : Stretch). s .end) is-near;
+            x = S .x;
+            passed = S .passed;
+            follows =
+                subst (λ (s : Stand). Follows f t root (cut ∷ S .xs) (s .left) (s .part) (s .word) l (S .x) looked all) (sym is-next)
+                (reach-plane f t root (S .xs) (at .left) (at .part) (at .word) l (S .x) looked all (S .follows) (T .0) most w a b left (T .1 .1 .1 .2) k refl cut refl near is-near (wordOn w front) (ap (wordOn w) in-front));
+          },
+        )
+
+    -- none waits
+    pub last : (m : LineTrace) → Turned f t at l looked (U.Into m) → length stack ≤ n → onward m ≡ all
+    last m T h = by (S .xs) (subst (KeptAll (S .xs)) (none-waits stack n h) (S .its-planes)) (goes-into (drop n stack) at l y looked all S m T)
+      where
+        by : (xs : List Cut) → KeptAll xs [] → Resumes f t root xs (onward m) all → onward m ≡ all
+        by [] k r = r
+        by (x ∷ xs) k r = absurd k
+
+    -- the first is taken, and the line goes on beyond it
+    module _ (m : LineTrace) (T : Turned f t at l looked (U.Into m)) (d : Waiting) (h : n < length stack) where
+      past-it : (rest : List Waiting) (z : Waiting) (xs : List Cut) → KeptAll xs (z ∷ rest) → Chain whole xs → Resumes f t root xs (onward m) all
+          → (next : Stand) → next ≡ beyondIt z rest whole → (next .left ≤ 512) × Standing f t root whole rest next m z true all
+      past-it rest z [] k c r next is-next = absurd k
+      past-it rest z (x ∷ xs) k c r next is-next =
+          subst (λ (s : Stand). (s .left ≤ 512) × Standing f t root whole rest s m z true all) (sym (is-next ∙ far-is whole x z (k .0) xs rest (k .1) (c .0) (c .1))) (
+            r .0,
+            record {
+              xs = xs;
+              its-planes = k .1;
+              chain = c .2;
+              to-is = c .0;
+              end-is = c .1;
+              x = x;
+              passed = λ e. k .0;
+              follows = resumes f t root x xs m all r _ refl _ refl;
+            },
+          )
+
+      pub pop : (next : Stand) → next ≡ beyondIt (getD stack n d) (drop (n + 1) stack) whole → (next .left ≤ 512) × Standing f t root whole (drop (n + 1) stack) next m (getD stack n d) true all
+      pop next is-next =
+          past-it (drop (n + 1) stack) (getD stack n d) (S .xs) (subst (KeptAll (S .xs)) (popped stack n d h) (S .its-planes)) (S .chain) (goes-into (drop n stack) at l y looked all S m T) next is-next
+
+-- what `beyond` finds in the list
+pub next-in : (x : Waiting) (whole : Stretch) (stack : List Waiting) → length stack ≡ 10 → (n i : ℕ) (d : Waiting) → i ≡ cond (ltb n 10) n 9 → beyondNext x (getD stack i d) n whole ≡ beyondIt x (drop n stack) whole
+next-in x whole stack e n i d is-i = by (order n 10)
+  where
+    by : (n < 10) ⊎ (10 ≤ n) → beyondNext x (getD stack i d) n whole ≡ beyondIt x (drop n stack) whole
+    by (inl h) = rw (is-i, lt-ltb n 10 h) (ap (λ (ys : List Waiting). beyondIt x ys whole) (sym (popped stack n d (omega (arith, e, h)))))
+    by (inr h) = rw (le-ltb n 10 h) (ap (λ (ys : List Waiting). beyondIt x ys whole) (sym (none-waits stack n (omega (arith, e, h)))))
 
 -- before anything is met
-pub starts : (f : List ℕ) (t : Tables) (root left : ℕ) (s : Stretch) (word : ℕ) (l : LineTrace) (x : Waiting) → Follows f t root [] left s word l x false (wordWent f t root left word s l)
-starts f t root left s word l x c e = ((λ z. let y : _≡_ {A = ℕ} 0 1 = cc in absurd (omega arith)), λ z. refl)
+pub starts : (f : List ℕ) (t : Tables) (root : ℕ) (at : Stand) (l : LineTrace) (y : Waiting) → Standing f t root (at .part) [] at l y false (wordWent f t root (at .left) (at .word) (at .part) l)
+starts f t root at l y =
+    record {
+      xs = [];
+      its-planes = tt;
+      chain = tt;
+      to-is = refl;
+      end-is = refl;
+      x = record { w = record { plane = 0; both = 0 }; left = 0; a = zero32; k = zero32; part = at .part };
+      passed = λ e. let z : _≡_ {A = ℕ} 0 1 = cc in absurd (omega arith);
+      follows = λ c e. ((λ z. let y : _≡_ {A = ℕ} 0 1 = cc in absurd (omega arith)), λ z. refl);
+    }
 
 -- from the root
 from-root : (f : List ℕ) (g : Ground) (s : Stretch) (l : LineTrace) → g .root < 32768 → wordWent f (g .t) (g .root) 512 (g .root) s l ≡ lineFrom (Fast.table f (g .t)) (g .root) 512 (g .root) s l
@@ -350,7 +481,20 @@ module _ (f : List ℕ) (g : Ground) (p q : Vector3) (l : LineTrace) (is-l : l �
   pub came-through : (m : LineTrace) → r ≡ C.Through m → onward m ≡ allWent f g p q
   came-through m e = subst (Arrives f g (record { word = g .root; left = 512; part = stretch zero32 one32 p q }) l) e is-r ∙ whole-line
 
-  pub came-blocked : (x : Waiting) (m : LineTrace) → r ≡ C.Blocked x m
-      → (w : Went) → ((h : Hyperplane) → planeIn f (g .t) (x .w .plane) ≡ answer h → w ≡ blocked (Fast.table f (g .t)) (g .root) h (Pl.fromDist (x .a)) (x .part) (x .k) m) → w ≡ allWent f g p q
-  came-blocked x m e w says =
-      let b = subst (Arrives f g (record { word = g .root; left = 512; part = stretch zero32 one32 p q }) l) e is-r in says (b .0) (b .1 .0) ∙ b .1 .1 ∙ whole-line
+  pub came-blocked : (y : Waiting) (m : LineTrace) → r ≡ C.Blocked y m → (u : Stop) → Stops f g y m u → (n : LineTrace) → u ≡ S.At n → stopped n ≡ allWent f g p q
+  came-blocked y m e u U n is-n =
+      let b = subst (Arrives f g (record { word = g .root; left = 512; part = stretch zero32 one32 p q }) l) e is-r in
+      subst (Stops f g y m) is-n U (b .0) (b .1 .0) (b .1 .1 .0) (b .1 .1 .1 .0) ∙ b .1 .1 .1 .1 ∙ whole-line
+
+-- ---- where a line that is blocked stops
+
+module _ (f : List ℕ) (g : Ground) (y : Waiting) (l : LineTrace) (x : Cut) (K : Kept x y) (h : Hyperplane) (is-h : planeIn f (g .t) (x .w .plane) ≡ answer h) where
+  pub stops-there : l .«all_solid» ≡ false → (p : PlaneAnswer) → planeAnswer p ≡ planeIn f (g .t) (y .plane) → (i : Hyperplane) → p ≡ P.Value i
+      → (a : EndContents) → endAnswer a ≡ contentsFrom (Fast.table f (g .t)) 512 (g .root) (y .point) → (c : BspLeafContents) → a ≡ E.Contents c → Contents.equal c Solid ≡ false
+      → (front : Bool) → front ≡ fromFront y → (lp : LinePlane) → lp ≡ planeFrom (Pl.sideIf front) i → (m : LineTrace) → m ≡ withPlane lp l → (n : LineTrace) → n ≡ ended (y .at) (y .point) m
+      → stopped n ≡ blocked (Fast.table f (g .t)) (g .root) h (Pl.fromDist (x .a)) (x .part) (x .k) l
+  stops-there free p is-p i is-i a is-a c is-c z front is-front lp is-lp m is-m n is-n =
+      ap stopped (is-n ∙ rw (K .at-is, K .point-is))
+      ∙ back-open (Fast.table f (g .t)) (g .root) (x .part) m 10 (x .k) (omega arith) (y .point) (K .point-is) a is-a c is-c z
+      ∙ blocked-by (Fast.table f (g .t)) (g .root) (Pl.fromDist (x .a)) (x .part) (x .k) l h free i
+      (blocked-plane f (g .t) (y .plane) h p is-p (ap (planeIn f (g .t)) (K .plane-is) ∙ is-h) i is-i) lp (is-lp ∙ ap (λ (b : Bool). planeFrom (Pl.sideIf b) i) (is-front ∙ K .side-is)) m is-m

@@ -1,6 +1,6 @@
 -- For the contracts of functions that no other crate can name; a reader of the calls may leave this file out.
 -- What the parts of the whole-line trace answer, in the terms of Line.antt.
-use Prim.Native.Nat.{ℕ, suc, _<_, _≤_}
+use Prim.Native.Nat.{ℕ, suc, _/_, _%_, _<_, _≤_}
 use mathlib.Core.Path.{_≡_}
 use mathlib.Core.Bool.{cond, true, false, Bool, not, _&&_}
 use mathlib.Core.List.{List, [], _∷_}
@@ -22,9 +22,10 @@ use Rattle.walk.specs.Table.{Child, childOn}
 use Rattle.nodes.specs.Tables.{End}
 use Rattle.nodes.specs.Walks.{madeFrom, Read}
 use Rattle.nodes.specs.Fast as Fast
+use Rattle.nodes.specs.Fast.{wordOn}
 use Rattle.nodes.specs.declared.table.Tables.{Tables}
 use Rattle.nodes.specs.declared.read.Words.{Words}
-use Rattle.line.specs.Line.{Went, onward, stopped, refused, stretch, unset, lineFrom, across, into, intoLeaf, contentsOn, contentsFrom, contentsBelow, onChild, pointAt, crossing, nearPart, farPart, beyond, blocked, past}
+use Rattle.line.specs.Line.{lineTrace, Went, onward, stopped, refused, stretch, unset, lineFrom, across, into, intoLeaf, contentsOn, contentsFrom, contentsBelow, onChild, pointAt, crossing, nearPart, farPart, beyond, blocked, past}
 use Rattle.line.specs.declared.tracing.Going.{Going}
 use Rattle.line.specs.declared.tracing.Going.the-variants as G
 use Rattle.line.specs.declared.contents.Ground.{Ground}
@@ -34,6 +35,8 @@ use Rattle.line.specs.declared.tracing.Descent.{Descent}
 use Rattle.line.specs.declared.tracing.Descent.the-variants as D
 use Rattle.line.specs.declared.tracing.Far.{Far}
 use Rattle.line.specs.declared.tracing.Far.the-variants as F
+use Rattle.line.specs.declared.tracing.Stop.{Stop}
+use Rattle.line.specs.declared.tracing.Stop.the-variants as S
 use Rattle.line.specs.declared.through.Waiting.{Waiting}
 use Rattle.line.specs.declared.through.Stand.{Stand}
 use Rattle.line.specs.declared.through.Reached.{Reached}
@@ -117,47 +120,79 @@ Reaches f t i k s (N.End w) =
     × ((root : ℕ) (l : LineTrace) → intoLeaf (Fast.table f t) l (Fast.contentsMet f t w) ≡ lineFrom (Fast.table f t) root k i s l)
     × (Fast.contentsMet f t w ≡ contentsFrom (Fast.table f t) k i (s .start))
 Reaches f t i k s (N.Crossing w a b left) =
-    Crossed f t i k s w a b left × (wordLook f t left (Fast.wordOn w (Ieee.le zero32 a)) (s .start) ≡ contentsFrom (Fast.table f t) k i (s .start))
+    Crossed f t i k s w a b left × (wordLook f t left (wordOn w (Ieee.le zero32 a)) (s .start) ≡ contentsFrom (Fast.table f t) k i (s .start))
 Reaches f t i k s N.Nothing = Unit {0}
 
+-- a plane that a part of the line crosses at k: the node's words, the calls left below it, the distance of the part's start
+pub record Cut : Type 0 where
+  pub w : Words
+  pub left : ℕ
+  pub a : Float
+  pub k : Float
+  pub part : Stretch
+
+-- whether the line comes from the front of a plane that waits
+abbrev pub fromFront : Waiting → Bool
+fromFront y = eqb (y .far / 65536 % 2) 1
+
+-- y keeps the plane of a node that is crossed where the part `near` ends
+pub record Keeps (w : Words) (front : Bool) (left : ℕ) (near : Stretch) (y : Waiting) : Type 0 where
+  pub plane-is : y .plane ≡ w .plane
+  pub word-is : y .far % 65536 ≡ wordOn w (not front)
+  pub left-is : y .far / 131072 ≡ left
+  pub side-is : fromFront y ≡ front
+  pub at-is : y .at ≡ near .to
+  pub point-is : y .point ≡ near .end
+
+abbrev pub Kept : Cut → Waiting → Type 0
+Kept x y = Keeps (x .w) (Ieee.le zero32 (x .a)) (x .left) (nearPart (x .part) (x .k)) y
+
 -- beyond the plane h that waits: its near side has come to w
-abbrev pub pastWaiting : List ℕ → Tables → ℕ → Waiting → Hyperplane → Went → Went
+abbrev pub pastWaiting : List ℕ → Tables → ℕ → Cut → Hyperplane → Went → Went
 pastWaiting f t root x h w =
     past (Fast.table f t) (λ n s l. lineFrom (Fast.table f t) root (x .left) n s l) root (Fast.nodeOf (t .table) (x .w)) h (x .part) (Pl.fromDist (x .a)) (x .k) w
 
 -- beyond all planes that wait, the nearest first, it comes to `all`
-abbrev pub Resumes : List ℕ → Tables → ℕ → List Waiting → Went → Went → Type 0
+abbrev pub Resumes : List ℕ → Tables → ℕ → List Cut → Went → Went → Type 0
 Resumes f t root [] w all = w ≡ all
 Resumes f t root (x ∷ xs) w all =
     (x .left ≤ 512) × ((h : Hyperplane) × ((Fast.planeIn f t (x .w .plane) ≡ answer h) × Resumes f t root xs (pastWaiting f t root x h w) all))
 
 -- the line is blocked at the plane x
-abbrev pub Blocks : List ℕ → Tables → ℕ → Waiting → LineTrace → Went → Type 0
+abbrev pub Blocks : List ℕ → Tables → ℕ → Cut → LineTrace → Went → Type 0
 Blocks f t root x l all =
     (h : Hyperplane) × ((Fast.planeIn f t (x .w .plane) ≡ answer h) × (blocked (Fast.table f t) root h (Pl.fromDist (x .a)) (x .part) (x .k) l ≡ all))
 
 -- The line stands at a child, by its word, with the part s, and the planes xs wait; `looked`: the first end that it comes to is what the look
 -- beyond the plane x finds. Whatever that is, the line is blocked at x or goes on.
-abbrev pub Follows : List ℕ → Tables → ℕ → List Waiting → ℕ → Stretch → ℕ → LineTrace → Waiting → Bool → Went → Type 0
+abbrev pub Follows : List ℕ → Tables → ℕ → List Cut → ℕ → Stretch → ℕ → LineTrace → Cut → Bool → Went → Type 0
 Follows f t root xs left s word l x looked all =
     (c : BspLeafContents) → wordLook f t left word (s .start) ≡ answer c
     → (looked && Contents.equal c Solid ≡ true → Blocks f t root x l all)
     × (looked && Contents.equal c Solid ≡ false → Resumes f t root xs (wordWent f t root left word s l) all)
 
 -- the two sides of a plane that waits
-abbrev pub nearSide : Waiting → Stand
-nearSide x = record { word = Fast.wordOn (x .w) (Ieee.le zero32 (x .a)); left = x .left; part = nearPart (x .part) (x .k) }
+abbrev pub nearSide : Words → Bool → ℕ → Stretch → Stand
+nearSide w front left near = record { word = wordOn w front; left = left; part = near }
 
-abbrev pub farSide : Waiting → Stand
-farSide x = record { word = Fast.wordOn (x .w) (not (Ieee.le zero32 (x .a))); left = x .left; part = farPart (x .part) (x .k) }
+abbrev pub farSide : Waiting → Float → Vector3 → Stand
+farSide y to end = record { word = y .far % 65536; left = y .far / 131072; part = stretch (y .at) to (y .point) end }
+
+-- beyond a plane, as far as the first plane that waits, or to the end of the whole line
+abbrev pub beyondIt : Waiting → List Waiting → Stretch → Stand
+beyondIt x [] whole = farSide x (whole .to) (whole .end)
+beyondIt x (y ∷ ys) whole = farSide x (y .at) (y .point)
+
+-- where it is looked up at n of a list of ten
+abbrev pub beyondNext : Waiting → Waiting → ℕ → Stretch → Stand
+beyondNext x y n whole = cond (ltb n 10) (farSide x (y .at) (y .point)) (farSide x (whole .to) (whole .end))
 
 -- one turn of the line: on to an end, to a plane that it crosses, into a leaf, or it is blocked
 abbrev pub Turned : List ℕ → Tables → Stand → LineTrace → Bool → Turn → Type 0
 Turned f t at l looked (U.End w) = (at .word < 32768) × Reaches f t (at .word) (at .left) (at .part) (N.End w)
-Turned f t at l looked (U.Crossing y) =
+Turned f t at l looked (U.Crossing w front left near) =
     (at .word < 32768)
-    × (y .part ≡ at .part)
-    × ((b : Float) × ((y .k ≡ crossing (y .a) b) × Reaches f t (at .word) (at .left) (at .part) (N.Crossing (y .w) (y .a) b (y .left))))
+    × ((a : Float) × ((b : Float) × ((front ≡ Ieee.le zero32 a) × (near ≡ nearPart (at .part) (crossing a b)) × Reaches f t (at .word) (at .left) (at .part) (N.Crossing w a b left))))
 Turned f t at l looked (U.Into m) =
     (32768 ≤ at .word)
     × ((c : BspLeafContents) × ((answer c ≡ Fast.contentsMet f t (at .word)) × (looked && Contents.equal c Solid ≡ false) × (m ≡ into c l)))
@@ -171,5 +206,16 @@ standWent f g at l = wordWent f (g .t) (g .root) (at .left) (at .word) (at .part
 
 abbrev pub Arrives : List ℕ → Ground → Stand → LineTrace → Came → Type 0
 Arrives f g at l (C.Through m) = onward m ≡ standWent f g at l
-Arrives f g at l (C.Blocked x m) = Blocks f (g .t) (g .root) x m (standWent f g at l)
+Arrives f g at l (C.Blocked y m) = (x : Cut) × (Kept x y × Blocks f (g .t) (g .root) x m (standWent f g at l))
 Arrives f g at l C.Nothing = Unit {0}
+
+-- with a fraction and an end
+abbrev pub ended : Float → Vector3 → LineTrace → LineTrace
+ended k e l = lineTrace k e (l .plane) (l .«all_solid») (l .«start_solid») (l .«in_open») (l .«in_water»)
+
+-- where the line is blocked at the plane x, which is kept as y, with l set before
+abbrev pub Stops : List ℕ → Ground → Waiting → LineTrace → Stop → Type 0
+Stops f g y l (S.At m) =
+    (x : Cut) → Kept x y → (h : Hyperplane) → Fast.planeIn f (g .t) (x .w .plane) ≡ answer h
+    → stopped m ≡ blocked (Fast.table f (g .t)) (g .root) h (Pl.fromDist (x .a)) (x .part) (x .k) l
+Stops f g y l S.Nothing = Unit {0}

@@ -2,8 +2,9 @@
 // point that is looked for beyond a plane is where the far part starts, so the first end that the far part comes to is what the look finds, and
 // no look is taken before it. Nothing is said where a record or a leaf is refused, no call is left or the list is full.
 ghost use mathlib.Core.Path.{_≡_};
-ghost use mathlib.Core.Bool.{true, _&&_};
-ghost use Prim.Native.Nat.{_≤_};
+ghost use mathlib.Core.Bool.{true, cond, _&&_};
+ghost use lib.Dec.{ltb};
+ghost use Prim.Native.Nat.{_<_, _≤_};
 ghost use Rattle.format.specs.Contents as Contents;
 ghost use Rattle.format.specs.declared.contents.BspLeafContents.the-variants.{Solid};
 ghost use Rattle.line.specs.Private as Private;
@@ -19,13 +20,14 @@ use nodes::read::Words;
 use nodes::read::end_contents;
 use nodes::segment::SegmentAt;
 
-// A plane that a part crosses at k, whose far side waits: the node's words, the calls left below it, the distance of the part's start.
+// A plane whose far side waits: its number; the word of the child there, with 65536 more where the line comes from its front and 131072 more
+// for each call left below it; and where the line crosses it, by its fraction and its point. Ten of them are cleared without a call
+// (docs/DECISIONS.md 111).
 pub struct Waiting {
-    pub w: Words,
-    pub left: u32,
-    pub a: f32,
-    pub k: f32,
-    pub part: Stretch,
+    pub plane: u32,
+    pub far: u32,
+    pub at: f32,
+    pub point: Vector3,
 }
 
 // Where the line stands: at a child, by its word, with the calls left and a part.
@@ -50,11 +52,11 @@ enum Reached {
     Nothing,
 }
 
-// What one turn of the line comes to: an end, by its word; a plane that waits, before which the line goes on; a leaf, with what is set in it;
-// or the line is blocked; or nothing is said.
+// What one turn of the line comes to: an end, by its word; a plane that it crosses, with the node's words, whether it comes from the front, the
+// calls left below and the part before it; a leaf, with what is set in it; or the line is blocked; or nothing is said.
 enum Turn {
     End(u16),
-    Crossing(Waiting),
+    Crossing(Words, bool, u32, Stretch),
     Into(LineTrace),
     Blocked,
     Nothing,
@@ -82,10 +84,7 @@ fn down(
     let render = table.is_render();
     let mut node = top;
     let mut left = calls;
-    loop {
-        if left == 0 {
-            return Reached::Nothing;
-        }
+    while 0 < left {
         match ends_in(nodes, planes, render, node, &p, &q) {
             SegmentAt::Refused(_) => return Reached::Nothing,
             SegmentAt::Dists(w, a, b) => {
@@ -102,49 +101,92 @@ fn down(
             }
         }
     }
+    Reached::Nothing
 }
 
 fn no_plane() -> Waiting {
-    let zero = Vector3::new(0.0, 0.0, 0.0);
     Waiting {
-        w: Words { plane: 0, both: 0 },
-        left: 0,
-        a: 0.0,
-        k: 0.0,
-        part: Stretch {
-            from: 0.0,
-            to: 0.0,
-            start: zero,
-            end: zero,
-        },
+        plane: 0,
+        far: 0,
+        at: 0.0,
+        point: Vector3::new(0.0, 0.0, 0.0),
     }
 }
 
+// The plane of a node that the line crosses where the part before it ends.
+fn waits(w: Words, front: bool, left: u32, near: Stretch) -> Waiting
+    requires { ⌜ left ≤ 512 ⌝ }
+    ensures { λ r. ⌜ Private.Keeps w front left near r ⌝ }
+{
+    let point = near.end;
+    let far = (w.on(!front) as u32) + left * 131072;
+    if front {
+        return Waiting {
+            plane: w.plane,
+            far: far + 65536,
+            at: near.to,
+            point,
+        };
+    }
+    Waiting {
+        plane: w.plane,
+        far,
+        at: near.to,
+        point,
+    }
+}
+
+// Before it.
+fn near_side(w: Words, front: bool, left: u32, near: Stretch) -> Stand
+    ensures { λ r. ⌜ r ≡ Private.nearSide w front left near ⌝ }
+{
+    Stand {
+        word: w.on(front),
+        left,
+        part: near,
+    }
+}
+
+fn at_most_nine(n: usize) -> usize
+    ensures { λ r. ⌜ (r ≡ cond (ltb n 10) n 9) × (r < 10) ⌝ }
+{
+    if n < 10 { n } else { 9 }
+}
+
 impl Waiting {
-    // Before the plane.
-    fn near_side(self) -> Stand
-        ensures { λ r. ⌜ r ≡ Private.nearSide self ⌝ }
+    // Beyond it, as far as a fraction and a point.
+    fn far_side(self, to: f32, end: Vector3) -> Stand
+        ensures { λ r. ⌜ r ≡ Private.farSide self to end ⌝ }
     {
-        let w = self.w;
-        let part = self.part;
+        let start = self.point;
         Stand {
-            word: w.on(self.a >= 0.0),
-            left: self.left,
-            part: part.near_part(self.k),
+            word: (self.far % 65536) as u16,
+            left: self.far / 131072,
+            part: Stretch {
+                from: self.at,
+                to,
+                start,
+                end,
+            },
         }
     }
 
-    // Beyond it.
-    fn far_side(self) -> Stand
-        ensures { λ r. ⌜ r ≡ Private.farSide self ⌝ }
+    // Beyond it, as far as the next one that waits, where n is its place, or as far as the line goes that stood there first.
+    fn beyond(self, next: Waiting, n: usize, first: Stand) -> Stand
+        ensures { λ r. ⌜ r ≡ Private.beyondNext self next n (first .part) ⌝ }
     {
-        let w = self.w;
-        let part = self.part;
-        Stand {
-            word: w.on(!(self.a >= 0.0)),
-            left: self.left,
-            part: part.far_part(self.k),
+        if n < 10 {
+            return self.far_side(next.at, next.point);
         }
+        let whole = first.part;
+        self.far_side(whole.to, whole.end)
+    }
+
+    // Whether the line comes from its front.
+    pub fn is_from_front(self) -> bool
+        ensures { λ r. ⌜ r ≡ Private.fromFront self ⌝ }
+    {
+        self.far / 65536 % 2 == 1
     }
 }
 
@@ -177,14 +219,8 @@ fn one_turn(
             Reached::Nothing => Turn::Nothing,
             Reached::End(word) => Turn::End(word),
             Reached::Crossing(w, a, b, left) => {
-                let k = crossing(a, b);
-                Turn::Crossing(Waiting {
-                    w,
-                    left,
-                    a,
-                    k,
-                    part,
-                })
+                let near = part.near_part(crossing(a, b));
+                Turn::Crossing(w, a >= 0.0, left, near)
             }
         };
     }
@@ -204,8 +240,8 @@ pub fn follow(s: &[u8], nodes: &[u8], planes: &[u8], g: Ground, first: Stand, l:
     requires { ⌜ Private.Lent (now s) (now nodes) (now planes) g × (g .whole ≡ true) × (first .left ≤ 512) ⌝ }
     ensures { λ r. ⌜ Private.Arrives (now (s .entry)) g first l r ⌝ }
 {
-    let mut stack = [no_plane(); 12];
-    let mut n: usize = 12;
+    let mut stack = [no_plane(); 10];
+    let mut n: usize = 10;
     let mut at = first;
     let mut line = l;
     let mut x = no_plane();
@@ -217,23 +253,24 @@ pub fn follow(s: &[u8], nodes: &[u8], planes: &[u8], g: Ground, first: Stand, l:
             Turn::Nothing => return Came::Nothing,
             Turn::Blocked => return Came::Blocked(x, line),
             Turn::End(word) => at.word = word,
-            Turn::Crossing(plane) => {
+            Turn::Crossing(w, front, left, near) => {
                 if n == 0 {
                     return Came::Nothing;
                 }
                 n -= 1;
-                stack[n] = plane;
-                at = plane.near_side();
+                stack[n] = waits(w, front, left, near);
+                at = near_side(w, front, left, near);
             }
             Turn::Into(so_far) => {
                 line = so_far;
-                if 12 <= n {
+                if 10 <= n {
                     return Came::Through(line);
                 }
                 x = stack[n];
                 n += 1;
                 looked = true;
-                at = x.far_side();
+                let next = stack[at_most_nine(n)];
+                at = x.beyond(next, n, first);
             }
         }
     }

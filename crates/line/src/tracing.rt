@@ -18,6 +18,7 @@ use crate::state::crossing;
 use crate::state::plane_from;
 use crate::through::Came;
 use crate::through::Stand;
+use crate::through::Waiting;
 use crate::through::follow;
 use format::contents::BspLeafContents;
 use format::refusal::Refusal;
@@ -54,6 +55,12 @@ enum Descent {
     Leaf(BspLeafContents),
     Crossing(Words, f32, f32, u32),
     Refused(Refusal),
+}
+
+// Where a line that is blocked stops, with what is set; or nothing is said.
+enum Stop {
+    At(LineTrace),
+    Nothing,
 }
 
 // Where a part of the line goes on to beyond a plane: to a node, or tracing ends.
@@ -258,6 +265,30 @@ fn line_from(
     }
 }
 
+// What a line is that is blocked at a plane, with what is set before: it ends there, where that point is not solid from the root; where it is,
+// nothing is said.
+fn stop_at(s: &[u8], nodes: &[u8], planes: &[u8], g: Ground, x: Waiting, set: LineTrace) -> Stop
+    requires { ⌜ Private.Lent (now s) (now nodes) (now planes) g ⌝ }
+    ensures { λ r. ⌜ Private.Stops (now (s .entry)) g x set r ⌝ }
+{
+    if set.all_solid {
+        return Stop::At(set);
+    }
+    let PlaneAnswer::Value(plane) = plane_at(s, g.t, x.plane as usize) else {
+        return Stop::Nothing;
+    };
+    match contents_from(s, nodes, planes, g, g.root, x.point) {
+        EndContents::Refused(_) => Stop::Nothing,
+        EndContents::Contents(c) => {
+            if c.equals(BspLeafContents::Solid) {
+                return Stop::Nothing;
+            }
+            let met = set.with_plane(plane_from(plane, x.is_from_front()));
+            Stop::At(met.ended(x.at, x.point))
+        }
+    }
+}
+
 // What a whole line is where `follow` says nothing: record by record.
 fn line_any(s: &[u8], nodes: &[u8], planes: &[u8], g: Ground, start: Vector3, end: Vector3) -> Going
     requires { ⌜ Private.Lent (now s) (now nodes) (now planes) g ⌝ }
@@ -301,11 +332,10 @@ fn line_all(s: &[u8], nodes: &[u8], planes: &[u8], g: Ground, start: Vector3, en
             match follow(s, nodes, planes, g, first, LineTrace::unset(end)) {
                 Came::Nothing => {}
                 Came::Through(line) => return Going::On(line),
-                Came::Blocked(x, line) => {
-                    let w = x.w;
-                    let part = x.part;
-                    return blocked(s, nodes, planes, g, w, x.a >= 0.0, part, x.k, line);
-                }
+                Came::Blocked(x, line) => match stop_at(s, nodes, planes, g, x, line) {
+                    Stop::At(stopped) => return Going::Stopped(stopped),
+                    Stop::Nothing => {}
+                },
             }
         }
     }

@@ -2,6 +2,7 @@
 use mathlib.Core.Path.{refl, sym, ap, _∙_}
 use denote.Ref.{now}
 use Rattle.nodes.specs.Fast.{endAnswer}
+use Rattle.line.specs.Line.{nearPart}
 use Rattle.line.proofs.Follows.{at-end, at-plane}
 use borrow.Author.Needs.{needs}
 use Rattle.line.proofs.through.one_turn.Statement.{statement}
@@ -25,6 +26,9 @@ enum-known-w c = search needs
 crossing-requires : tie.Need-crossing-requires
 crossing-requires c κs = search needs
 
+near-part-requires : tie.Need-near-part-requires
+near-part-requires c κs = search needs
+
 returns : tie.Need-returns
 returns c = tt
 
@@ -32,7 +36,10 @@ returns-2 : tie.Need-returns-2
 returns-2 c = let a = c .before .before .before .before .before .before .before .before .before .before .before .args in (c .before .before .before .before .before .if1 .taken, at-end (now (a .s)) (a .g .t) (a .at .word) (a .at .left) (a .at .part) _ (c .before .before .before .down .ensures) _ (c .before .word .given .1))
 
 returns-3 : tie.Need-returns-3
-returns-3 c = let a = c .before .before .before .before .before .before .before .before .before .before .before .before .args in (c .before .before .before .before .before .before .if1 .taken, refl, (_, (c .crossing .ensures, at-plane (now (a .s)) (a .g .t) (a .at .word) (a .at .left) (a .at .part) _ (c .before .before .before .before .down .ensures) _ _ _ _ (c .before .before .w .given .1))))
+returns-3 c =
+    let a = c .before .before .before .before .before .before .before .before .before .before .before .before .before .args in
+    let there = at-plane (now (a .s)) (a .g .t) (a .at .word) (a .at .left) (a .at .part) _ (c .before .before .before .before .before .down .ensures) _ _ _ _ (c .before .before .before .w .given .1) in
+    (c .before .before .before .before .before .before .before .if1 .taken, (_, (_, (refl, c .near-part .ensures ∙ ap (nearPart (a .at .part)) (c .before .crossing .ensures), there))))
 
 end-contents-requires : tie.Need-end-contents-requires
 end-contents-requires c κs = search needs
@@ -68,6 +75,7 @@ one-turn-spec =
     enum-known-word
     enum-known-w
     crossing-requires
+    near-part-requires
     returns
     returns-2
     returns-3

@@ -5,8 +5,8 @@ use borrow.Author.Needs.{needs}
 use Rattle.line.proofs.tracing.line_all.Statement.{statement}
 use Rattle.line.proofs.tracing.line_all.Tie as tie
 
-cast-t15 : tie.Need-cast-t15
-cast-t15 c = search needs
+cast-t14 : tie.Need-cast-t14
+cast-t14 c = search needs
 
 unset-requires : tie.Need-unset-requires
 unset-requires c κs = search needs
@@ -28,13 +28,19 @@ returns c =
 enum-known-x : tie.Need-enum-known-x
 enum-known-x c = search needs
 
-blocked-requires : tie.Need-blocked-requires
-blocked-requires c κs = c .before .before .before .before .before .before .before .before .before .before .before .before .before .before .before .pre
+stop-at-requires : tie.Need-stop-at-requires
+stop-at-requires c κs = c .before .before .before .before .before .before .before .before .before .before .before .before .pre
+
+enum-known-stopped : tie.Need-enum-known-stopped
+enum-known-stopped c = search needs
 
 returns-2 : tie.Need-returns-2
 returns-2 c =
     let a = c .before .before .before .before .before .before .before .before .before .before .before .before .before .before .before .before .args in
-    came-blocked (now (a .s)) (a .g) (a .start) (a .end) _ (c .before .before .before .before .before .before .before .before .unset .ensures) (c .before .before .before .before .before .before .before .before .before .before .if2 .taken) _ (c .before .before .before .before .before .before .before .follow .ensures) _ _ (c .before .before .before .before .before .x .given .1) _ (c .blocked .ensures)
+    came-blocked (now (a .s)) (a .g) (a .start) (a .end) _ (c .before .before .before .before .before .before .before .before .unset .ensures) (c .before .before .before .before .before .before .before .before .before .before .if2 .taken) _ (c .before .before .before .before .before .before .before .follow .ensures) _ _ (c .before .before .before .before .before .x .given .1) _ (c .before .before .before .stop-at .ensures) _ (c .before .stopped .given .1)
+
+enum-told-2 : tie.Need-enum-told-2
+enum-told-2 c = search needs
 
 line-any-requires : tie.Need-line-any-requires
 line-any-requires c κs = search needs
@@ -46,14 +52,16 @@ pub line-all-spec : {M : Type 1} → statement M
 line-all-spec =
     tie.close
     (tie.spec
-    cast-t15
+    cast-t14
     unset-requires
     follow-requires
     enum-told
     enum-known-line
     returns
     enum-known-x
-    blocked-requires
+    stop-at-requires
+    enum-known-stopped
     returns-2
+    enum-told-2
     line-any-requires
     returns-3)
