@@ -8,10 +8,9 @@ use mathlib.Core.Path.{_≡_, refl, sym, ap, _∙_}
 use borrow.Author.Tests.{lt-ltb, ne-eqb, ltb-true, ltb-false}
 use lib.Dec.{eqb, ltb}
 use lib.Ieee.{Float}
-use lib.ListN.{length, getD, set}
+use lib.ListN.{length, getD}
 use Rattle.format.specs.Answer.{Answer, answer, refused}
 use Rattle.format.specs.Contents.{codeOf}
-use Rattle.format.specs.Listed.{Listed, listed}
 use Rattle.format.specs.declared.contents.BspLeafContents.{BspLeafContents}
 use Rattle.format.specs.declared.contents.BspLeafContents.the-variants.{Empty, Solid, Water, Slime, Lava, Sky, Current0, Current90, Current180, Current270, CurrentUp, CurrentDown}
 use Rattle.math.specs.declared.vector.Vector3.{Vector3}

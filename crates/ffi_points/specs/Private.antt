@@ -1,7 +1,7 @@
 -- For the contracts of functions that no other crate can name; a reader of the calls may leave this file out.
 -- What the call asks of a hull, and what is said at once of one point where the file has all nodes and planes.
 use Prim.Native.Nat.{ℕ, _/_, _%_, _<_}
-use mathlib.Core.List.{List, []}
+use mathlib.Core.List.{List}
 use mathlib.Core.Path.{_≡_}
 use lib.Ieee.{Float}
 use lib.ListN.{length, set}

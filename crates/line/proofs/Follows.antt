@@ -1,5 +1,5 @@
 -- The whole line in one loop: what a node says to a part and to a look, and what becomes of the planes that wait. Assumes nothing.
-use Prim.Native.Nat.{ℕ, zero, suc, _+_, _-_, _*_, _/_, _%_, _<_, _≤_}
+use Prim.Native.Nat.{ℕ, zero, suc, _+_, _-_, _*_, _<_, _≤_}
 use native.Mathlib.Omega.{arith}
 use mathlib.Core.Path.{_≡_, refl, sym, ap, subst, _∙_}
 use mathlib.Core.Bool.{Bool, true, false, cond, not, _&&_, Bool·beq}
@@ -43,7 +43,7 @@ use Rattle.nodes.specs.declared.segment.SegmentAt.{SegmentAt}
 use Rattle.nodes.specs.declared.segment.SegmentAt.the-variants as G
 use Rattle.nodes.proofs.Entering.{child-is, child-end}
 use Rattle.line.specs.Line.{fractionAt, planeFrom, withPlane, Went, onward, stopped, refused, stretch, unset, nearPart, farPart, pointAt, crossing, into, tenth, contentsOn, contentsAt, contentsFrom, backedOff, backOff, intoLeaf, onChild, blocked, beyond, past, lineFrom}
-use Rattle.line.specs.Private.{Cut, Keeps, Kept, fromFront, Stops, ended, Crossed, Reaches, Resumes, Blocks, Follows, wordWent, wordLook, pastWaiting, nearSide, farSide, beyondIt, beyondNext, standWent, Turned, Arrives, allWent}
+use Rattle.line.specs.Private.{Cut, Keeps, Kept, fromFront, Stops, ended, Crossed, Reaches, Resumes, Blocks, Follows, wordWent, wordLook, pastWaiting, nearSide, beyondIt, beyondNext, standWent, Turned, Arrives, allWent}
 use Rattle.line.specs.declared.contents.Ground.{Ground}
 use Rattle.line.specs.declared.state.Stretch.{Stretch}
 use Rattle.line.specs.declared.state.LineTrace.{LineTrace}
@@ -61,7 +61,7 @@ use Rattle.line.specs.declared.tracing.Stop.the-variants as S
 use Rattle.line.proofs.States.{pick-true, pick-false}
 use Rattle.line.proofs.Seen.{Made, Opened, opened, note-read}
 use Rattle.line.proofs.Looks.{look-outside, look-step, word-node, word-end, goes, to-node, to-end}
-use Rattle.line.proofs.Lines.{goes-on, on-child, crosses-here, other-side, blocked-by, blocked-plane}
+use Rattle.line.proofs.Lines.{on-child, other-side, blocked-by, blocked-plane}
 use Rattle.line.proofs.Backs.{back-open}
 
 -- ---- a node of a whole table

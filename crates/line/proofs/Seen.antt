@@ -72,10 +72,7 @@ module _ (f : List ℕ) (t : Tables) (i : ℕ) (r : ReadWords) (is-r : wordsAnsw
           ap (λ (n : ℕ). answer (childOf (t .table) n)) is-word ∙ ap answer (sym (child-is (t .table) w (Ieee.le zero32 d)))
           ∙ ap (λ (x : Float). answer (childOn (nodeOf (t .table) w) (Pl.fromDist x))) is-d ∙ with-plane (childByDistance p) h (sym is-a ∙ ap planeAnswer e)
 
--- the same points
-pub same-ends : (f : List ℕ) (t : Tables) (i : ℕ) (p q x y : Vector3) → x ≡ p → y ≡ q → madeFrom (nodeAndDists x y) f t i ≡ madeFrom (nodeAndDists p q) f t i
-same-ends f t i p q x y d e = rw (d, e)
-
+-- the same point
 pub same-point : (f : List ℕ) (t : Tables) (i : ℕ) (p x : Vector3) → x ≡ p → madeFrom (childByDistance x) f t i ≡ madeFrom (childByDistance p) f t i
 same-point f t i p x d = rw d
 

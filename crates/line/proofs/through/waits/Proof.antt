@@ -1,7 +1,6 @@
 -- `line::through::waits` meets its contract: the number of the far side, by the rules of division. Assumes nothing.
 use Prim.Native.Nat.{_<_}
-use native.Mathlib.Omega.{arith}
-use mathlib.Core.Path.{_≡_, refl, sym, ap, _∙_}
+use mathlib.Core.Path.{_≡_, refl, sym, _∙_}
 use mathlib.Core.Bool.{not}
 use borrow.Author.Needs.{needs}
 use Rattle.nodes.specs.Fast.{wordOn}
