@@ -124,7 +124,12 @@ pub fn run(plan: &Plan) -> bool {
     let equal = board.print();
     for (name, slanted) in [("axis", 0), ("slanted", 40)] {
         for table in [1, 0] {
-            time(name, slanted, table, plan.seed);
+            time_world(name, slanted, table, plan.seed);
+        }
+    }
+    for (name, file) in KEPT {
+        for table in [1, 0] {
+            time_kept(name, file, table, plan.seed);
         }
     }
     equal
@@ -182,7 +187,7 @@ fn a_shot(seed: &mut Seed, made: &Made) -> [f32; 6] {
         return tables::segment(seed, &made.tables.planes);
     }
     let length = [1.0, 100.0, 1000.0, 8000.0][seed.below(4) as usize];
-    through(seed, length)
+    through(seed, [-world::SIDE; 3], [world::SIDE; 3], length)
 }
 
 fn one(board: &mut Board, asked: &Asked, hull: &[u64], peer: &Peer, shot: &[f32; 6]) {
@@ -212,55 +217,97 @@ fn one(board: &mut Board, asked: &Asked, hull: &[u64], peer: &Peer, shot: &[f32;
 const SHOTS: usize = 20_000;
 const BLOCK: usize = 200;
 
-/// The time of a whole line, of `bsp_trace` and of the peer, over the same shots of two lengths: the
-/// least time of each block.
-fn time(name: &str, slanted: u64, table: u64, number: u64) {
+/// Compiled maps that are kept; the first node of either table is the root of the world's hull 0 or 1.
+const KEPT: [(&str, &[u8]); 3] = [
+    ("corridors", include_bytes!("../../../../maps/corridors.bsp")),
+    ("court", include_bytes!("../../../../maps/court.bsp")),
+    ("lock", include_bytes!("../../../../maps/lock.bsp")),
+];
+
+/// A file and its map words, of which whole lines are timed through a table, and the box that they
+/// start in.
+struct Timed<'a> {
+    name: &'a str,
+    file: &'a [u8],
+    map: &'a [u32],
+    table: u64,
+    low: [f32; 3],
+    high: [f32; 3],
+}
+
+/// Of a generated map.
+fn time_world(name: &str, slanted: u64, table: u64, number: u64) {
     let mut seed = Seed::named(number, name);
     let world = World { nodes: 10_000, slanted, visibility: 0, lightmaps: 0, faces: 0 };
     let made = Made::new(world::tables(&mut seed, &world), &maps::Layout::plain());
-    let peer = Peer::of(&paper::Map::new(&made.file, &made.map).expect("a map"), table);
-    let hull = hull_words(&mut seed, table, 0);
-    for length in [100.0, 4000.0] {
-        let shots: Vec<[f32; 6]> = (0..SHOTS).map(|_| through(&mut seed, length)).collect();
-        let mut least = vec![[f64::MAX; 3]; SHOTS / BLOCK];
-        for _ in 0..30 {
-            for (least, block) in least.iter_mut().zip(shots.chunks(BLOCK)) {
-                let (file, map, mut out) = (&made.file, &made.map, [0; TRACE_WORDS]);
-                let mut line = |shot: [f32; 6]| {
-                    calls::trace_line(file, map, &hull, &shot, &mut out);
-                    out[0]
-                };
-                least[0] = least[0].min(timed(block, &mut line));
-                let mut trace = |shot: [f32; 6]| {
-                    calls::trace(file, map, &hull, &shot, &mut out);
-                    out[0]
-                };
-                least[1] = least[1].min(timed(block, &mut trace));
-                least[2] = least[2].min(timed(block, &mut |shot| peer.raw(&shot).1[0] as u64));
-            }
-        }
-        let mean = |side: usize| {
-            let sum: f64 = least.iter().map(|least| least[side]).sum();
-            sum / SHOTS as f64
-        };
-        let (line, trace, theirs) = (mean(0), mean(1), mean(2));
+    let (low, high) = ([-world::SIDE; 3], [world::SIDE; 3]);
+    let timed = Timed { name, file: &made.file, map: &made.map, table, low, high };
+    time(&mut seed, &timed, [100.0, 4000.0]);
+}
+
+/// Of a compiled map, from points in the box of its world.
+fn time_kept(name: &str, file: &[u8], table: u64, number: u64) {
+    let mut map = [0; 31];
+    assert_eq!(calls::load(file, &mut map), 0, "{name} loads");
+    let bytes = |at: usize| <[u8; 4]>::try_from(&file[at..at + 4]).expect("four bytes");
+    // the directory's entry of the models, and the first model's mins and maxs
+    let models = u32::from_le_bytes(bytes(4 + 8 * 14)) as usize;
+    let float = |i: usize| f32::from_le_bytes(bytes(models + 4 * i));
+    let (low, high) = ([float(0), float(1), float(2)], [float(3), float(4), float(5)]);
+    let timed = Timed { name, file, map: &map, table, low, high };
+    time(&mut Seed::named(number, name), &timed, [100.0, 1000.0]);
+}
+
+/// The time of a whole line, of `bsp_trace` and of the peer, over the same shots of two lengths: the
+/// least time of each block.
+fn time(seed: &mut Seed, timed: &Timed, lengths: [f32; 2]) {
+    let peer = Peer::of(&paper::Map::new(timed.file, timed.map).expect("a map"), timed.table);
+    let hull = hull_words(seed, timed.table, 0);
+    for length in lengths {
+        let shot = |_| through(seed, timed.low, timed.high, length);
+        let shots: Vec<[f32; 6]> = (0..SHOTS).map(shot).collect();
+        let [line, trace, theirs] = least_times(&shots, timed, &hull, &peer);
         println!(
-            "{name}, {}, {length}: {line:.0} ns a line; bsp_trace {trace:.0}, ratio {:.2}; the peer \
+            "{}, {}, {length}: {line:.0} ns a line; bsp_trace {trace:.0}, ratio {:.2}; the peer \
              {theirs:.0}, ratio {:.2}",
-            ["render", "clip"][table as usize],
+            timed.name,
+            ["render", "clip"][timed.table as usize],
             line / trace,
             line / theirs
         );
     }
 }
 
-fn through(seed: &mut Seed, length: f32) -> [f32; 6] {
-    let p = [0; 3].map(|_| floats::half(seed) * 2.0 * world::SIDE);
+/// ns a shot of the whole line, of `bsp_trace` and of the peer.
+fn least_times(shots: &[[f32; 6]], timed: &Timed, hull: &[u64], peer: &Peer) -> [f64; 3] {
+    let (file, map, mut out) = (timed.file, timed.map, [0; TRACE_WORDS]);
+    let mut least = vec![[f64::MAX; 3]; SHOTS / BLOCK];
+    for _ in 0..30 {
+        for (least, block) in least.iter_mut().zip(shots.chunks(BLOCK)) {
+            let mut line = |shot: [f32; 6]| {
+                calls::trace_line(file, map, hull, &shot, &mut out);
+                out[0]
+            };
+            least[0] = least[0].min(time_of(block, &mut line));
+            let mut trace = |shot: [f32; 6]| {
+                calls::trace(file, map, hull, &shot, &mut out);
+                out[0]
+            };
+            least[1] = least[1].min(time_of(block, &mut trace));
+            least[2] = least[2].min(time_of(block, &mut |shot| peer.raw(&shot).1[0] as u64));
+        }
+    }
+    [0, 1, 2].map(|side| least.iter().map(|least| least[side]).sum::<f64>() / SHOTS as f64)
+}
+
+/// A shot of a length from somewhere in the box.
+fn through(seed: &mut Seed, low: [f32; 3], high: [f32; 3], length: f32) -> [f32; 6] {
+    let p = [0, 1, 2].map(|i| (low[i] + high[i]) / 2.0 + floats::half(seed) * (high[i] - low[i]));
     let way = floats::unit(seed);
     [p[0], p[1], p[2], p[0] + length * way[0], p[1] + length * way[1], p[2] + length * way[2]]
 }
 
-fn timed(block: &[[f32; 6]], one: &mut dyn FnMut([f32; 6]) -> u64) -> f64 {
+fn time_of(block: &[[f32; 6]], one: &mut dyn FnMut([f32; 6]) -> u64) -> f64 {
     let start = Instant::now();
     for shot in block {
         black_box(one(black_box(*shot)));
