@@ -7,7 +7,6 @@ use native.Mathlib.Omega.{arith}
 use lib.Dec.{eqb, leb}
 use lib.ListN.{length}
 use Rattle.format.specs.Answer.{Answer, answer, refused}
-use Rattle.format.specs.Step as Step
 use Rattle.format.specs.Step.{Step}
 use Rattle.format.specs.Section.{record_count, within_limit, element_size, place}
 use Rattle.format.specs.declared.section.BspData.{BspData}

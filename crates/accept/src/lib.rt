@@ -1,4 +1,6 @@
 // Whole-map acceptance (Note 4): may this map go on the rota? One call with one answer that holds for every query afterwards.
+#![tactic(auto)]
+
 ghost use Rattle.std.specs.Prelude.{◌≡◌, length, replicate};
 ghost use Rattle.accept.specs.Accept as Acc;
 ghost use Rattle.accept.specs.Answers.{acceptance_answer};
@@ -12,7 +14,7 @@ mod references;
 mod row;
 mod trees;
 
-#[derive(Drop)]
+#[derive(Clone, Copy)]
 pub enum Acceptance {
     Passed,
     Refused(Refusal),

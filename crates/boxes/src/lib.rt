@@ -1,4 +1,6 @@
 // The contents that a box of points meets in a node table, for one who is known only to be within the box.
+#![tactic(auto)]
+
 ghost use Rattle.std.specs.Prelude.{◌≡◌, true};
 ghost use Rattle.math.specs.Box as Box;
 ghost use Rattle.walk.specs.TreeCheck as Walk;
@@ -19,7 +21,7 @@ use records::plane::PlaneAnswer;
 use tree::{TreeChecked, tree_check};
 
 // A set of contents: bit n stands for the code n.
-#[derive(Drop)]
+#[derive(Clone, Copy)]
 pub enum BoxContents {
     Set(u32),
     Refused(Refusal),

@@ -20,7 +20,7 @@ use Rattle.format.specs.declared.refusal.Refusal.{Refusal}
 use Rattle.math.specs.Plane as Pl
 use Rattle.math.specs.declared.vector.Vector3.{Vector3}
 use Rattle.walk.specs.Table.{Child, node, end, Table, child_on}
-use Rattle.walk.specs.Walk.{Outcome, done, refused, entered, with_visits, Entered, enter, meet, ended, onto, walk_at_lem, walk, point_walk}
+use Rattle.walk.specs.Walk.{Outcome, done, refused, entered, with_visits, Entered, enter, meet, ended, onto, walk_at, walk, point_walk}
 use Rattle.walk.proofs.Steps.{walk_outside}
 use Rattle.format.specs.declared.contents.BspLeafContents.{BspLeafContents}
 use Rattle.math.specs.declared.plane.Hyperplane.{Hyperplane}
@@ -65,7 +65,7 @@ module _ {E A : Type 0} (T : Table E A) (p : Vector3) where
     at_child (node n) e = one_step i n (go n) e (along n)
     at_child (end x) e = at_end i (meet T x)
 
-    at_node_lem : (m : Answer (Entered E)) → next T p i ≡ onward p m → Along i (walk_at_lem T go i p m)
+    at_node_lem : (m : Answer (Entered E)) → next T p i ≡ onward p m → Along i (walk_at T go i p m)
     at_node_lem (answer m) e = at_child (child_on m.nd (Pl.point_side m.plane p)) e
     at_node_lem (Ans.refused n) e = tt
 
@@ -80,7 +80,7 @@ module _ {E A : Type 0} (T : Table E A) (p : Vector3) where
   along_walk : (k i : ℕ) → Along i (walk T k i p)
   unfolding walk next
   along_walk zero i = by_index_none (ltb i T.nodes.count) i 31 30
-  along_walk (suc k) i = by_index (ltb i T.nodes.count) i 30 (walk_at_lem T (λ n. walk T k n p) i p (enter T i)) (at_node_lem (λ n. walk T k n p) (λ n. along_walk k n) i (enter T i) refl)
+  along_walk (suc k) i = by_index (ltb i T.nodes.count) i 30 (walk_at T (λ n. walk T k n p) i p (enter T i)) (at_node_lem (λ n. walk T k n p) (λ n. along_walk k n) i (enter T i) refl)
 
   -- ---- the list that is left
 

@@ -29,21 +29,21 @@ use phys::{Trace, TraceEnd, TraceStart};
 use records::plane::PlaneAnswer;
 
 // A child that a trace goes on to: a node, or the end that a word stands for.
-#[derive(Drop)]
+#[derive(Clone, Copy)]
 enum Onward {
     Node(usize),
     End(u16),
 }
 
 // A part of a segment: where its trace starts and ends if it lies in one leaf.
-#[derive(Drop)]
+#[derive(Clone, Copy)]
 struct Way {
     from: TraceStart,
     to: TraceEnd,
 }
 
 // The calls left and the nodes entered before.
-#[derive(Drop)]
+#[derive(Clone, Copy)]
 struct Counts {
     left: u32,
     visits: u64,
@@ -51,7 +51,7 @@ struct Counts {
 
 // Where a segment's way down comes to: the end of the leaf that all of it lies in, by its word; or a plane that it crosses, with the node's
 // words, the distances of its ends, the calls left below it; and the nodes entered.
-#[derive(Drop)]
+#[derive(Clone, Copy)]
 enum Down {
     End(u16, u64),
     Crossing(Words, f32, f32, u32, u64),
@@ -60,7 +60,7 @@ enum Down {
 
 // What becomes of a segment that crosses a node's plane: the part up to the crossing goes on to the near child and the part behind it to the
 // far one. Refused: the plane can't be read.
-#[derive(Drop)]
+#[derive(Clone, Copy)]
 enum Crossed {
     Parts(Onward, Way, Onward, Way),
     Refused(Refusal),

@@ -18,7 +18,7 @@ use nodes::read::{ReadWords, Sided, read_words, side_at};
 use nodes::table::{HullTable, Tables, tables_of};
 
 // How many nodes were entered.
-#[derive(Drop)]
+#[derive(Clone, Copy)]
 pub enum EnteredAnswer {
     Count(usize),
     Refused(Refusal),

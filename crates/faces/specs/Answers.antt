@@ -3,8 +3,6 @@
 use Rattle.format.specs.Answer.{Answer, answer, refused}
 use Rattle.format.specs.Refusal.{number_of}
 use Rattle.format.specs.Step.{Step, ok}
-use Rattle.format.specs.Step as Step
-use Rattle.format.specs.Answer as Answer
 use Rattle.faces.specs.declared.extents.Span.{Span}
 use Rattle.faces.specs.declared.extents.SpanAnswer.{SpanAnswer}
 use Rattle.faces.specs.declared.extents.SpanAnswer.TheVariants as SpanA

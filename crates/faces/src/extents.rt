@@ -43,7 +43,7 @@ fn corner(s: &[u8], map: BspData, index: usize) -> VertexAnswer
 }
 
 // The least and the greatest s and t so far.
-#[derive(Drop)]
+#[derive(Clone, Copy)]
 pub struct Span {
     pub s_min: f32,
     pub s_max: f32,
@@ -77,7 +77,7 @@ fn widened_span(info: BspTexInfo, vertex: Vector3, w: Span) -> Span
     }
 }
 
-#[derive(Drop)]
+#[derive(Clone, Copy)]
 pub enum SpanAnswer {
     Value(Span),
     Refused(Refusal),
@@ -135,7 +135,7 @@ fn extent_of(low: f32, high: f32) -> i16
 }
 
 // What loading works out for a face, and whether its texture info is marked special, so that its extents may be above 2,000.
-#[derive(Drop)]
+#[derive(Clone, Copy)]
 pub struct Surface {
     pub texture_mins: TexturePair,
     pub extents: TexturePair,
@@ -158,7 +158,7 @@ fn surface_in(w: Span, special: bool) -> Surface
     }
 }
 
-#[derive(Drop)]
+#[derive(Clone, Copy)]
 pub enum SurfaceAnswer {
     Value(Surface),
     Refused(Refusal),

@@ -10,14 +10,14 @@ use records::number::{
     OptionalOffset, ReadOffset, read_count16, read_index16, read_number16, read_offset,
 };
 
-#[derive(Drop)]
+#[derive(Clone, Copy)]
 pub enum BspFaceSide {
     Front,
     Back,
 }
 
 // The Rust's `light_styles: [u8; 4]`.
-#[derive(Drop)]
+#[derive(Clone, Copy)]
 pub struct LightStyles {
     pub style_0: u8,
     pub style_1: u8,
@@ -26,13 +26,13 @@ pub struct LightStyles {
 }
 
 // The Rust's `[i16; 2]`: along s and along t.
-#[derive(Drop)]
+#[derive(Clone, Copy)]
 pub struct TexturePair {
     pub s: i16,
     pub t: i16,
 }
 
-#[derive(Drop)]
+#[derive(Clone, Copy)]
 pub struct BspFace {
     pub plane_id: usize,
     pub side: BspFaceSide,
@@ -45,7 +45,7 @@ pub struct BspFace {
     pub extents: TexturePair,
 }
 
-#[derive(Drop)]
+#[derive(Clone, Copy)]
 pub enum ReadSide {
     Value(BspFaceSide, usize),
     Refused(Refusal),
@@ -69,7 +69,7 @@ fn read_side(s: &[u8], at: usize) -> ReadSide
     }
 }
 
-#[derive(Drop)]
+#[derive(Clone, Copy)]
 pub enum ReadLightStyles {
     Value(LightStyles, usize),
     EndOfFile,
@@ -101,7 +101,7 @@ fn read_light_styles(s: &[u8], at: usize) -> ReadLightStyles
     )
 }
 
-#[derive(Drop)]
+#[derive(Clone, Copy)]
 pub enum ReadFace {
     Value(BspFace, usize),
     Refused(Refusal),
@@ -181,7 +181,7 @@ fn read_face_light(
     }
 }
 
-#[derive(Drop)]
+#[derive(Clone, Copy)]
 pub enum FaceAnswer {
     Value(BspFace),
     Refused(Refusal),

@@ -2,6 +2,8 @@
 // number of a refusal of document 01; what it answers goes to the front of a list that the caller lends. A refusal writes nothing.
 // Each hands its arguments on: the calls themselves stand in the crates `ffi_..`, since a static library has the exported functions of one
 // crate alone.
+#![tactic(auto)]
+
 ghost use Rattle.std.specs.Prelude.{◌≡◌};
 ghost use Rattle.words.specs.Words.{written, left};
 ghost use Rattle.ffi.specs.Calls as Calls;

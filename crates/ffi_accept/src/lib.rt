@@ -1,4 +1,6 @@
 // Whole-map acceptance, as a number.
+#![tactic(auto)]
+
 ghost use Rattle.std.specs.Prelude.{◌≡◌};
 ghost use Rattle.words.specs.Words.{written};
 ghost use Rattle.accept.specs.Answers.{acceptance_answer};

@@ -1,4 +1,6 @@
 // The tree check of a hull, as words in lists that a caller lends: the hull with the number of nodes and the height of its root's tree.
+#![tactic(auto)]
+
 ghost use Rattle.std.specs.Prelude.{◌≡◌};
 ghost use Rattle.words.specs.Words.{left};
 ghost use Rattle.hull.specs.Answers.{hull_answer};

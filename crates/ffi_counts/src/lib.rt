@@ -1,4 +1,6 @@
 // How many records a section has, and where the entity text lies, as words in a list that a caller lends.
+#![tactic(auto)]
+
 ghost use Rattle.std.specs.Prelude.{◌≡◌};
 ghost use Rattle.words.specs.Words.{written};
 ghost use Rattle.ffi_counts.specs.Calls as Calls;
@@ -8,7 +10,7 @@ use models::text::EntitiesAnswer;
 use words::{LIST_TOO_SHORT, NO_SUCH_RECORD, give, map_of};
 
 // The section of a number.
-#[derive(Drop)]
+#[derive(Clone, Copy)]
 pub enum SectionNumbered {
     Section(BspFileSectionId),
     NoSection,

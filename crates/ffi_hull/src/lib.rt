@@ -1,4 +1,6 @@
 // Hulls, as words in lists that a caller lends.
+#![tactic(auto)]
+
 ghost use Rattle.std.specs.Prelude.{◌≡◌};
 ghost use Rattle.words.specs.Words.{written};
 ghost use Rattle.ffi_hull.specs.Calls as Calls;

@@ -1,4 +1,6 @@
 // Loading a file, its map record as words in a list that a caller lends.
+#![tactic(auto)]
+
 ghost use Rattle.std.specs.Prelude.{◌≡◌};
 ghost use Rattle.words.specs.Words.{written};
 ghost use Rattle.ffi_load.specs.Calls as Calls;

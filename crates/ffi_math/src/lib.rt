@@ -1,5 +1,7 @@
 // The float functions, the vectors, the planes and the traces for C and Rust to call, for comparing
 // them with the Rust: each call takes and gives numbers and lists of numbers alone.
+#![tactic(auto)]
+
 pub mod floats;
 pub mod planes;
 pub mod traces;

@@ -1,4 +1,6 @@
 // Nodes in walking order, and contents and traces taken from them, over numbers and lists that a caller lends.
+#![tactic(auto)]
+
 ghost use Rattle.std.specs.Prelude.{◌≡◌, ◌≤◌, length};
 ghost use Rattle.format.specs.Answer.{mapped};
 ghost use Rattle.words.specs.Words.{written, given, number_words};

@@ -1,4 +1,6 @@
 // Where loading refuses a file, as words in a list that a caller lends; and the library's version.
+#![tactic(auto)]
+
 ghost use Rattle.std.specs.Prelude.{◌≡◌};
 ghost use Rattle.words.specs.Words.{written};
 ghost use Rattle.ffi_place.specs.Calls as Calls;

@@ -1,4 +1,6 @@
 // The records of a map, as words in a list that a caller lends.
+#![tactic(auto)]
+
 ghost use Rattle.std.specs.Prelude.{◌≡◌};
 ghost use Rattle.words.specs.Words.{written};
 ghost use Rattle.ffi_records.specs.Calls as Calls;

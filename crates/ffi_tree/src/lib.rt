@@ -1,4 +1,6 @@
 // The tree check, as words in lists that a caller lends.
+#![tactic(auto)]
+
 ghost use Rattle.std.specs.Prelude.{◌≡◌, ◌≤◌, length};
 ghost use Rattle.format.specs.Answer.{mapped};
 ghost use Rattle.words.specs.Words.{written, left, given, number_words};
@@ -10,7 +12,7 @@ use tree::TreeChecked;
 use words::{LIST_TOO_SHORT, NO_SUCH_RECORD, give, map_of};
 
 // The node table of a number.
-#[derive(Drop)]
+#[derive(Clone, Copy)]
 pub enum TableNumbered {
     Table(HullTable),
     NoTable,

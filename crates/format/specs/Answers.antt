@@ -4,7 +4,6 @@ use Rattle.std.specs.Prelude.{ℕ, ℤ, Float}
 use Rattle.format.specs.Step.{Step, ok, refused}
 use Rattle.format.specs.Refusal.{number_of}
 use Rattle.format.specs.Answer.{Answer, answer}
-use Rattle.format.specs.Answer as Answer
 use Rattle.format.specs.declared.field.ReadU8.{ReadU8}
 use Rattle.format.specs.declared.field.ReadU8.TheVariants as U8
 use Rattle.format.specs.declared.field.ReadU16.{ReadU16}

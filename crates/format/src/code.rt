@@ -6,7 +6,7 @@ ghost use Rattle.format.specs.Code as Code;
 use crate::contents::BspLeafContents;
 
 // What a code stands for: contents, or nothing.
-#[derive(Drop)]
+#[derive(Clone, Copy)]
 pub enum CodedContents {
     Contents(BspLeafContents),
     Invalid,

@@ -8,44 +8,44 @@ ghost use Rattle.format.specs.Answers.{u8_step, u16_step, u32_step, i16_step, i3
 
 use crate::refusal::Refusal;
 
-#[derive(Drop)]
+#[derive(Clone, Copy)]
 pub enum ReadU8 {
     Value(u8, usize),
     EndOfFile,
 }
 
-#[derive(Drop)]
+#[derive(Clone, Copy)]
 pub enum ReadU16 {
     Value(u16, usize),
     EndOfFile,
 }
 
-#[derive(Drop)]
+#[derive(Clone, Copy)]
 pub enum ReadU32 {
     Value(u32, usize),
     EndOfFile,
 }
 
-#[derive(Drop)]
+#[derive(Clone, Copy)]
 pub enum ReadI16 {
     Value(i16, usize),
     EndOfFile,
 }
 
-#[derive(Drop)]
+#[derive(Clone, Copy)]
 pub enum ReadI32 {
     Value(i32, usize),
     EndOfFile,
 }
 
-#[derive(Drop)]
+#[derive(Clone, Copy)]
 pub enum ReadF32 {
     Value(f32, usize),
     EndOfFile,
 }
 
 // A number that is not negative, or a refusal.
-#[derive(Drop)]
+#[derive(Clone, Copy)]
 pub enum ReadIndex {
     Value(u32, usize),
     Refused(Refusal),

@@ -1,4 +1,6 @@
 // The layout of a BSP29 file: its refusals, the contents codes of its leaves, its little-endian fields, its sections and the map record.
+#![tactic(auto)]
+
 pub mod code;
 pub mod contents;
 pub mod field;

@@ -6,14 +6,14 @@ ghost use Rattle.format.specs.Answers as Answers;
 use crate::refusal::Refusal;
 
 // Where a section lies in the file, in bytes.
-#[derive(Drop)]
+#[derive(Clone, Copy)]
 pub struct BspFileSection {
     pub offset: u32,
     pub size: u32,
 }
 
 // The sections, in the order in which the file lists them.
-#[derive(Drop)]
+#[derive(Clone, Copy)]
 pub enum BspFileSectionId {
     Entities,
     Planes,
@@ -33,7 +33,7 @@ pub enum BspFileSectionId {
 }
 
 // The map record: where each section lies, and the texture count. Loading makes one, and so may a caller.
-#[derive(Drop)]
+#[derive(Clone, Copy)]
 pub struct BspData {
     pub entities: BspFileSection,
     pub planes: BspFileSection,
@@ -54,7 +54,7 @@ pub struct BspData {
 }
 
 // Where a record lies in the file, or why it can't be read.
-#[derive(Drop)]
+#[derive(Clone, Copy)]
 pub enum Place {
     At(usize),
     Refused(Refusal),

@@ -12,7 +12,7 @@ use Rattle.format.specs.Answer.{Answer, answer}
 use Rattle.math.specs.Plane as Pl
 use Rattle.math.specs.declared.vector.Vector3.{Vector3}
 use Rattle.walk.specs.Table.{Child, node, end, Table, child_on}
-use Rattle.walk.specs.Walk.{Outcome, done, refused, entered, held, with_visits, Entered, enter, meet, ended, onto, walk_at_lem, walk, point_walk}
+use Rattle.walk.specs.Walk.{Outcome, done, refused, entered, held, with_visits, Entered, enter, meet, ended, onto, walk_at, walk, point_walk}
 use Rattle.nodes.specs.Walks.{ends}
 
 -- what was met, with the nodes entered
@@ -43,7 +43,7 @@ module _ {E A : Type 0} (T : Table E A) (p : Vector3) where
     at_child (node n) = ap (entered i) (same n) ∙ entered_then i (go' n)
     at_child (end e) = an_end i (meet T e)
 
-    at_node_lem : (m : Answer (Entered E)) → walk_at_lem T go i p m ≡ then_meet T (walk_at_lem (ends T) go' i p m)
+    at_node_lem : (m : Answer (Entered E)) → walk_at T go i p m ≡ then_meet T (walk_at (ends T) go' i p m)
     at_node_lem (answer m) = at_child (child_on m.nd (Pl.point_side m.plane p))
     at_node_lem (Ans.refused n) = refl
 
@@ -55,7 +55,7 @@ module _ {E A : Type 0} (T : Table E A) (p : Vector3) where
   unfolding walk enter
   walk_meets zero i = by_index (ltb i T.nodes.count) (refused 31) (refused 31) refl
   walk_meets (suc k) i =
-      by_index (ltb i T.nodes.count) (walk_at_lem T (λ n. walk T k n p) i p (enter T i)) (walk_at_lem (ends T) (λ n. walk (ends T) k n p) i p (enter (ends T) i))
+      by_index (ltb i T.nodes.count) (walk_at T (λ n. walk T k n p) i p (enter T i)) (walk_at (ends T) (λ n. walk (ends T) k n p) i p (enter (ends T) i))
       (at_node_lem (λ n. walk T k n p) (λ n. walk (ends T) k n p) (λ n. walk_meets k n) i (enter T i))
 
   -- ---- the answer, from the answer of the walk to the end

@@ -16,14 +16,14 @@ use nodes::table::{HullTable, Tables, tables_of};
 use nodes::walking::{WalkEnd, walk_to_end};
 
 // The contents at a point, and how many nodes were entered.
-#[derive(Drop)]
+#[derive(Clone, Copy)]
 pub enum PointContents {
     Contents(BspLeafContents, u64),
     Refused(Refusal),
 }
 
 // The leaf that a point is in, and how many nodes were entered.
-#[derive(Drop)]
+#[derive(Clone, Copy)]
 pub enum FoundLeaf {
     Leaf(usize, u64),
     Refused(Refusal),

@@ -19,7 +19,7 @@ use records::plane::PlaneAnswer;
 
 // What a line goes through: the root, the tables, and whether the file has all of their nodes and planes. The root stands first: behind the
 // one byte of `whole` it would be copied by moves that wait for narrower ones.
-#[derive(Drop)]
+#[derive(Clone, Copy)]
 pub struct Ground {
     pub root: usize,
     pub t: Tables,

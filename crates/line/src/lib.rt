@@ -1,4 +1,6 @@
 // Whole-line traces: a second trace, by the published rule of id Software's world.c.
+#![tactic(auto)]
+
 mod contents;
 pub mod state;
 mod through;

@@ -17,7 +17,7 @@ use nodes::segment::SegmentAt;
 // A plane whose far side waits: its number; the word of the child there, with 65536 more where the line comes from its front and 131072 more
 // for each call left below it; and where the line crosses it, by its fraction and its point. Ten of them are cleared without a call
 // (docs/DECISIONS.md 111).
-#[derive(Drop)]
+#[derive(Clone, Copy)]
 pub struct Waiting {
     pub plane: u32,
     pub far: u32,
@@ -26,7 +26,7 @@ pub struct Waiting {
 }
 
 // Where the line stands: at a child, by its word, with the calls left and a part.
-#[derive(Drop)]
+#[derive(Clone, Copy)]
 pub struct Stand {
     pub word: u16,
     pub left: u32,
@@ -34,7 +34,7 @@ pub struct Stand {
 }
 
 // Where the line comes to: it goes through; or it is blocked at a plane, with what is set before it; or nothing is said.
-#[derive(Drop)]
+#[derive(Clone, Copy)]
 pub enum Came {
     Through(LineTrace),
     Blocked(Waiting, LineTrace),
@@ -43,7 +43,7 @@ pub enum Came {
 
 // Where a part's way down comes to: the word of an end; or a plane that it crosses, with the node's words, the distances of its ends and the
 // calls left below it; or nothing is said.
-#[derive(Drop)]
+#[derive(Clone, Copy)]
 enum Reached {
     End(u16),
     Crossing(Words, f32, f32, u32),
@@ -52,7 +52,7 @@ enum Reached {
 
 // What one turn of the line comes to: an end, by its word; a plane that it crosses, with the node's words, whether it comes from the front, the
 // calls left below and the part before it; a leaf, with what is set in it; or the line is blocked; or nothing is said.
-#[derive(Drop)]
+#[derive(Clone, Copy)]
 enum Turn {
     End(u16),
     Crossing(Words, bool, u32, Stretch),

@@ -24,14 +24,14 @@ use nodes::whole::{are_whole, node_bytes, plane_bytes};
 use records::plane::PlaneAnswer;
 
 // What `trace_line` answers.
-#[derive(Drop)]
+#[derive(Clone, Copy)]
 pub enum LineAnswer {
     Line(LineTrace),
     Refused(Refusal),
 }
 
 // How a call ends: tracing may go on, or it stops.
-#[derive(Drop)]
+#[derive(Clone, Copy)]
 pub enum Going {
     On(LineTrace),
     Stopped(LineTrace),
@@ -40,7 +40,7 @@ pub enum Going {
 
 // Where a part's way down comes to: the leaf that it all lies in; or a plane that it crosses, with the node's words, the distances of its
 // ends and the calls left below it.
-#[derive(Drop)]
+#[derive(Clone, Copy)]
 enum Descent {
     Leaf(BspLeafContents),
     Crossing(Words, f32, f32, u32),
@@ -48,14 +48,14 @@ enum Descent {
 }
 
 // Where a line that is blocked stops, with what is set; or nothing is said.
-#[derive(Drop)]
+#[derive(Clone, Copy)]
 enum Stop {
     At(LineTrace),
     Nothing,
 }
 
 // Where a part of the line goes on to beyond a plane: to a node, or tracing ends.
-#[derive(Drop)]
+#[derive(Clone, Copy)]
 enum Far {
     Node(usize),
     Ended(Going),

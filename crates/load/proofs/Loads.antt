@@ -10,7 +10,6 @@ use native.Mathlib.Omega.{arith}
 use borrow.Author.Tests.{eqb-true, eqb-false, leb-true, lt-leb}
 use lib.Dec.{eqb, leb, ltb}
 use lib.ListN.{length}
-use Rattle.format.specs.Answer as Answer
 use Rattle.format.specs.Answer.{Answer, answer, on_refusal}
 use Rattle.format.specs.Field.{u16_at}
 use Rattle.format.specs.Section.{element_size, within_limit, record_count, section_of}

@@ -3,7 +3,6 @@
 use Prim.Native.Nat.{ℕ}
 use mathlib.Core.Path.{◌≡◌, refl, sym, ap, ◌∙◌, subst}
 use mathlib.Core.List.{List}
-use Rattle.format.specs.Answer as Answer
 use Rattle.format.specs.Answer.{Answer, answer}
 use Rattle.format.specs.Field.{u16_at}
 use Rattle.format.specs.Step.{Step, ok, refused, and_then}

@@ -1,7 +1,6 @@
 -- Loading a file, in the order of load.rs: the header, the limits, the sections, the extents of the faces, the leaves that render nodes
 -- name, the models; up to the first refusal.
 use Rattle.std.specs.Prelude.{ℕ, List}
-use Rattle.format.specs.Answer as Answer
 use Rattle.format.specs.Answer.{Answer}
 use Rattle.format.specs.Field.{u16_at}
 use Rattle.format.specs.Step.{Step, ok, refused, and_then}

@@ -1,4 +1,6 @@
 // Loads a BSP29 map from the lent bytes of its file.
+#![tactic(auto)]
+
 ghost use Rattle.std.specs.Prelude.{◌≡◌};
 ghost use Rattle.load.specs.Load.{load_of, counted};
 ghost use Rattle.load.specs.Answers.{loaded_step, loaded_answer};
@@ -25,7 +27,7 @@ use sections::table::{ReadTable, check_limits, read_header};
 use textures::load::read_texture_section;
 
 // What loading answers.
-#[derive(Drop)]
+#[derive(Clone, Copy)]
 pub enum Loaded {
     Map(BspData),
     Refused(Refusal),

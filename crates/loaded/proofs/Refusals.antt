@@ -11,7 +11,6 @@ use lib.Dec.{leb}
 use lib.ListN.{length}
 use Rattle.format.specs.Answer as Ans
 use Rattle.format.specs.Answer.{Answer, answer, mapped}
-use Rattle.format.specs.Step as Step
 use Rattle.format.specs.Step.{Step}
 use Rattle.format.specs.Section.{section_of, place, record_count, within_limit, element_size}
 use Rattle.format.specs.declared.section.BspData.{BspData}

@@ -1,4 +1,6 @@
 // Made-up maps (Note 14): a BSP29 file from a seed and a node count, for load tests on maps that nobody drew.
+#![tactic(auto)]
+
 ghost use Rattle.std.specs.Prelude.{◌≡◌, ◌+◌, ◌*◌, ◌≤◌, ◌<◌, [], ◌∷◌, ◌++◌, length};
 ghost use Rattle.std.specs.Float.{binary32};
 ghost use Rattle.std.specs.Float.Ieee.{to_bits};
@@ -13,7 +15,7 @@ ghost use Rattle.made.specs.Answers.{length_of};
 use format::refusal::Refusal;
 
 // How long the file is, or why none was written.
-#[derive(Drop)]
+#[derive(Clone, Copy)]
 pub enum MadeUp {
     Length(usize),
     Refused(Refusal),
@@ -84,7 +86,7 @@ fn children(solid: u32, empty: u32, number: u32, nodes: usize, i: usize) -> u32
 }
 
 // A section with a record for each node.
-#[derive(Drop)]
+#[derive(Clone, Copy)]
 enum Part {
     Planes,
     RenderNodes,

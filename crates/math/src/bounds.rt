@@ -8,7 +8,7 @@ use crate::plane::{Alignment, Hyperplane, HyperplaneSide};
 use crate::vector::Vector3;
 
 // Where a box of points goes at a plane: to one side as a whole, or to both.
-#[derive(Drop)]
+#[derive(Clone, Copy)]
 pub enum BoxSide {
     One(HyperplaneSide),
     Both,

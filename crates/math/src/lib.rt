@@ -1,4 +1,6 @@
 // Vectors of three f32, planes in space and boxes of points.
+#![tactic(auto)]
+
 pub mod bounds;
 pub mod plane;
 pub mod vector;

@@ -4,7 +4,7 @@ ghost use Rattle.math.specs.Plane as Pl;
 
 use crate::vector::{Axis, Vector3, inverse_root};
 
-#[derive(Drop)]
+#[derive(Clone, Copy)]
 pub enum HyperplaneSide {
     Positive,
     Negative,
@@ -46,7 +46,7 @@ impl HyperplaneSide {
     }
 }
 
-#[derive(Drop)]
+#[derive(Clone, Copy)]
 pub enum Alignment {
     Axis(Axis),
     Normal(Vector3),
@@ -80,14 +80,14 @@ impl Alignment {
     }
 }
 
-#[derive(Drop)]
+#[derive(Clone, Copy)]
 pub struct Hyperplane {
     pub alignment: Alignment,
     pub dist: f32,
 }
 
 // Where a segment crosses a plane: how far along, the point, and the plane turned to the start's side.
-#[derive(Drop)]
+#[derive(Clone, Copy)]
 pub struct PointIntersection {
     pub ratio: f32,
     pub point: Vector3,
@@ -115,7 +115,7 @@ impl PointIntersection {
 }
 
 // A segment that lies in the plane does not cross it: a distance of 0 is Positive.
-#[derive(Drop)]
+#[derive(Clone, Copy)]
 pub enum LinePlaneIntersect {
     NoIntersection(HyperplaneSide),
     PointIntersection(PointIntersection),

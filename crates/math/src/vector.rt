@@ -5,14 +5,14 @@ ghost use Rattle.std.specs.Float.Ieee.{div};
 ghost use Rattle.float.specs.Root.{sqrt};
 ghost use Rattle.math.specs.Vector as Vec;
 
-#[derive(Drop)]
+#[derive(Clone, Copy)]
 pub enum Axis {
     X,
     Y,
     Z,
 }
 
-#[derive(Drop)]
+#[derive(Clone, Copy)]
 pub struct Vector3 {
     pub x: f32,
     pub y: f32,

@@ -3,7 +3,6 @@
 use Rattle.std.specs.Prelude.{ℕ}
 use Rattle.format.specs.Step.{Step, ok, refused}
 use Rattle.format.specs.Refusal.{number_of}
-use Rattle.format.specs.Answer as Answer
 use Rattle.format.specs.Answer.{Answer, answer}
 use Rattle.models.specs.Text.{Part}
 use Rattle.models.specs.declared.model.ModelBounds.{ModelBounds}

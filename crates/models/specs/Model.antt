@@ -5,7 +5,6 @@ use Rattle.std.specs.Float.{binary32}
 use Rattle.math.specs.Vector.{vector, sum, difference}
 use Rattle.math.specs.declared.vector.Vector3.{Vector3}
 use Rattle.format.specs.Step.{Step, ok, and_then}
-use Rattle.format.specs.Answer as Answer
 use Rattle.format.specs.Answer.{Answer, then_answer}
 use Rattle.format.specs.Field.{i32_at, index_at}
 use Rattle.format.specs.Section.{record_count}

@@ -10,7 +10,7 @@ use math::Vector3;
 use records::triple::{ReadVector, read_vector};
 
 // The Rust's `[usize; MAX_HULLS]`.
-#[derive(Drop)]
+#[derive(Clone, Copy)]
 pub struct PerHull {
     pub hull_0: usize,
     pub hull_1: usize,
@@ -18,7 +18,7 @@ pub struct PerHull {
 }
 
 // The box of a model, one unit wider on each side than in the file, and its origin.
-#[derive(Drop)]
+#[derive(Clone, Copy)]
 pub struct ModelBounds {
     pub min: Vector3,
     pub max: Vector3,
@@ -36,7 +36,7 @@ fn padded(min: Vector3, max: Vector3, origin: Vector3) -> ModelBounds
     }
 }
 
-#[derive(Drop)]
+#[derive(Clone, Copy)]
 pub enum ReadBounds {
     Value(ModelBounds, usize),
     EndOfFile,
@@ -57,7 +57,7 @@ fn read_bounds(s: &[u8], at: usize) -> ReadBounds
     ReadBounds::Value(padded(min, max, origin), next)
 }
 
-#[derive(Drop)]
+#[derive(Clone, Copy)]
 pub enum ReadHullRoots {
     Value(PerHull, usize),
     Refused(Refusal),
@@ -87,7 +87,7 @@ fn read_hull_roots(s: &[u8], at: usize) -> ReadHullRoots
 }
 
 // A model's own record.
-#[derive(Drop)]
+#[derive(Clone, Copy)]
 pub struct BspFileModel {
     pub bounds: ModelBounds,
     pub collision_node_ids: PerHull,
@@ -96,7 +96,7 @@ pub struct BspFileModel {
     pub face_count: usize,
 }
 
-#[derive(Drop)]
+#[derive(Clone, Copy)]
 pub enum ReadFileModel {
     Value(BspFileModel, usize),
     Refused(Refusal),
@@ -148,7 +148,7 @@ fn read_file_model_end(
     }
 }
 
-#[derive(Drop)]
+#[derive(Clone, Copy)]
 pub enum FileModelAnswer {
     Value(BspFileModel),
     Refused(Refusal),
@@ -167,7 +167,7 @@ pub fn file_model(s: &[u8], map: BspData, index: usize) -> FileModelAnswer
     }
 }
 
-#[derive(Drop)]
+#[derive(Clone, Copy)]
 pub enum LeafIdAnswer {
     Value(usize),
     Refused(Refusal),
@@ -194,7 +194,7 @@ fn leaf_id(s: &[u8], map: BspData, index: usize) -> LeafIdAnswer
 }
 
 // A model. Its file is not held: it is named by argument.
-#[derive(Drop)]
+#[derive(Clone, Copy)]
 pub struct BspModel {
     pub min: Vector3,
     pub max: Vector3,
@@ -241,7 +241,7 @@ fn with_rest(total: usize, leaf_id: usize, model: BspFileModel) -> BspModel
     }
 }
 
-#[derive(Drop)]
+#[derive(Clone, Copy)]
 pub enum ModelAnswer {
     Value(BspModel),
     Refused(Refusal),
@@ -264,7 +264,7 @@ pub fn model(s: &[u8], map: BspData, index: usize) -> ModelAnswer
 }
 
 // The first and the last leaf of a range.
-#[derive(Drop)]
+#[derive(Clone, Copy)]
 pub struct LeafRange {
     pub first: usize,
     pub last: usize,

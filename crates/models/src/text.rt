@@ -21,7 +21,7 @@ pub fn text_end(s: &[u8], at: usize) -> usize
 }
 
 // Where the entity text lies in the file, or why it can't be read.
-#[derive(Drop)]
+#[derive(Clone, Copy)]
 pub enum EntitiesAnswer {
     Value(usize, usize),
     Refused(Refusal),

@@ -6,7 +6,7 @@ use Rattle.format.specs.Answer.{Answer, answer, mapped}
 use Rattle.math.specs.Plane as Pl
 use Rattle.math.specs.declared.vector.Vector3.{Vector3}
 use Rattle.walk.specs.Table.{Child, node, end, Table, child_on}
-use Rattle.walk.specs.Walk.{Outcome, refused, Entered, entered, with_visits, ended, enter, meet, onto, walk, walk_at_lem, point_walk}
+use Rattle.walk.specs.Walk.{Outcome, refused, Entered, entered, with_visits, ended, enter, meet, onto, walk, walk_at, point_walk}
 use Rattle.nodes.specs.Tables.{End, file_table}
 use Rattle.nodes.specs.Fast.{is_render, node_size, table}
 use Rattle.nodes.specs.Walks.{are_whole, ends, made_at}
@@ -25,21 +25,21 @@ module _ {E : Type 0} (S T : Table E E) (counts : S.nodes.count ≡ T.nodes.coun
   onto_same go on h (node n) = h n
   onto_same go on h (end e) = ap (λ (x : Answer E). ended T (λ a. a) x) (meets e)
 
-  at_same : (k : ℕ) → ((n : ℕ) → walk S k n p ≡ walk T k n p) → (i : ℕ) (x : Answer (Entered E)) → walk_at_lem S (λ n. walk S k n p) i p x ≡ walk_at_lem T (λ n. walk T k n p) i p x
+  at_same : (k : ℕ) → ((n : ℕ) → walk S k n p ≡ walk T k n p) → (i : ℕ) (x : Answer (Entered E)) → walk_at S (λ n. walk S k n p) i p x ≡ walk_at T (λ n. walk T k n p) i p x
   at_same k h i (answer m) = ap (entered i) (onto_same (λ n. walk S k n p) (λ n. walk T k n p) h (child_on m.nd (Pl.point_side m.plane p)))
   at_same k h i (Ans.refused n) = refl
 
   step_same : (k : ℕ) → ((n : ℕ) → walk S k n p ≡ walk T k n p) → (i : ℕ) (b : Bool) → ltb i T.nodes.count ≡ b
-      → cond b (walk_at_lem S (λ n. walk S k n p) i p (enter S i)) (refused 30) ≡ cond b (walk_at_lem T (λ n. walk T k n p) i p (enter T i)) (refused 30)
+      → cond b (walk_at S (λ n. walk S k n p) i p (enter S i)) (refused 30) ≡ cond b (walk_at T (λ n. walk T k n p) i p (enter T i)) (refused 30)
   step_same k h i true e =
-      ap (walk_at_lem S (λ n. walk S k n p) i p) (enters i (ltb-true i T.nodes.count e)) ∙ at_same k h i (enter T i)
+      ap (walk_at S (λ n. walk S k n p) i p) (enters i (ltb-true i T.nodes.count e)) ∙ at_same k h i (enter T i)
   step_same k h i false e = refl
 
   pub same_walk : (k i : ℕ) → walk S k i p ≡ walk T k i p
   unfolding walk
   same_walk zero i = ap (λ (c : ℕ). cond (ltb i c) (refused 31) (refused 30)) counts
   same_walk (suc k) i =
-      ap (λ (c : ℕ). cond (ltb i c) (walk_at_lem S (λ n. walk S k n p) i p (enter S i)) (refused 30)) counts
+      ap (λ (c : ℕ). cond (ltb i c) (walk_at S (λ n. walk S k n p) i p (enter S i)) (refused 30)) counts
       ∙ step_same k (same_walk k) i (ltb i T.nodes.count) refl
 
 -- ---- what a walk by numbers says, where it says something

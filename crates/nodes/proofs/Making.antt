@@ -1,6 +1,6 @@
 -- What is made of a node and its plane: by the readers of any table, and by the bytes of sections that are whole.
 -- Assumes nothing.
-use Rattle.std.proofs.Common.{◌≡◌, ℕ, ◌+◌, ◌*◌, ◌/◌, ◌<◌, ◌≤◌, Bool, true, false, cond, not, ltb, List, length, sym, refl, ap, ◌∙◌, arith, ltb-false, ltb-true, le-ltb, lt-ltb}
+use Rattle.std.proofs.Common.{◌≡◌, ℕ, ◌+◌, ◌*◌, ◌/◌, ◌<◌, ◌≤◌, Bool, true, false, cond, ltb, List, length, sym, refl, ap, ◌∙◌, arith, ltb-false, ltb-true, le-ltb, lt-ltb}
 use lib.Ieee.{Float}
 use Rattle.format.proofs.Answers.{mapped_answer, mapped_refused}
 use Rattle.format.specs.Answer as Ans
@@ -203,10 +203,10 @@ module _ (s : List ℕ) (t : Tables) (n m : List ℕ) (b : Bool) (read : Read s 
   is_whole = sym read.told ∙ on
 
   is_n : n ≡ all_bytes s t.nodes (node_size (is_render t.table))
-  is_n = read.its_nodes ∙ all_taken s t.nodes (node_size (is_render t.table)) b (ap not on) true (sym (all_whole t (length s) is_whole).1) refl
+  is_n = read.its_nodes ∙ all_taken s t.nodes (node_size (is_render t.table)) b on true (sym (all_whole t (length s) is_whole).1) refl
 
   pub is_m : m ≡ all_bytes s t.planes 20
-  is_m = read.its_planes ∙ all_taken s t.planes 20 b (ap not on) true (sym (all_whole t (length s) is_whole).2) refl
+  is_m = read.its_planes ∙ all_taken s t.planes 20 b on true (sym (all_whole t (length s) is_whole).2) refl
 
   nodes_length : length n ≡ t.nodes.count * node_size (is_render t.table)
   nodes_length = rw is_n (bytes_length s t.nodes (node_size (is_render t.table)) (whole_nodes s t is_whole).1)

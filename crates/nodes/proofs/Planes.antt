@@ -5,7 +5,7 @@ use lib.Ieee as Ieee
 use lib.Ieee.{Float, binary32, nan}
 use Rattle.format.specs.Answer as Ans
 use Rattle.format.specs.Answer.{answer, then_answer}
-use Rattle.format.specs.Step.{ok, refused}
+use Rattle.format.specs.Step.{ok}
 use Rattle.math.specs.Plane as Pl
 use Rattle.math.specs.declared.vector.Vector3.{Vector3}
 use Rattle.math.specs.declared.plane.Hyperplane.{Hyperplane}

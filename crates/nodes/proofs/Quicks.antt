@@ -1,7 +1,6 @@
 -- Each way through a walk by the bytes of whole sections, which says nothing where the walk is refused; and the code of the contents at an end.
 -- Assumes nothing.
-use Rattle.std.proofs.Common.{◌≡◌, ℕ, ◌+◌, ◌-◌, ◌*◌, ◌/◌, ◌%◌, ◌<◌, ◌≤◌, Bool, true, false, cond, not, ltb, List, length, sym, refl, ap, ◌∙◌, arith, ltb-false, ltb-true, ne_eqb}
-use borrow.Author.Tests.{not-true, not-false}
+use Rattle.std.proofs.Common.{◌≡◌, ℕ, ◌+◌, ◌-◌, ◌*◌, ◌/◌, ◌%◌, ◌<◌, ◌≤◌, Bool, true, false, cond, ltb, List, length, sym, refl, ap, ◌∙◌, arith, ltb-false, ltb-true, ne_eqb}
 use Rattle.format.specs.Answer as Ans
 use Rattle.format.specs.Answer.{Answer, answer, then_answer}
 use Rattle.format.specs.Answers.{place_answer}
@@ -103,13 +102,13 @@ below_limit c true e h = omega (arith, h)
 below_limit c false e h = let l = ltb-false 32767 c e in omega (arith, l)
 
 module _ (s : List ℕ) (k : Bool) (a c b d : ℕ) (t : Tables) (is-t : t ≡ tables_by k a c b d) (whole : Bool) (is_whole : whole ≡ are_whole t (length s)) where
-  pub no_table : not whole ≡ true → (root : ℕ) (p : Vector3) → Ans.refused 0 ≡ quick_walk s (tables_by k a c b d) root p
+  pub no_table : whole ≡ false → (root : ℕ) (p : Vector3) → Ans.refused 0 ≡ quick_walk s (tables_by k a c b d) root p
   unfolding quick_walk
-  no_table e root p = rw (← is-t, ← is_whole, not-true whole e)
+  no_table e root p = rw (← is-t, ← is_whole, e)
 
-  module _ (n m : List ℕ) (e : not whole ≡ false) (is_n : n ≡ node_bytes whole s t) (is_m : m ≡ plane_bytes whole s t) where
+  module _ (n m : List ℕ) (e : whole ≡ true) (is_n : n ≡ node_bytes whole s t) (is_m : m ≡ plane_bytes whole s t) where
     on : whole ≡ true
-    on = not-false whole e
+    on = e
 
     pub of_table : Whole s t n m k
     of_table =

@@ -1,6 +1,6 @@
 -- A file that has all nodes and all planes: the bytes of their sections, and what is read from them.
 -- Assumes nothing.
-use Rattle.std.proofs.Common.{◌≡◌, ℕ, ◌+◌, ◌-◌, ◌*◌, ◌<◌, ◌≤◌, Bool, true, false, cond, not, ltb, leb, List, [], length, take, drop, sym, refl, ap, ◌∙◌, mul-le-mul, arith, length-drop, length-take-le, ltb-false, le-ltb, lt-ltb, leb-true}
+use Rattle.std.proofs.Common.{◌≡◌, ℕ, ◌+◌, ◌-◌, ◌*◌, ◌<◌, ◌≤◌, Bool, true, false, cond, ltb, leb, List, [], length, take, drop, sym, refl, ap, ◌∙◌, mul-le-mul, arith, length-drop, length-take-le, ltb-false, le-ltb, lt-ltb, leb-true}
 use Rattle.nodes.specs.Fast.{Within, is_render, node_size}
 use Rattle.nodes.specs.Tables.{is_box}
 use Rattle.nodes.specs.Walks.{is_whole, are_whole, all_bytes, bytes_of}
@@ -58,33 +58,25 @@ module _ (t : Tables) (n : ℕ) where
   unfolding are_whole
   all_whole e = by_three (is_box t.table) on_nodes (is_whole t.planes 20 n) refl refl refl e
 
-isnt : (b : Bool) → not b ≡ true → b ≡ false
-isnt true e = let z : ◌≡◌ {A = ℕ} 0 1 = cc in absurd (omega arith)
-isnt false e = refl
-
-does : (b : Bool) → not b ≡ false → b ≡ true
-does true e = refl
-does false e = let z : ◌≡◌ {A = ℕ} 0 1 = cc in absurd (omega arith)
-
 -- the bytes of a part, as they are taken
 module _ (s : List ℕ) (p : Part) (size : ℕ) (b : Bool) where
-  pub none_asked : not b ≡ true → [] ≡ bytes_of b s p size
+  pub none_asked : b ≡ false → [] ≡ bytes_of b s p size
   unfolding bytes_of
-  none_asked e = rw (isnt b e)
+  none_asked e = rw e
 
-  module _ (e : not b ≡ false) (k : Bool) (is-k : k ≡ is_whole p size (length s)) where
-    pub none_whole : not k ≡ true → [] ≡ bytes_of b s p size
+  module _ (e : b ≡ true) (k : Bool) (is-k : k ≡ is_whole p size (length s)) where
+    pub none_whole : k ≡ false → [] ≡ bytes_of b s p size
     unfolding bytes_of
-    none_whole f = rw (does b e, ← is-k, isnt k f)
+    none_whole f = rw (e, ← is-k, f)
 
-    pub all_taken : not k ≡ false → bytes_of b s p size ≡ all_bytes s p size
+    pub all_taken : k ≡ true → bytes_of b s p size ≡ all_bytes s p size
     unfolding bytes_of
-    all_taken f = rw (does b e, ← is-k, does k f)
+    all_taken f = rw (e, ← is-k, f)
 
-    pub ends_inside : not k ≡ false → p.at + p.count * size ≤ length s
-    ends_inside f = (whole_is p size (length s) (sym is-k ∙ does k f)).1
+    pub ends_inside : k ≡ true → p.at + p.count * size ≤ length s
+    ends_inside f = (whole_is p size (length s) (sym is-k ∙ f)).1
 
-    pub bytes_are : not k ≡ false → (end : ℕ) → end ≡ p.at + p.count * size → take (end - p.at) (drop p.at s) ≡ bytes_of b s p size
+    pub bytes_are : k ≡ true → (end : ℕ) → end ≡ p.at + p.count * size → take (end - p.at) (drop p.at s) ≡ bytes_of b s p size
     bytes_are f end is_end =
         rw is_end (ap (λ (k : ℕ). take k (drop p.at s)) {x = p.at + p.count * size - p.at} {y = p.count * size} (omega arith)) ∙ sym (all_taken f)
 

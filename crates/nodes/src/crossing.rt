@@ -15,7 +15,7 @@ use format::refusal::Refusal;
 use math::{Hyperplane, Vector3};
 
 // Whether two points are on the positive side of a plane.
-#[derive(Drop)]
+#[derive(Clone, Copy)]
 pub enum Sides {
     Two(bool, bool),
     Refused(Refusal),

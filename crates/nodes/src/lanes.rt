@@ -20,14 +20,14 @@ use format::refusal::Refusal;
 use math::{Hyperplane, Vector3};
 
 // The word of the end that a walk comes to, and how many nodes it entered.
-#[derive(Drop)]
+#[derive(Clone, Copy)]
 pub struct Lane {
     pub word: u16,
     pub visits: u32,
 }
 
 // Where two walks end. Nothing is said where one of them is refused, or the file does not have all nodes and planes.
-#[derive(Drop)]
+#[derive(Clone, Copy)]
 pub enum TwoEnds {
     Ends(Lane, Lane),
     Nothing,

@@ -1,5 +1,7 @@
 // The node tables behind one face: what a walk or a trace needs of a node, of its plane and of an end, for render nodes, clip nodes and
 // the six nodes of a box. The readers read by need and answer a few numbers.
+#![tactic(auto)]
+
 mod bytes;
 pub mod crossing;
 mod here;

@@ -14,7 +14,7 @@ use math::{Hyperplane, Vector3};
 use records::plane::PlaneAnswer;
 
 // One of two numbers, or why the plane that decides cannot be read.
-#[derive(Drop)]
+#[derive(Clone, Copy)]
 pub enum Picked {
     Word(u32),
     Refused(Refusal),

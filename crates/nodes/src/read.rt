@@ -16,34 +16,34 @@ use records::plane::PlaneAnswer;
 
 // A node's plane, and its children's words as one number: the front one's and 65536 times the back one's. A word below 2^15 is a node, any
 // other an end.
-#[derive(Drop)]
+#[derive(Clone, Copy)]
 pub struct Words {
     pub plane: u32,
     pub both: u32,
 }
 
-#[derive(Drop)]
+#[derive(Clone, Copy)]
 pub enum ReadWords {
     Words(Words),
     Refused(Refusal),
 }
 
 // Whether a point is on the positive side of a plane.
-#[derive(Drop)]
+#[derive(Clone, Copy)]
 pub enum Sided {
     Front(bool),
     Refused(Refusal),
 }
 
 // The distances of two points from a plane.
-#[derive(Drop)]
+#[derive(Clone, Copy)]
 pub enum Dists {
     Two(f32, f32),
     Refused(Refusal),
 }
 
 // The contents at an end.
-#[derive(Drop)]
+#[derive(Clone, Copy)]
 pub enum EndContents {
     Contents(BspLeafContents),
     Refused(Refusal),

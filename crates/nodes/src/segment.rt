@@ -12,7 +12,7 @@ use format::refusal::Refusal;
 use math::Vector3;
 
 // A node's words, and the distances of two points from its plane.
-#[derive(Drop)]
+#[derive(Clone, Copy)]
 pub enum SegmentAt {
     Dists(Words, f32, f32),
     Refused(Refusal),

@@ -9,7 +9,7 @@ use format::section::{BspData, BspFileSection, Place};
 use math::Vector3;
 
 // Hull 0 goes by the render nodes and the leaves' contents, hulls 1 and 2 by the clip nodes. A box has six nodes of its own.
-#[derive(Drop)]
+#[derive(Clone, Copy)]
 pub enum HullTable {
     Render,
     Clip,
@@ -39,7 +39,7 @@ impl HullTable {
 }
 
 // Where the records of a section lie, how many there are, and how many of them can be read as far as the section's limit goes: all or none.
-#[derive(Drop)]
+#[derive(Clone, Copy)]
 pub struct Part {
     pub at: u32,
     pub count: u32,
@@ -47,7 +47,7 @@ pub struct Part {
 }
 
 // What a walk or a trace goes by. A box's planes are its bounds.
-#[derive(Drop)]
+#[derive(Clone, Copy)]
 pub struct Tables {
     pub table: HullTable,
     pub nodes: Part,

@@ -15,14 +15,14 @@ use format::refusal::Refusal;
 use math::Vector3;
 
 // The word of the end that a walk comes to, and how many nodes it entered.
-#[derive(Drop)]
+#[derive(Clone, Copy)]
 pub enum WalkEnd {
     Word(u16, u64),
     Refused(Refusal),
 }
 
 // The word of the child that a point goes on to from a node.
-#[derive(Drop)]
+#[derive(Clone, Copy)]
 pub enum Onward {
     Word(u16),
     Refused(Refusal),

@@ -1,5 +1,7 @@
 // Traces: what a moving point meets. The trace types of phys.rs; a trace is taken by value and handed back as a new
 // value.
+#![tactic(auto)]
+
 ghost use Rattle.std.specs.Prelude.{◌≡◌};
 ghost use Rattle.phys.specs.Trace as Tr;
 ghost use Rattle.phys.specs.Answers as Answers;
@@ -9,7 +11,7 @@ use format::refusal::Refusal;
 use math::{Hyperplane, Vector3};
 
 // The start of a trace, and the ratio along the original trace at which this part begins.
-#[derive(Drop)]
+#[derive(Clone, Copy)]
 pub struct TraceStart {
     pub point: Vector3,
     pub ratio: f32,
@@ -24,21 +26,21 @@ impl TraceStart {
 }
 
 // The end of a trace that crossed between leaves.
-#[derive(Drop)]
+#[derive(Clone, Copy)]
 pub struct TraceEndBoundary {
     pub ratio: f32,
     pub plane: Hyperplane,
 }
 
 // An end within a leaf, or on the plane between two.
-#[derive(Drop)]
+#[derive(Clone, Copy)]
 pub enum TraceEndKind {
     Terminal,
     Boundary(TraceEndBoundary),
 }
 
 // The end of a trace.
-#[derive(Drop)]
+#[derive(Clone, Copy)]
 pub struct TraceEnd {
     pub point: Vector3,
     pub kind: TraceEndKind,
@@ -65,7 +67,7 @@ impl TraceEnd {
 }
 
 // A trace through leaves of the same contents, or out of a solid one.
-#[derive(Drop)]
+#[derive(Clone, Copy)]
 pub struct Trace {
     pub start: TraceStart,
     pub end: TraceEnd,
@@ -74,7 +76,7 @@ pub struct Trace {
 }
 
 // What `join` answers.
-#[derive(Drop)]
+#[derive(Clone, Copy)]
 pub enum Joined {
     Trace(Trace),
     Refused(Refusal),

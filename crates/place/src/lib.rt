@@ -1,4 +1,6 @@
 // Where loading refuses a file: the section, the record and the byte at which the reader stands that refuses.
+#![tactic(auto)]
+
 ghost use Rattle.std.specs.Prelude.{◌≡◌};
 ghost use Rattle.place.specs.Place as Spec;
 ghost use Rattle.place.specs.Private as Parts;
@@ -28,7 +30,7 @@ use sections::table::{ReadTable, check_limits, read_header};
 use textures::load::read_texture_section;
 
 // The file loads, or a refusal with the number of its section in the directory (15: the header), and where it stands.
-#[derive(Drop)]
+#[derive(Clone, Copy)]
 pub enum LoadPlace {
     Loads,
     Refused(Refusal, u32, Stop),

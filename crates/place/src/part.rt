@@ -12,21 +12,21 @@ use sections::position::Position;
 use sections::row::read_plain;
 
 // A record by its index, at a position of the file.
-#[derive(Drop)]
+#[derive(Clone, Copy)]
 pub struct Stop {
     pub index: u32,
     pub byte: usize,
 }
 
 // So many records from a position on.
-#[derive(Drop)]
+#[derive(Clone, Copy)]
 pub struct Span {
     pub count: u32,
     pub start: usize,
 }
 
 // The parts of loading that read records in a row.
-#[derive(Drop)]
+#[derive(Clone, Copy)]
 pub enum Part {
     Directory,
     Limits,

@@ -11,14 +11,14 @@ use nodes::table::Tables;
 use records::plane::PlaneAnswer;
 
 // The child that a group stands before: a node by its index, or an end by its word.
-#[derive(Drop)]
+#[derive(Clone, Copy)]
 pub enum Onto {
     Node(usize),
     End(u16),
 }
 
 // What a group meets there: the byte that settles its points (a contents code, or 0 where they are refused), or a node and its plane.
-#[derive(Drop)]
+#[derive(Clone, Copy)]
 pub enum Meeting {
     Settled(u8),
     Node(Words, Hyperplane),
@@ -26,7 +26,7 @@ pub enum Meeting {
 
 // How a group goes down: its points are settled after so many reads; or they are divided at a node, so many in front, with so many nodes
 // left to enter, after so many reads.
-#[derive(Drop)]
+#[derive(Clone, Copy)]
 pub enum Down {
     Settled(u64),
     Divided(Words, usize, u32, u64),
@@ -124,7 +124,7 @@ fn go_down(
 }
 
 // Where a group that stands from `lo` to `hi` is divided: the part with fewer points and its child, and the other part.
-#[derive(Drop)]
+#[derive(Clone, Copy)]
 pub struct Parts {
     pub fewer: Onto,
     pub from: usize,

@@ -21,7 +21,7 @@ use nodes::table::{Tables, tables_of};
 use nodes::walking::{WalkEnd, walk_to_end};
 
 // How often a node was read.
-#[derive(Drop)]
+#[derive(Clone, Copy)]
 pub enum PointsAnswer {
     Reads(u64),
     Refused(Refusal),

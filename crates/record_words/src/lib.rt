@@ -1,4 +1,6 @@
 // The words of each record, in the order of its fields in the Rust.
+#![tactic(auto)]
+
 ghost use Rattle.std.specs.Prelude.{◌≡◌};
 ghost use Rattle.record_words.specs.Layout as Layout;
 

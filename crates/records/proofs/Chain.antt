@@ -8,7 +8,6 @@ use lib.IntN.{ℤ}
 use mir.Syntax.{Width}
 use mir.Val.{SFits, to_z, of_z}
 use Rattle.format.specs.Step.{Step, ok, refused, and_then}
-use Rattle.format.specs.Answer as Answer
 use Rattle.format.specs.Answer.{Answer}
 use Rattle.format.specs.Refusal.{number_of}
 use Rattle.format.specs.Answers.{u16_step, place_answer}

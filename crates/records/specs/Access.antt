@@ -2,7 +2,6 @@
 -- are not in the file, or the reader that loading uses refuses it.
 use Rattle.std.specs.Prelude.{ℕ, List, length}
 use Rattle.format.specs.Answer.{Answer, answer, refused}
-use Rattle.format.specs.Step as Step
 use Rattle.format.specs.Step.{Step}
 use Rattle.format.specs.Section.{section_of, place}
 use Rattle.format.specs.declared.section.BspData.{BspData}

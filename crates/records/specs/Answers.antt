@@ -4,7 +4,6 @@ use Rattle.std.specs.Prelude.{ℕ, Bool}
 use Rattle.math.specs.declared.plane.Hyperplane.{Hyperplane}
 use Rattle.math.specs.declared.vector.Vector3.{Vector3}
 use Rattle.format.specs.Step.{Step, ok, refused}
-use Rattle.format.specs.Answer as Answer
 use Rattle.format.specs.Answer.{Answer}
 use Rattle.format.specs.Refusal.{number_of}
 use Rattle.format.specs.declared.contents.BspLeafContents.{BspLeafContents}

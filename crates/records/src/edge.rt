@@ -8,13 +8,13 @@ use format::refusal::Refusal;
 use format::section::{BspData, BspFileSectionId, Place};
 
 // The Rust's `vertex_ids: [u16; 2]`.
-#[derive(Drop)]
+#[derive(Clone, Copy)]
 pub struct BspEdge {
     pub vertex_id_0: u16,
     pub vertex_id_1: u16,
 }
 
-#[derive(Drop)]
+#[derive(Clone, Copy)]
 pub enum ReadEdge {
     Value(BspEdge, usize),
     EndOfFile,
@@ -38,7 +38,7 @@ fn read_edge(s: &[u8], at: usize) -> ReadEdge
     )
 }
 
-#[derive(Drop)]
+#[derive(Clone, Copy)]
 pub enum EdgeAnswer {
     Value(BspEdge),
     Refused(Refusal),
@@ -57,13 +57,13 @@ pub fn edge(s: &[u8], map: BspData, index: usize) -> EdgeAnswer
     }
 }
 
-#[derive(Drop)]
+#[derive(Clone, Copy)]
 pub enum BspEdgeDirection {
     Forward,
     Backward,
 }
 
-#[derive(Drop)]
+#[derive(Clone, Copy)]
 pub struct BspEdgeIndex {
     pub direction: BspEdgeDirection,
     pub index: usize,
@@ -93,7 +93,7 @@ fn edge_index_of(x: i32) -> BspEdgeIndex
     }
 }
 
-#[derive(Drop)]
+#[derive(Clone, Copy)]
 pub enum ReadEdgeIndex {
     Value(BspEdgeIndex, usize),
     EndOfFile,
@@ -108,7 +108,7 @@ fn read_edge_index(s: &[u8], at: usize) -> ReadEdgeIndex
     }
 }
 
-#[derive(Drop)]
+#[derive(Clone, Copy)]
 pub enum EdgeIndexAnswer {
     Value(BspEdgeIndex),
     Refused(Refusal),
@@ -130,7 +130,7 @@ pub fn edgelist(s: &[u8], map: BspData, index: usize) -> EdgeIndexAnswer
     }
 }
 
-#[derive(Drop)]
+#[derive(Clone, Copy)]
 pub enum FaceIndexAnswer {
     Value(usize),
     Refused(Refusal),

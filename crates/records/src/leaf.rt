@@ -13,7 +13,7 @@ use format::refusal::Refusal;
 use format::section::{BspData, BspFileSectionId, Place};
 
 // The Rust's `sounds: [u8; 4]`.
-#[derive(Drop)]
+#[derive(Clone, Copy)]
 pub struct Sounds {
     pub water: u8,
     pub sky: u8,
@@ -21,7 +21,7 @@ pub struct Sounds {
     pub lava: u8,
 }
 
-#[derive(Drop)]
+#[derive(Clone, Copy)]
 pub struct BspLeaf {
     pub contents: BspLeafContents,
     pub vis_offset: OptionalOffset,
@@ -32,7 +32,7 @@ pub struct BspLeaf {
     pub sounds: Sounds,
 }
 
-#[derive(Drop)]
+#[derive(Clone, Copy)]
 pub enum ReadContents {
     Value(BspLeafContents, usize),
     Refused(Refusal),
@@ -91,7 +91,7 @@ fn past_sounds(s: &[u8], at: usize) -> usize
     at + 4
 }
 
-#[derive(Drop)]
+#[derive(Clone, Copy)]
 pub enum ReadLeaf {
     Value(BspLeaf, usize),
     Refused(Refusal),
@@ -145,7 +145,7 @@ fn read_leaf_end(
     )
 }
 
-#[derive(Drop)]
+#[derive(Clone, Copy)]
 pub enum LeafAnswer {
     Value(BspLeaf),
     Refused(Refusal),

@@ -1,5 +1,7 @@
 // The records of a map file: each kind read at a position of the lent file bytes, as loading does, and by its index, with the map record.
 // Faces and models are in crates of their own.
+#![tactic(auto)]
+
 pub mod edge;
 pub mod leaf;
 pub mod node;

@@ -12,14 +12,14 @@ use format::field::{ReadI16, ReadIndex, ReadU16, read_i16, read_index, read_u16}
 use format::refusal::Refusal;
 use format::section::{BspData, BspFileSectionId, Place};
 
-#[derive(Drop)]
+#[derive(Clone, Copy)]
 pub enum BspRenderNodeChild {
     Node(usize),
     Leaf(usize),
 }
 
 // `front` and `back` are the Rust's `children`.
-#[derive(Drop)]
+#[derive(Clone, Copy)]
 pub struct BspRenderNode {
     pub plane_id: usize,
     pub front: BspRenderNodeChild,
@@ -41,7 +41,7 @@ fn render_child_of(f: i16) -> BspRenderNodeChild
     }
 }
 
-#[derive(Drop)]
+#[derive(Clone, Copy)]
 pub enum ReadRenderChild {
     Value(BspRenderNodeChild, usize),
     EndOfFile,
@@ -56,7 +56,7 @@ fn read_render_child(s: &[u8], at: usize) -> ReadRenderChild
     }
 }
 
-#[derive(Drop)]
+#[derive(Clone, Copy)]
 pub enum ReadRenderNode {
     Value(BspRenderNode, usize),
     Refused(Refusal),
@@ -116,7 +116,7 @@ fn read_render_node_end(
     }
 }
 
-#[derive(Drop)]
+#[derive(Clone, Copy)]
 pub enum RenderNodeAnswer {
     Value(BspRenderNode),
     Refused(Refusal),
@@ -138,21 +138,21 @@ pub fn render_node(s: &[u8], map: BspData, index: usize) -> RenderNodeAnswer
     }
 }
 
-#[derive(Drop)]
+#[derive(Clone, Copy)]
 pub enum BspCollisionNodeChild {
     Node(usize),
     Contents(BspLeafContents),
 }
 
 // `front` and `back` are the Rust's `children`.
-#[derive(Drop)]
+#[derive(Clone, Copy)]
 pub struct BspCollisionNode {
     pub plane_id: usize,
     pub front: BspCollisionNodeChild,
     pub back: BspCollisionNodeChild,
 }
 
-#[derive(Drop)]
+#[derive(Clone, Copy)]
 pub enum ReadCollisionChild {
     Value(BspCollisionNodeChild, usize),
     Refused(Refusal),
@@ -179,7 +179,7 @@ fn read_collision_child(s: &[u8], at: usize) -> ReadCollisionChild
     }
 }
 
-#[derive(Drop)]
+#[derive(Clone, Copy)]
 pub enum ReadCollisionNode {
     Value(BspCollisionNode, usize),
     Refused(Refusal),
@@ -207,7 +207,7 @@ pub fn read_collision_node(s: &[u8], at: usize) -> ReadCollisionNode
     }
 }
 
-#[derive(Drop)]
+#[derive(Clone, Copy)]
 pub enum CollisionNodeAnswer {
     Value(BspCollisionNode),
     Refused(Refusal),

@@ -68,7 +68,7 @@ pub fn read_count16(s: &[u8], at: usize, least: u32) -> ReadIndex
 }
 
 // The Rust's `Option<usize>`.
-#[derive(Drop)]
+#[derive(Clone, Copy)]
 pub enum OptionalOffset {
     None,
     Some(usize),
@@ -85,7 +85,7 @@ fn offset_of(x: i32) -> OptionalOffset
     }
 }
 
-#[derive(Drop)]
+#[derive(Clone, Copy)]
 pub enum ReadOffset {
     Value(OptionalOffset, usize),
     Refused(Refusal),

@@ -21,7 +21,7 @@ fn file_plane(kind: i32, normal: Vector3, dist: f32) -> Hyperplane
     }
 }
 
-#[derive(Drop)]
+#[derive(Clone, Copy)]
 pub enum ReadPlane {
     Value(Hyperplane, usize),
     EndOfFile,
@@ -43,7 +43,7 @@ fn read_plane(s: &[u8], at: usize) -> ReadPlane
     ReadPlane::Value(file_plane(kind, normal, dist), next)
 }
 
-#[derive(Drop)]
+#[derive(Clone, Copy)]
 pub enum PlaneAnswer {
     Value(Hyperplane),
     Refused(Refusal),
@@ -62,7 +62,7 @@ pub fn plane(s: &[u8], map: BspData, index: usize) -> PlaneAnswer
     }
 }
 
-#[derive(Drop)]
+#[derive(Clone, Copy)]
 pub enum VertexAnswer {
     Value(Vector3),
     Refused(Refusal),

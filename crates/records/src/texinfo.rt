@@ -11,7 +11,7 @@ use format::section::{BspData, BspFileSectionId, Place};
 use math::Vector3;
 
 // `tex_id` is the file's texture number.
-#[derive(Drop)]
+#[derive(Clone, Copy)]
 pub struct BspTexInfo {
     pub s_vector: Vector3,
     pub s_offset: f32,
@@ -21,7 +21,7 @@ pub struct BspTexInfo {
     pub special: bool,
 }
 
-#[derive(Drop)]
+#[derive(Clone, Copy)]
 pub enum ReadFlag {
     Value(bool, usize),
     Refused(Refusal),
@@ -45,7 +45,7 @@ fn read_flag(s: &[u8], at: usize) -> ReadFlag
     }
 }
 
-#[derive(Drop)]
+#[derive(Clone, Copy)]
 pub enum ReadTexInfo {
     Value(BspTexInfo, usize),
     Refused(Refusal),
@@ -100,7 +100,7 @@ fn read_texinfo_end(
     }
 }
 
-#[derive(Drop)]
+#[derive(Clone, Copy)]
 pub enum TexInfoAnswer {
     Value(BspTexInfo),
     Refused(Refusal),

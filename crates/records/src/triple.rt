@@ -6,7 +6,7 @@ ghost use Rattle.records.specs.Answers.{vector_step};
 use format::field::{ReadF32, read_f32};
 use math::Vector3;
 
-#[derive(Drop)]
+#[derive(Clone, Copy)]
 pub enum ReadVector {
     Value(Vector3, usize),
     EndOfFile,
@@ -29,14 +29,14 @@ pub fn read_vector(s: &[u8], at: usize) -> ReadVector
 }
 
 // The Rust's `[i16; 3]`.
-#[derive(Drop)]
+#[derive(Clone, Copy)]
 pub struct Point {
     pub x: i16,
     pub y: i16,
     pub z: i16,
 }
 
-#[derive(Drop)]
+#[derive(Clone, Copy)]
 pub enum ReadPoint {
     Value(Point, usize),
     EndOfFile,

@@ -1,4 +1,6 @@
 // The report program: it reads a map from standard input, at most 65,536 bytes, loads it, and prints how many records it has.
+#![tactic(auto)]
+
 ghost use Rattle.std.specs.Prelude.{◌≡◌, ◌+◌, length};
 ghost use Rattle.report.specs.Text.{printed, front};
 ghost use Rattle.report.specs.Pieces.{Puts};
@@ -9,6 +11,11 @@ mod text;
 use crate::text::{put_line, put_text};
 use format::section::{BspData, BspFileSectionId};
 use load::{Loaded, load};
+use std::io;
+use std::io::{Read, Write};
+
+// No longer input is loaded.
+const MOST_BYTES: usize = 65536;
 
 // Puts the line of a section: a name and how many records it has.
 fn put_count(name: &[u8], map: BspData, id: BspFileSectionId, at: usize, out: &mut [u8]) -> usize
@@ -34,7 +41,7 @@ fn put_counts(map: BspData, out: &mut [u8]) -> usize
 pub fn report(input: &[u8], out: &mut [u8; 129]) -> usize
     ensures { printed result out.new ≡ front (report_text input.now) out.old }
 {
-    if 65536 < input.len() {
+    if MOST_BYTES < input.len() {
         return put_text(b"too long\n", 0, out);
     }
     match load(input) {
@@ -43,10 +50,13 @@ pub fn report(input: &[u8], out: &mut [u8; 129]) -> usize
     }
 }
 
-fn main() {
-    let mut space = [0u8; 65537];
-    let n = io::read_full(0, &mut space);
+// One byte more than a map may have is read, so that an input which is too long is seen to be.
+fn main(rt: HostRuntime) -> io::Result<()> {
+    let mut input = Vec::new(rt.alloc());
+    rt.stdin()
+        .take(MOST_BYTES as u64 + 1)
+        .read_to_end(&mut input)?;
     let mut text = [0u8; 129];
-    let end = report(&space[..n], &mut text);
-    io::write_all(1, &text[..end]);
+    let end = report(&input, &mut text);
+    rt.stdout().write_all(&text[..end])
 }

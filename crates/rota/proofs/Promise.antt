@@ -8,7 +8,6 @@ use borrow.Author.Tests.{ltb-true, lt-leb, lt-ltb}
 use lib.Dec.{ltb, leb, eqb}
 use lib.ListN.{length, replicate, length-replicate}
 use Rattle.format.specs.Answer.{Answer, answer, refused, mapped, then_answer}
-use Rattle.format.specs.Step as Step
 use Rattle.format.specs.Step.{Step}
 use Rattle.format.specs.Section.{section_of, record_count, element_size, within_limit, place}
 use Rattle.format.specs.declared.contents.BspLeafContents.{BspLeafContents}

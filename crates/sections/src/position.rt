@@ -8,7 +8,7 @@ use format::refusal::Refusal;
 use format::section::BspFileSection;
 
 // The position after what was read, or a refusal.
-#[derive(Drop)]
+#[derive(Clone, Copy)]
 pub enum Position {
     At(usize),
     Refused(Refusal),

@@ -9,28 +9,28 @@ use format::field::{ReadI32, ReadIndex};
 use format::refusal::Refusal;
 use format::section::{BspData, BspFileSection, BspFileSectionId};
 
-#[derive(Drop)]
+#[derive(Clone, Copy)]
 pub enum ReadSection {
     Value(BspFileSection, usize),
     Refused(Refusal),
 }
 
 // Three sections in a row.
-#[derive(Drop)]
+#[derive(Clone, Copy)]
 pub struct Three {
     pub a: BspFileSection,
     pub b: BspFileSection,
     pub c: BspFileSection,
 }
 
-#[derive(Drop)]
+#[derive(Clone, Copy)]
 pub enum ReadThreeSections {
     Value(Three, usize),
     Refused(Refusal),
 }
 
 // The sections of the file, in the map record; its texture count is not known yet.
-#[derive(Drop)]
+#[derive(Clone, Copy)]
 pub enum ReadTable {
     Value(BspData, usize),
     Refused(Refusal),

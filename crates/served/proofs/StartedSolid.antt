@@ -43,11 +43,13 @@ walk_some : (n : ℕ) → OneOf of_walks n → 1 ≤ n
 walk_some n (inl e) = omega arith
 walk_some n (inr (inl e)) = omega arith
 walk_some n (inr (inr (inl e))) = omega arith
+walk_some n (inr (inr (inr none))) = elim none [ ]
 
 trace_some : (n : ℕ) → OneOf of_traces n → 1 ≤ n
 trace_some n (inl e) = omega arith
 trace_some n (inr (inl e)) = omega arith
 trace_some n (inr (inr (inl e))) = omega arith
+trace_some n (inr (inr (inr none))) = elim none [ ]
 
 -- ---- what the two calls wrote, if they answered 0
 

@@ -1,4 +1,6 @@
 // Hulls with the body sizes that a hall brings in place of the built-in ones.
+#![tactic(auto)]
+
 ghost use Rattle.std.specs.Prelude.{◌≡◌};
 ghost use Rattle.hull.specs.Answers.{hull_answer};
 ghost use Rattle.sized_hulls.specs.Sized as Sized;

@@ -1,4 +1,6 @@
 // The body sizes that a hall brings in a file of its own.
+#![tactic(auto)]
+
 ghost use Rattle.std.specs.Prelude.{◌≡◌, ◌+◌, ◌*◌, ◌≤◌, length};
 ghost use Rattle.sizes.specs.Sizes as Sizes;
 ghost use Rattle.sizes.specs.Answers as Answers;
@@ -7,21 +9,21 @@ use format::refusal::Refusal;
 use math::Vector3;
 
 // How far a body reaches from its middle.
-#[derive(Drop)]
+#[derive(Clone, Copy)]
 pub struct Bounds {
     pub mins: Vector3,
     pub maxs: Vector3,
 }
 
 // The bodies that hulls 1 and 2 were made for.
-#[derive(Drop)]
+#[derive(Clone, Copy)]
 pub struct BodySizes {
     pub hull_1: Bounds,
     pub hull_2: Bounds,
 }
 
 // What `parse` answers.
-#[derive(Drop)]
+#[derive(Clone, Copy)]
 pub enum SizesAnswer {
     Sizes(BodySizes),
     Refused(Refusal),

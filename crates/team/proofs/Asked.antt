@@ -11,7 +11,6 @@ use lib.Seq.{drop-cons}
 use Rattle.format.specs.Answer.{Answer, answer, refused, mapped, then_answer}
 use Rattle.format.specs.Listed.{Listed, listed, into}
 use Rattle.format.specs.Section.{place, section_of, record_count, within_limit, element_size}
-use Rattle.format.specs.Step as Step
 use Rattle.format.specs.Step.{Step}
 use Rattle.format.specs.declared.section.BspData.{BspData}
 use Rattle.format.specs.declared.section.BspFileSection.{BspFileSection}

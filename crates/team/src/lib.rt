@@ -1,4 +1,6 @@
 // What a team can see: the leaves that one of its players sees.
+#![tactic(auto)]
+
 ghost use Rattle.std.specs.Prelude.{◌≡◌};
 ghost use Rattle.format.specs.Listed.{listed, into};
 ghost use Rattle.vis.specs.Answers.{length_of};

@@ -41,7 +41,7 @@ pub fn ask_all(file: &[u8], map: BspData, leaves: &[u64], leaf_count: usize) -> 
 }
 
 // How many rows a leaf has, none or one, and where it starts.
-#[derive(Drop)]
+#[derive(Clone, Copy)]
 struct Start {
     rows: usize,
     at: usize,

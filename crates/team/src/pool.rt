@@ -19,7 +19,7 @@ use vis::Pvs;
 use vis::row::kept_bits;
 
 // The byte of a row for a group, and the cursor after it.
-#[derive(Drop)]
+#[derive(Clone, Copy)]
 struct Taken {
     at: usize,
     group: usize,
@@ -63,7 +63,7 @@ fn lesser(a: usize, b: usize) -> usize
 }
 
 // The union of the rows' bytes for a group, and the least group that a cursor is at after it.
-#[derive(Drop)]
+#[derive(Clone, Copy)]
 struct Union {
     byte: u8,
     next: usize,

@@ -3,7 +3,7 @@ use format::refusal::Refusal;
 
 // A texture by its number in the file: whether it is there; the 16 bytes of its name, lowered, with zeros from the first zero on, as two
 // numbers whose lowest byte comes first; its width and height. An absent one has zeros.
-#[derive(Drop)]
+#[derive(Clone, Copy)]
 pub struct BspTexture {
     pub present: bool,
     pub name_start: u64,
@@ -12,7 +12,7 @@ pub struct BspTexture {
     pub height: u32,
 }
 
-#[derive(Drop)]
+#[derive(Clone, Copy)]
 pub enum TextureAnswer {
     Value(BspTexture),
     Refused(Refusal),

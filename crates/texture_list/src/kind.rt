@@ -6,7 +6,7 @@ use crate::name::read_key;
 use records::number::{OptionalOffset, ReadOffset, read_offset};
 
 // A name: its first byte, its frame where the first is a plus sign, and its stem as two numbers.
-#[derive(Drop)]
+#[derive(Clone, Copy)]
 pub struct Key {
     pub first: u8,
     pub frame: u8,
@@ -15,7 +15,7 @@ pub struct Key {
 }
 
 // What a search asks for.
-#[derive(Drop)]
+#[derive(Clone, Copy)]
 pub enum Kind {
     Animated,
     Primary,

@@ -1,4 +1,6 @@
 // The list of textures in the texture section: their offsets, headers and names.
+#![tactic(auto)]
+
 pub mod answer;
 pub mod kind;
 mod name;

@@ -55,7 +55,7 @@ pub fn is_ascii(s: &[u8], at: usize) -> bool
 }
 
 // Seven bytes of a name as a number, and the last of them.
-#[derive(Drop)]
+#[derive(Clone, Copy)]
 pub struct Seven {
     pub word: u64,
     pub last: u8,

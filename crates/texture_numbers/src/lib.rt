@@ -1,4 +1,6 @@
 // The new numbers of all textures of a map, in one call.
+#![tactic(auto)]
+
 ghost use Rattle.std.specs.Prelude.{◌≡◌, ◌≤◌, ◌<◌, ◌+◌, cond, eqb, length, get_or};
 ghost use Rattle.format.specs.Listed.{listed, into};
 ghost use Rattle.textures.specs.Count.{count, values_below};

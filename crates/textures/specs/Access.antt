@@ -1,9 +1,7 @@
 -- The accessors of textures on a map record, loaded or made by hand (Note 2). The section's offset and the number of textures are the record's; the
 -- count in the file and the section's size are not looked at.
 use Rattle.std.specs.Prelude.{ℕ, Bool, true, false, ◌&&◌, cond, List, eqb, leb}
-use Rattle.format.specs.Answer as Answer
 use Rattle.format.specs.Answer.{Answer, answer, refused, then_answer}
-use Rattle.format.specs.Step as Step
 use Rattle.format.specs.Step.{Step, and_then}
 use Rattle.format.specs.declared.section.BspData.{BspData}
 use Rattle.records.specs.Texinfo.{texinfo_of}

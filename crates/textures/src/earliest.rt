@@ -25,7 +25,7 @@ use texture_list::kind::{Kind, is_kind, key_of};
 const NONE: u32 = 4294967295;
 
 // The textures whose stems a table has, and its nodes.
-#[derive(Drop)]
+#[derive(Clone, Copy)]
 struct Part {
     from: u32,
     to: u32,

@@ -45,7 +45,7 @@ fn fill_one(s: &[u8], base: u32, kind: Kind, index: u32, t: &mut [u64], nodes: u
 }
 
 // The textures up to `to`, not included, whose stems a table has, and the nodes that it has, with one that has none.
-#[derive(Drop)]
+#[derive(Clone, Copy)]
 pub struct Filling {
     pub to: u32,
     pub nodes: usize,

@@ -1,4 +1,6 @@
 // The texture section: its groups of frames, and the numbers that textures get.
+#![tactic(auto)]
+
 pub mod access;
 pub mod answer;
 pub mod earliest;

@@ -117,7 +117,7 @@ pub fn is_sought(one: u32, seen: u32, k: u32) -> bool
 }
 
 // A texture, and how many stems have their earliest texture before it.
-#[derive(Drop)]
+#[derive(Clone, Copy)]
 pub struct Firsts {
     pub at: u32,
     pub seen: u32,

@@ -1,4 +1,6 @@
 // The tree check of document 01: is what hangs below a root of a node table a tree, and how high is it?
+#![tactic(auto)]
+
 ghost use Rattle.std.specs.Prelude.{◌≡◌, ◌≤◌, length, replicate};
 ghost use Rattle.walk.specs.TreeCheck as Walk;
 ghost use Rattle.walk.specs.Order as Order;
@@ -15,14 +17,14 @@ use nodes::read::{ReadWords, read_words};
 use nodes::table::{HullTable, Tables, tables_of};
 
 // The tree's height, or the first refusal that the check meets.
-#[derive(Drop)]
+#[derive(Clone, Copy)]
 pub enum TreeChecked {
     Height(u32),
     Refused(Refusal),
 }
 
 // The tree's number of nodes and its height, or the first refusal that the check meets.
-#[derive(Drop)]
+#[derive(Clone, Copy)]
 pub enum TreeSized {
     Size(usize, u32),
     Refused(Refusal),

@@ -19,7 +19,7 @@
 // A file of kind 1, the map record that loading answers for it, and the hull that a case of kind 5 or 6 answers are the current ones: the
 // cases after it go by them. A float is a word of its 32 bits. The Rust has no hull's last two words, the size of its tree.
 ghost use Rattle.std.specs.Prelude.{◌+◌, ◌<◌, ◌≤◌, length};
-ghost use Rattle.io.specs.Counts.{IsPrefixLen};
+ghost use Rattle.trials.specs.Prefix.{IsPrefixLen};
 ghost use Rattle.trials.specs.Sample.{Lies};
 
 use words::word_at_u64;
@@ -228,7 +228,7 @@ fn answer(
 }
 
 // Where the number of a case's refusal stands, and where the next case starts; or that the words end before the case does.
-#[derive(Drop)]
+#[derive(Clone, Copy)]
 pub enum CaseAt {
     Case(usize, usize),
     Broken,
@@ -279,7 +279,7 @@ fn same(expected: &[u64], out: &[u64]) -> bool {
 }
 
 // How many cases of each kind ran, how many in all, and how many of them agreed.
-#[derive(Drop)]
+#[derive(Clone, Copy)]
 pub struct Tally {
     pub ran: [u64; 16],
     pub all: u64,
@@ -335,7 +335,7 @@ fn size_after(kind: u64, args: &[u64], size: usize, file: &mut [u8]) -> usize {
 }
 
 // What is carried from case to case beside the lent lists: the size of the current file, and the tally.
-#[derive(Drop)]
+#[derive(Clone, Copy)]
 pub struct Replayed {
     pub size: usize,
     pub tally: Tally,

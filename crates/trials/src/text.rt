@@ -1,5 +1,5 @@
 // A text of hexadecimal words, each ended by a space or a line end.
-ghost use Rattle.io.specs.Counts.{IsPrefixLen};
+ghost use Rattle.trials.specs.Prefix.{IsPrefixLen};
 
 // The value of a digit, 0 to 9 or a to f; 16 for any other byte.
 fn digit(byte: u8) -> u64 {

@@ -1,4 +1,6 @@
 // Document 01's unmarked trials, on the code: each prints what the code answers, and the file `stdout` has what the document says.
+#![tactic(auto)]
+
 use faces::extents::face;
 use faces::face::FaceAnswer;
 use float::num::from_bits;
@@ -8,16 +10,15 @@ use hull::collision::{BspCollisionHull, HullAnswer};
 use hull::point::{PointContents, contents_at_point};
 use load::{Loaded, load};
 use math::Vector3;
+use std::io;
 use vis::{Pvs, get_pvs};
 
-fn print_line(name: &[u8], count: u64) {
-    io::write_all(1, name);
-    io::print_decimal(1, count);
-    io::write_all(1, b"\n");
+fn print_line(rt: &impl Print, name: &str, count: u64) -> io::Result<()> {
+    println!(rt; "{name} {count}")
 }
 
-fn print_refusal(refusal: Refusal) {
-    print_line(b"refused ", refusal.number() as u64);
+fn print_refusal(rt: &impl Print, refusal: Refusal) -> io::Result<()> {
+    print_line(rt, "refused", refusal.number() as u64)
 }
 
 // The 193-byte map, with the given size of its models.
@@ -34,48 +35,50 @@ fn smallest(models: u8) -> [u8; 193] {
     file
 }
 
-fn print_loaded(file: &[u8]) {
+fn print_loaded(rt: &impl Print, file: &[u8]) -> io::Result<()> {
     match load(file) {
-        Loaded::Refused(refusal) => print_refusal(refusal),
-        Loaded::Map(_) => {
-            io::write_all(1, b"loaded\n");
-        }
+        Loaded::Refused(refusal) => print_refusal(rt, refusal),
+        Loaded::Map(_) => println!(rt; "loaded"),
     }
 }
 
 // No model: 6.
-fn no_model() {
-    io::write_all(1, b"no model: ");
-    let file = smallest(0);
-    print_loaded(&file);
+fn no_model(rt: &impl Print) -> io::Result<()> {
+    print!(rt; "no model: ")?;
+    print_loaded(rt, &smallest(0))
 }
 
-fn print_contents(contents: PointContents) {
+fn print_contents(rt: &impl Print, contents: PointContents) -> io::Result<()> {
     match contents {
-        PointContents::Refused(refusal) => print_refusal(refusal),
-        PointContents::Contents(c, _) => print_line(b"contents ", c.code() as u64),
+        PointContents::Refused(refusal) => print_refusal(rt, refusal),
+        PointContents::Contents(c, _) => print_line(rt, "contents", c.code() as u64),
     }
 }
 
 // The contents at a point of a hull, if there is the hull.
-fn print_in_hull(file: &[u8], map: BspData, hull: HullAnswer, point: Vector3) {
+fn print_in_hull(
+    rt: &impl Print,
+    file: &[u8],
+    map: BspData,
+    hull: HullAnswer,
+    point: Vector3,
+) -> io::Result<()> {
     match hull {
-        HullAnswer::Refused(refusal) => print_refusal(refusal),
-        HullAnswer::Hull(h) => print_contents(contents_at_point(file, map, h, point)),
+        HullAnswer::Refused(refusal) => print_refusal(rt, refusal),
+        HullAnswer::Hull(h) => print_contents(rt, contents_at_point(file, map, h, point)),
     }
 }
 
 // The 193-byte map, contents in hull 1: 30.
-fn smallest_map() {
-    io::write_all(1, b"193-byte map, contents in hull 1: ");
+fn smallest_map(rt: &impl Print) -> io::Result<()> {
+    print!(rt; "193-byte map, contents in hull 1: ")?;
     let file = smallest(64);
     let loaded = load(&file);
     let Loaded::Map(map) = loaded else {
-        io::write_all(1, b"not loaded\n");
-        return;
+        return println!(rt; "not loaded");
     };
     let hull = hull::collision::hull(&file, map, 0, 1);
-    print_in_hull(&file, map, hull, Vector3::new(0.0, 0.0, 0.0));
+    print_in_hull(rt, &file, map, hull, Vector3::new(0.0, 0.0, 0.0))
 }
 
 // The bytes of two leaves of contents -1, Empty; the row of each starts at 0.
@@ -93,42 +96,42 @@ fn two_leaves() -> [u8; 56] {
 }
 
 // The row of leaf 1 where there is no visibility data, so that it starts at the data's end and a byte read is refused (33).
-fn print_row(leaf_count: usize) {
+fn print_row(rt: &impl Print, leaf_count: usize) -> io::Result<()> {
     let file = two_leaves();
     let mut words = [0u32; 31];
     words[21] = 56;
     let mut list = [7u32; 4];
     match get_pvs(&file, words::map_of(&words), 1, leaf_count, &mut list) {
-        Pvs::Refused(refusal) => print_refusal(refusal),
-        Pvs::Length(n) => print_line(b"length ", n as u64),
+        Pvs::Refused(refusal) => print_refusal(rt, refusal),
+        Pvs::Length(n) => print_line(rt, "length", n as u64),
     }
 }
 
 // Count 1: empty, nothing read; a count of 2 reads there.
-fn count_one() {
-    io::write_all(1, b"row at the data's end, count 1: ");
-    print_row(1);
-    io::write_all(1, b"row at the data's end, count 2: ");
-    print_row(2);
+fn count_one(rt: &impl Print) -> io::Result<()> {
+    print!(rt; "row at the data's end, count 1: ")?;
+    print_row(rt, 1)?;
+    print!(rt; "row at the data's end, count 2: ")?;
+    print_row(rt, 2)
 }
 
 // The contents at a point of the box from -1 to 1 on each axis.
-fn print_in_box(point: Vector3) {
+fn print_in_box(rt: &impl Print, point: Vector3) -> io::Result<()> {
     let mins = Vector3::new(-1.0, -1.0, -1.0);
     let maxs = Vector3::new(1.0, 1.0, 1.0);
     let hull = BspCollisionHull::for_bounds(mins, maxs);
-    print_in_hull(b"", words::map_of(&[0; 31]), hull, point);
+    print_in_hull(rt, b"", words::map_of(&[0; 31]), hull, point)
 }
 
 // Box -1 to 1 on each axis: a NaN coordinate Empty, which is contents 1.
-fn nan_in_box() {
+fn nan_in_box(rt: &impl Print) -> io::Result<()> {
     let nan = from_bits(0x7fc0_0000);
-    io::write_all(1, b"box, x is NaN: ");
-    print_in_box(Vector3::new(nan, 0.0, 0.0));
-    io::write_all(1, b"box, y is NaN: ");
-    print_in_box(Vector3::new(0.0, nan, 0.0));
-    io::write_all(1, b"box, z is NaN: ");
-    print_in_box(Vector3::new(0.0, 0.0, nan));
+    print!(rt; "box, x is NaN: ")?;
+    print_in_box(rt, Vector3::new(nan, 0.0, 0.0))?;
+    print!(rt; "box, y is NaN: ")?;
+    print_in_box(rt, Vector3::new(0.0, nan, 0.0))?;
+    print!(rt; "box, z is NaN: ")?;
+    print_in_box(rt, Vector3::new(0.0, 0.0, nan))
 }
 
 // A map with one face, whose s runs from 0 to a float of these two high bytes. After the 193 bytes: two vertices at 193, a texture info at
@@ -180,36 +183,33 @@ fn with_offset(made: [u8; 305]) -> [u8; 305] {
     file
 }
 
-fn print_extent(face: FaceAnswer) {
+fn print_extent(rt: &impl Print, face: FaceAnswer) -> io::Result<()> {
     match face {
-        FaceAnswer::Refused(refusal) => print_refusal(refusal),
-        FaceAnswer::Value(f) => {
-            let extents = f.extents;
-            print_line(b"extent ", words::signed_word(extents.s));
-        }
+        FaceAnswer::Refused(refusal) => print_refusal(rt, refusal),
+        FaceAnswer::Value(f) => print_line(rt, "extent", words::signed_word(f.extents.s)),
     }
 }
 
-fn print_one_face(high: u8, highest: u8) {
+fn print_one_face(rt: &impl Print, high: u8, highest: u8) -> io::Result<()> {
     let file = with_offset(one_face(high, highest));
     match load(&file) {
-        Loaded::Refused(refusal) => print_refusal(refusal),
-        Loaded::Map(map) => print_extent(face(&file, map, 0)),
+        Loaded::Refused(refusal) => print_refusal(rt, refusal),
+        Loaded::Map(map) => print_extent(rt, face(&file, map, 0)),
     }
 }
 
 // Cast difference 125 (s up to 2,000): extent 2,000, accepted; 126 (2,016): 12.
-fn cast_differences() {
-    io::write_all(1, b"cast difference 125: ");
-    print_one_face(250, 68);
-    io::write_all(1, b"cast difference 126: ");
-    print_one_face(252, 68);
+fn cast_differences(rt: &impl Print) -> io::Result<()> {
+    print!(rt; "cast difference 125: ")?;
+    print_one_face(rt, 250, 68)?;
+    print!(rt; "cast difference 126: ")?;
+    print_one_face(rt, 252, 68)
 }
 
-fn main() {
-    no_model();
-    smallest_map();
-    count_one();
-    nan_in_box();
-    cast_differences();
+fn main(rt: HostRuntime) -> io::Result<()> {
+    no_model(&rt)?;
+    smallest_map(&rt)?;
+    count_one(&rt)?;
+    nan_in_box(&rt)?;
+    cast_differences(&rt)
 }

@@ -1,10 +1,12 @@
 // Whether bytes are well-formed UTF-8, as Rust's `String::from_utf8` tests an entity text.
+#![tactic(auto)]
+
 ghost use Rattle.std.specs.Prelude.{◌≡◌};
 ghost use Rattle.utf8.specs.Unicode.{lead, lead_three, lead_four, next, is_utf8};
 
 // Where a check of UTF-8 stands: how many bytes must follow in the character, and the range of the next of them; or that a byte was out of
 // place.
-#[derive(Drop)]
+#[derive(Clone, Copy)]
 pub enum Utf8 {
     Bad,
     Want(u8, u8, u8),

@@ -24,8 +24,8 @@ use Rattle.math.specs.declared.plane.LinePlaneIntersect.TheVariants.{NoIntersect
 use Rattle.phys.specs.Trace as Tr
 use Rattle.phys.specs.declared.Trace.{Trace as TraceT}
 use Rattle.walk.specs.Table.{Child, node, end, Node, Table, child_on}
-use Rattle.walk.specs.Walk.{Outcome, done, refused, entered, Entered, with_plane, with_node, enter, meet, ended, onto, walk_at_lem, walk}
-use Rattle.walk.specs.Tracing.{joined, with_far, stops, near_of, far_of, after_near, with_near, across, trace_at, recursive_trace, trace}
+use Rattle.walk.specs.Walk.{Outcome, done, refused, entered, Entered, with_plane, with_node, enter, meet, ended, onto, walk_at, walk}
+use Rattle.walk.specs.Tracing.{joined, with_far, stops, near_of, far_of, after_near, with_near, across, trace_at, recursive_trace}
 
 -- each refusal of the table's own records, where they are in range, is one of those of P
 pub record Own (P : ℕ → Type 0) {E A : Type 0} (T : Table E A) : Type 0 where
@@ -117,16 +117,16 @@ module _ (P : ℕ → Type 0) where
       abbrev Any : A → Type 0
       Any a = Unit {0}
 
-      walk_at : (go : ℕ → Outcome A) → ((n : ℕ) → Keeps Any (go n)) → (i : ℕ) (r : Answer (Entered E)) → Refuses r → Keeps Any (walk_at_lem T go i p r)
-      walk_at go ih i (answer m) k =
+      walk_at_lem : (go : ℕ → Outcome A) → ((n : ℕ) → Keeps Any (go n)) → (i : ℕ) (r : Answer (Entered E)) → Refuses r → Keeps Any (walk_at T go i p r)
+      walk_at_lem go ih i (answer m) k =
           entered_keeps Any i (onto T go (λ a. a) (child_on m.nd (Pl.point_side m.plane p))) (onto_keeps Any go ih (λ a. a) (λ a. tt) (child_on m.nd (Pl.point_side m.plane p)))
-      walk_at go ih i (Ans.refused n) k = k
+      walk_at_lem go ih i (Ans.refused n) k = k
 
       walk_keeps : (k i : ℕ) → Keeps Any (walk T k i p)
       unfolding walk
       walk_keeps zero i = test_keeps Any (ltb i T.nodes.count) 30 (refused 31) (λ t. p31) p30
       walk_keeps (suc k) i =
-          test_keeps Any (ltb i T.nodes.count) 30 (walk_at_lem T (λ n. walk T k n p) i p (enter T i)) (λ t. walk_at (λ n. walk T k n p) (walk_keeps k) i (enter T i) (enter_refuses i t)) p30
+          test_keeps Any (ltb i T.nodes.count) 30 (walk_at T (λ n. walk T k n p) i p (enter T i)) (λ t. walk_at_lem (λ n. walk T k n p) (walk_keeps k) i (enter T i) (enter_refuses i t)) p30
 
       -- a walk is refused with 30, 31 or what the table's own records refuse
       pub walk_refuses : (k i n : ℕ) → walk T k i p ≡ refused n → P n

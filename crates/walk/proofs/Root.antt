@@ -13,7 +13,7 @@ use Rattle.math.specs.Plane as Pl
 use Rattle.math.specs.declared.vector.Vector3.{Vector3}
 use Rattle.phys.specs.declared.Trace.{Trace as TraceT}
 use Rattle.walk.specs.Table.{Table, child_on}
-use Rattle.walk.specs.Walk.{Outcome, done, refused, entered, held, with_visits, Entered, enter, onto, walk_at_lem, walk, point_walk}
+use Rattle.walk.specs.Walk.{Outcome, done, refused, entered, held, with_visits, Entered, enter, onto, walk_at, walk, point_walk}
 use Rattle.walk.specs.Tracing.{across, trace_at, recursive_trace, trace}
 
 abbrev Headed : {A : Type 0} → ℕ → Outcome A → Type 0
@@ -29,14 +29,14 @@ test_headed i true n o h = h
 test_headed i false n o h = tt
 
 module _ {E A : Type 0} (T : Table E A) (p : Vector3) where
-  walk_at : (go : ℕ → Outcome A) (i : ℕ) (r : Answer (Entered E)) → Headed i (walk_at_lem T go i p r)
-  walk_at go i (answer m) = entered_headed i (onto T go (λ a. a) (child_on m.nd (Pl.point_side m.plane p)))
-  walk_at go i (Ans.refused n) = tt
+  walk_at_lem : (go : ℕ → Outcome A) (i : ℕ) (r : Answer (Entered E)) → Headed i (walk_at T go i p r)
+  walk_at_lem go i (answer m) = entered_headed i (onto T go (λ a. a) (child_on m.nd (Pl.point_side m.plane p)))
+  walk_at_lem go i (Ans.refused n) = tt
 
   walk_headed : (k i : ℕ) → Headed i (walk T k i p)
   unfolding walk
   walk_headed zero i = test_headed i (ltb i T.nodes.count) 30 (refused 31) tt
-  walk_headed (suc k) i = test_headed i (ltb i T.nodes.count) 30 (walk_at_lem T (λ n. walk T k n p) i p (enter T i)) (walk_at (λ n. walk T k n p) i (enter T i))
+  walk_headed (suc k) i = test_headed i (ltb i T.nodes.count) 30 (walk_at T (λ n. walk T k n p) i p (enter T i)) (walk_at_lem (λ n. walk T k n p) i (enter T i))
 
   pub walk_enters_root : (k i : ℕ) (a : A) (ns : List ℕ) → walk T k i p ≡ done a ns → (ms : List ℕ) × (ns ≡ i ∷ ms)
   walk_enters_root k i a ns q = subst (Headed i) q (walk_headed k i)

@@ -13,7 +13,7 @@ use Rattle.math.specs.declared.plane.Hyperplane.{Hyperplane}
 use Rattle.math.specs.declared.vector.Vector3.{Vector3}
 use Rattle.phys.specs.declared.Trace.{Trace as TraceT}
 use Rattle.walk.specs.Table.{Child, node, end, Node, Table, child_on}
-use Rattle.walk.specs.Walk.{Outcome, done, refused, entered, held, with_visits, enter, meet, ended, onto, walk_at_lem, walk}
+use Rattle.walk.specs.Walk.{Outcome, done, refused, entered, held, with_visits, enter, meet, ended, onto, walk_at, walk}
 use Rattle.walk.specs.Private.{after}
 use Rattle.walk.specs.Tracing.{trace_at, recursive_trace}
 
@@ -67,16 +67,16 @@ module _ {E A : Type 0} (T : Table E A) (p : Vector3) where
   walk_spent k i z h = rw z (simp (lt-ltb _ _ h))
 
   module _ (k j i : ℕ) (more : k ≡ suc j) (h : i < T.nodes.count) where
-    walk_step : walk T k i p ≡ walk_at_lem T (λ n. walk T j n p) i p (enter T i)
+    walk_step : walk T k i p ≡ walk_at T (λ n. walk T j n p) i p (enter T i)
     unfolding walk
     walk_step = rw more (simp (lt-ltb _ _ h))
 
     pub walk_unread : (n : ℕ) → enter T i ≡ Ans.refused n → walk T k i p ≡ refused n
-    walk_unread n m = walk_step ∙ ap (walk_at_lem T (λ n. walk T j n p) i p) m
+    walk_unread n m = walk_step ∙ ap (walk_at T (λ n. walk T j n p) i p) m
 
     module _ (nd : Node E) (pl : Hyperplane) (m : enter T i ≡ answer (record { nd = nd; plane = pl })) (v : ℕ) where
       walk_on_lem : after v (walk T k i p) ≡ after (v + 1) (onto T (λ n. walk T j n p) (λ a. a) (child_on nd (Pl.point_side pl p)))
-      walk_on_lem = ap (after v) (walk_step ∙ ap (walk_at_lem T (λ n. walk T j n p) i p) m) ∙ after_one v i (onto T (λ n. walk T j n p) (λ a. a) (child_on nd (Pl.point_side pl p)))
+      walk_on_lem = ap (after v) (walk_step ∙ ap (walk_at T (λ n. walk T j n p) i p) m) ∙ after_one v i (onto T (λ n. walk T j n p) (λ a. a) (child_on nd (Pl.point_side pl p)))
 
       pub walk_node : (n : ℕ) → child_on nd (Pl.point_side pl p) ≡ node n → after v (walk T k i p) ≡ after (v + 1) (walk T j n p)
       walk_node n c = walk_on_lem ∙ ap (λ (x : Child E). after (v + 1) (onto T (λ n. walk T j n p) (λ a. a) x)) c

@@ -74,8 +74,8 @@ module _ {E A : Type 0} (T : Table E A) where
         cond (ltb i T.nodes.count) (through i (descend_at (λ n. descend through spent k n) (enter i))) (refuse 30)
 
   -- at the node i: on to the child on the point's side of the plane
-  abbrev pub walk_at_lem : (ℕ → Outcome A) → ℕ → Vector3 → Answer (Entered E) → Outcome A
-  walk_at_lem go i p m = entered i (descend_at refused (λ e. ended (λ a. a) (meet e)) (λ h. Pl.point_side h p) go m)
+  abbrev pub walk_at : (ℕ → Outcome A) → ℕ → Vector3 → Answer (Entered E) → Outcome A
+  walk_at go i p m = entered i (descend_at refused (λ e. ended (λ a. a) (meet e)) (λ h. Pl.point_side h p) go m)
 
   -- the walk from the node i, which may enter k nodes more
   unfoldable pub walk : ℕ → ℕ → Vector3 → Outcome A

@@ -1,4 +1,6 @@
 // The words of a trace.
+#![tactic(auto)]
+
 ghost use Rattle.std.specs.Prelude.{◌≡◌};
 ghost use Rattle.walk_words.specs.Layout as Layout;
 

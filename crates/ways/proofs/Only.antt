@@ -12,7 +12,7 @@ use Rattle.format.specs.Answer.{Answer, answer}
 use Rattle.math.specs.Plane as Pl
 use Rattle.math.specs.declared.vector.Vector3.{Vector3}
 use Rattle.walk.specs.Table.{Child, node, end, Table, child_on}
-use Rattle.walk.specs.Walk.{Outcome, done, refused, entered, held, with_visits, Entered, enter, meet, ended, walk_at_lem, walk, point_walk}
+use Rattle.walk.specs.Walk.{Outcome, done, refused, entered, held, with_visits, Entered, enter, meet, ended, walk_at, walk, point_walk}
 use Rattle.ways.specs.Ways.{reads}
 use Rattle.ways.specs.Groups.{settled, onward, byte_of, meets, reads_at}
 use Rattle.ways.proofs.Alone.{walk_on}
@@ -54,7 +54,7 @@ module _ {E A : Type 0} (T : Table E A) (code : A → ℕ) (at : ℕ → Vector3
   counts (suc k) (node i) = go (ltb i T.nodes.count) refl (enter T i) refl (λ d. counts k d)
     where
       go : (b : Bool) → ltb i T.nodes.count ≡ b → (r : Answer (Entered E)) → enter T i ≡ r → ((d : Child E) → Counts k d (walk_on T code (at q) k d))
-          → Counts (suc k) (node i) (cond b (walk_at_lem T (λ n. walk T k n (at q)) i (at q) r) (refused 30))
+          → Counts (suc k) (node i) (cond b (walk_at T (λ n. walk T k n (at q)) i (at q) r) (refused 30))
       go true h (answer m) e ih =
           let d = child_on m.nd (Pl.point_side m.plane (at q)) in
           on k i m (node_meets k i m h e) (walk_on T code (at q) k d) (ih d)

@@ -1,5 +1,7 @@
 // Words in lists that a caller lends: a map record taken from 31 words and put into them, the words of floats, signed numbers and planes,
 // and an answer written to the front of a list.
+#![tactic(auto)]
+
 ghost use Rattle.std.specs.Prelude.{◌≡◌, ◌≤◌, ◌+◌, length, get_or};
 ghost use Rattle.std.specs.Float.{nan};
 ghost use Rattle.words.specs.Words as Words;

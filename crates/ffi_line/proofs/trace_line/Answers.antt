@@ -1,0 +1,61 @@
+-- `ffi_line::trace_line` meets its contract. Assumes nothing.
+use Prim.Native.Nat.{ℕ}
+use mathlib.Core.Path.{◌≡◌, ap, ap₂, ◌∙◌}
+use borrow.Author.Tests.{lt-ltb, le-ltb}
+use Rattle.format.specs.Answer.{Answer, refused, mapped, then_answer}
+use Rattle.math.specs.declared.vector.Vector3.{Vector3}
+use Rattle.words.specs.Words.{given, map_of}
+use Rattle.hull.specs.Hull.{hull_table}
+use Rattle.ffi_hull.proofs.Walked.{long_enough, no_hull, the_hull}
+use Rattle.format.specs.declared.contents.BspLeafContents.{BspLeafContents}
+use Rattle.walk.specs.Table.{Table}
+use Rattle.nodes.specs.Tables.{End}
+use Rattle.line.specs.Line.{whole_line}
+use Rattle.line.specs.declared.state.LineTrace.{LineTrace}
+use Rattle.ffi_hull.specs.Layout.{point_at, hull_from}
+use Rattle.ffi_line.specs.Calls.{line_length, line_words, bsp_trace_line}
+use Rattle.ffi_line.proofs.trace_line.Goals.{After-walked_hull}
+use Rattle.ffi_line.proofs.trace_line.Goals as goal
+
+-- what is asked of a hull's table and root
+abbrev asked : Vector3 → Vector3 → Table End BspLeafContents → ℕ → Answer LineTrace
+asked p q T root = whole_line T root p q
+
+-- where the lists are long enough
+at_hull : (c : After-walked_hull) (a : Answer LineTrace) → let s = c.args in
+    a ≡ then_answer (hull_from s.hull.now) (λ h. asked (point_at s.segment.now 0) (point_at s.segment.now 3) (hull_table s.file.now (map_of s.map.now) h) h.node_id)
+    → given (mapped line_words a) s.out.now ≡ bsp_trace_line s.file.now s.map.now s.hull.now s.segment.now s.out.now
+unfolding bsp_trace_line
+at_hull c a g =
+    let s = c.args in
+    long_enough line_words s.map.now s.hull.now s.segment.now 6 line_length s.out.now (then_answer (hull_from s.hull.now) (λ h. asked (point_at s.segment.now 0) (point_at s.segment.now 3) (hull_table s.file.now (map_of s.map.now) h) h.node_id)) c.if-map-lt31.false c.if-hull-lt-HULL_ASKED.false c.if-segment-lt6.false c.if-out-lt12.false (given (mapped line_words a) s.out.now)
+    (ap (λ (a : Answer LineTrace). given (mapped line_words a) s.out.now) g)
+
+pub returns-then-map-lt31 : goal.returns-then-map-lt31
+unfolding bsp_trace_line
+returns-then-map-lt31 c = simp (lt-ltb _ _ c.if-map-lt31.true)
+
+pub returns-then-hull-lt-HULL_ASKED : goal.returns-then-hull-lt-HULL_ASKED
+unfolding bsp_trace_line
+returns-then-hull-lt-HULL_ASKED c = simp (le-ltb _ _ c.if-map-lt31.false, lt-ltb _ _ c.if-hull-lt-HULL_ASKED.true)
+
+pub returns-then-segment-lt6 : goal.returns-then-segment-lt6
+unfolding bsp_trace_line
+returns-then-segment-lt6 c = simp (le-ltb _ _ c.if-map-lt31.false, le-ltb _ _ c.if-hull-lt-HULL_ASKED.false, lt-ltb _ _ c.if-segment-lt6.true)
+
+pub returns-then-out-lt12 : goal.returns-then-out-lt12
+unfolding bsp_trace_line
+returns-then-out-lt12 c = simp (le-ltb _ _ c.if-map-lt31.false, le-ltb _ _ c.if-hull-lt-HULL_ASKED.false, le-ltb _ _ c.if-segment-lt6.false, lt-ltb _ _ c.if-out-lt12.true)
+
+pub returns-in-Refused : goal.returns-in-Refused
+returns-in-Refused c = let s = c.args in
+    at_hull (goal.at.returns-in-Refused c).After-walked_hull (refused _)
+    (no_hull s.file.now s.map.now s.hull.now (asked (point_at s.segment.now 0) (point_at s.segment.now 3)) _ c.walked_hull.ensures _ c.in-Refused.is _ c.number.ensures)
+
+pub returns-in-Hull : goal.returns-in-Hull
+returns-in-Hull c = let s = c.args in
+    let h = c.in-Hull.h in
+    c.give_line.ensures
+    ∙ at_hull (goal.at.returns-in-Hull c).After-walked_hull _
+    (ap₂ (λ (p q : Vector3). asked p q (hull_table s.file.now c.walked_map.result h) h.node_id) c.first_point.ensures c.second_point.ensures
+    ∙ the_hull s.file.now s.map.now s.hull.now (asked (point_at s.segment.now 0) (point_at s.segment.now 3)) _ c.walked_hull.ensures h c.in-Hull.is _ c.walked_map.ensures)

@@ -1,0 +1,13 @@
+-- `hull` meets its contract: the hull's index, then the model's own record.
+-- Assumes nothing.
+use Rattle.hull.proofs.Hulls.{hull_outside, no_model, of_model}
+use Rattle.hull.proofs.collision.hull.Goals as goal
+
+pub returns-then-index-ge3 : goal.returns-then-index-ge3
+returns-then-index-ge3 c = hull_outside _ _ _ _ c.if-index-ge3.true
+
+pub returns-in-Refused : goal.returns-in-Refused
+returns-in-Refused c = no_model _ _ _ _ c.if-index-ge3.false _ c.record_count-total.ensures _ c.file_model.ensures _ c.in-Refused.is
+
+pub returns-in-Value : goal.returns-in-Value
+returns-in-Value c = of_model _ _ _ _ c.if-index-ge3.false _ c.record_count-total.ensures _ c.file_model.ensures _ c.in-Value.is _ c.node_counts.ensures c.hull_of.result c.hull_of.ensures

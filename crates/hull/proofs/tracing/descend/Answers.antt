@@ -1,0 +1,45 @@
+-- `descend` meets its contract. The loop's invariant: the trace from the present node, with the calls left and the visits so far, says what
+-- the trace from the first one says.
+-- Assumes nothing.
+use native.Mathlib.Omega.{arith}
+use mathlib.Core.Path.{refl, sym, ap, ◌∙◌}
+use Rattle.walk.specs.Private.{after}
+use Rattle.walk.proofs.Steps.{trace_outside, trace_spent}
+use lib.Ieee.{le}
+use Rattle.math.specs.Vector.{zero32}
+use Rattle.nodes.specs.Fast as Fast
+use Rattle.nodes.specs.declared.read.EndContents.TheVariants as E
+use Rattle.hull.proofs.Descents.{unread, crosses, to_node, to_end}
+use Rattle.hull.proofs.Meets.{plane_same, not_seen, seen, meets_node, meets_end}
+use borrow.Author.Rules.{rules}
+use Rattle.hull.proofs.tracing.descend.Goals as goal
+
+pub loop-node-init : goal.loop-node-init
+loop-node-init c = (search rules, refl)
+
+pub returns-then-t-node : goal.returns-then-t-node
+returns-then-t-node c = record { says = sym (ap (after _) (trace_outside _ _ _ _ _ c.if-t-node.true)) ∙ c.loop-node.invariant.1; falls = search rules }
+
+pub returns-then-left-eq0 : goal.returns-then-left-eq0
+returns-then-left-eq0 c = record { says = sym (ap (after _) (trace_spent _ _ _ _ _ c.if-left-eq0.true c.if-t-node.false)) ∙ c.loop-node.invariant.1; falls = search rules }
+
+pub returns-in-Refused : goal.returns-in-Refused
+returns-in-Refused c = record { says = unread _ _ _ _ _ _ c.if-left-eq0.false c.if-t-node.false _ (not_seen _ _ _ _ _ _ c.segment_any.ensures _ c.in-Refused.is) ∙ c.loop-node.invariant.1; falls = search rules }
+
+pub overflow_sub-left : goal.overflow_sub-left
+overflow_sub-left c = omega (arith, c.if-left-eq0.false)
+
+pub returns-then-front-b : goal.returns-then-front-b
+returns-then-front-b c = record { says = crosses _ _ _ _ _ _ c.if-left-eq0.false c.if-t-node.false _ _ _ (seen _ _ _ _ _ _ c.segment_any.ensures _ _ _ c.in-Dists.is) _ c.one_more-visits.ensures c.if-front-b.true _ (plane_same _ _ _) ∙ c.loop-node.invariant.1; falls = omega (arith, c.if-left-eq0.false, c.loop-node.invariant.0) }
+
+pub returns-in-Contents : goal.returns-in-Contents
+returns-in-Contents c = record { says = to_end _ _ _ _ _ _ c.if-left-eq0.false c.if-t-node.false _ _ _ (seen _ _ _ _ _ _ c.segment_any.ensures _ _ _ c.in-Dists.is) _ c.one_more-visits.ensures c.if-front-b.false (Fast.end_answer (E.Contents c.in-Contents.c)) (meets_end c.args.s.now c.args.t c.in-Dists.w (le zero32 c.in-Dists.a) _ c.on-word.ensures c.if-word-ge32768.true _ (ap Fast.end_answer (sym c.in-Contents.is) ∙ c.end_contents.ensures)) ∙ c.loop-node.invariant.1; falls = search rules }
+
+pub returns-in-Refused-end_contents : goal.returns-in-Refused-end_contents
+returns-in-Refused-end_contents c = record { says = to_end _ _ _ _ _ _ c.if-left-eq0.false c.if-t-node.false _ _ _ (seen _ _ _ _ _ _ c.segment_any.ensures _ _ _ c.in-Dists.is) _ c.one_more-visits.ensures c.if-front-b.false (Fast.end_answer (E.Refused c.in-Refused-end_contents.e)) (meets_end c.args.s.now c.args.t c.in-Dists.w (le zero32 c.in-Dists.a) _ c.on-word.ensures c.if-word-ge32768.true _ (ap Fast.end_answer (sym c.in-Refused-end_contents.is) ∙ c.end_contents.ensures)) ∙ c.loop-node.invariant.1; falls = search rules }
+
+pub loop-node-smaller : goal.loop-node-smaller
+loop-node-smaller c = omega (arith, c.if-left-eq0.false)
+
+pub loop-node-preserved : goal.loop-node-preserved
+loop-node-preserved c = (omega (arith, c.loop-node.invariant.0), sym (to_node _ _ _ _ _ _ c.if-left-eq0.false c.if-t-node.false _ _ _ (seen _ _ _ _ _ _ c.segment_any.ensures _ _ _ c.in-Dists.is) _ c.one_more-visits.ensures c.if-front-b.false _ (meets_node c.args.s.now c.args.t c.in-Dists.w (le zero32 c.in-Dists.a) _ c.on-word.ensures c.if-word-ge32768.false)) ∙ c.loop-node.invariant.1)

@@ -1,0 +1,6 @@
+-- `ended` meets its contract.
+-- Assumes nothing.
+use Rattle.hull.proofs.tracing.ended.Goals as goal
+
+pub returns : goal.returns
+returns c = simp c.equals-start_solid.ensures

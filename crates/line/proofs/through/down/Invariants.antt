@@ -1,0 +1,22 @@
+-- `line::through::down` meets its contract. The loop's invariant: whatever is set before it, what becomes of the part at the present node, with
+-- the calls left, is what becomes of it at the first one; and so is what a look from the part's start finds. Assumes nothing.
+use Prim.Native.Nat.{ℕ, ◌≤◌}
+use mathlib.Core.Path.{◌≡◌}
+use mathlib.Core.Bool.{Bool, true}
+use lib.Ieee.{Float}
+use Rattle.nodes.specs.Fast as Fast
+use Rattle.nodes.specs.Walks.{Read}
+use Rattle.nodes.specs.declared.table.Tables.{Tables}
+use Rattle.line.specs.Line.{stretch, line_from, contents_from}
+use Rattle.line.specs.declared.state.LineTrace.{LineTrace}
+use Rattle.line.proofs.through.down.Given as goal
+
+abbrev pub invariant-loop-left : goal.invariant-loop-left
+invariant-loop-left l =
+    (l.left ≤ l.calls)
+    × ((t : Tables) (whole : Bool) → Read l.s t l.nodes l.planes whole → whole ≡ true → l.render ≡ Fast.is_render t.table
+    → ((root : ℕ) (o : LineTrace) (x y : Float) → line_from (Fast.table l.s t) root l.left l.node (stretch x y (Fast.point_of l.p) (Fast.point_of l.q)) o ≡ line_from (Fast.table l.s t) root l.calls l.top (stretch x y (Fast.point_of l.p) (Fast.point_of l.q)) o)
+    × (contents_from (Fast.table l.s t) l.left l.node (Fast.point_of l.p) ≡ contents_from (Fast.table l.s t) l.calls l.top (Fast.point_of l.p)))
+
+abbrev pub decreases-loop-left : goal.decreases-loop-left
+decreases-loop-left l = l.left

@@ -1,0 +1,15 @@
+-- `line::through::follow` meets its contract. The loop's invariant: the line stands at a child, and the planes that wait are kept in the list;
+-- the first end that it comes to says whether it is blocked or goes on, past them, to what becomes of it from where it stood first. Assumes nothing.
+use Prim.Native.Nat.{◌≤◌}
+use mathlib.Core.Path.{◌≡◌}
+use lib.ListN.{length, drop}
+use Rattle.line.specs.Private.{stand_went}
+use Rattle.line.proofs.Follows.{Standing}
+use Rattle.line.proofs.through.follow.Given as goal
+
+abbrev pub invariant-loop-turns : goal.invariant-loop-turns
+invariant-loop-turns l =
+    (l.n ≤ 10) × (length l.stack ≡ 10) × (l.at.left ≤ 512) × Standing l.s l.g.t l.g.root l.first.part (drop l.n l.stack) l.at l.line l.x l.looked (stand_went l.s l.g l.initial.at l.initial.line)
+
+abbrev pub decreases-loop-turns : goal.decreases-loop-turns
+decreases-loop-turns l = l.turns

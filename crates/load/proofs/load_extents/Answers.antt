@@ -1,0 +1,17 @@
+-- `load::load_extents` meets its contract: the checks, one after another.
+-- Assumes nothing.
+use Rattle.sections.proofs.Chain.{position}
+use Rattle.load.specs.Private.{from_extents}
+use Rattle.load.proofs.load_extents.Goals as goal
+
+pub returns-in-Refused : goal.returns-in-Refused
+returns-in-Refused c = unfold from_extents in search position depth 10
+
+pub returns-in-Refused-check_leaf_references : goal.returns-in-Refused-check_leaf_references
+returns-in-Refused-check_leaf_references c = unfold from_extents in search position depth 10
+
+pub returns-in-Refused-check_models : goal.returns-in-Refused-check_models
+returns-in-Refused-check_models c = unfold from_extents in search position depth 10
+
+pub returns-in-At-check_models : goal.returns-in-At-check_models
+returns-in-At-check_models c = unfold from_extents in search position depth 10

@@ -1,0 +1,17 @@
+-- `load::load_vertices` meets its contract: the checks, one after another.
+-- Assumes nothing.
+use Rattle.sections.proofs.Chain.{position}
+use Rattle.load.specs.Private.{from_vertices}
+use Rattle.load.proofs.load_vertices.Goals as goal
+
+pub returns-in-Refused : goal.returns-in-Refused
+returns-in-Refused c = unfold from_vertices in search position depth 10
+
+pub returns-in-Refused-check_blob : goal.returns-in-Refused-check_blob
+returns-in-Refused-check_blob c = unfold from_vertices in search position depth 10
+
+pub returns-in-Refused-check_render_nodes : goal.returns-in-Refused-check_render_nodes
+returns-in-Refused-check_render_nodes c = unfold from_vertices in search position depth 10
+
+pub returns-in-At-check_render_nodes : goal.returns-in-At-check_render_nodes
+returns-in-At-check_render_nodes c = unfold from_vertices in search position depth 10

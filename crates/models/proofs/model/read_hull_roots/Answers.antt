@@ -1,0 +1,17 @@
+-- `models::model::read_hull_roots` meets its contract: a chain of reads and tests.
+-- Assumes nothing.
+use Rattle.format.proofs.Chain.{values, index}
+use Rattle.models.specs.Model.{roots_at}
+use Rattle.models.proofs.model.read_hull_roots.Goals as goal
+
+pub returns-in-Refused : goal.returns-in-Refused
+returns-in-Refused c = unfold roots_at in search (values, index) depth 10
+
+pub returns-in-Refused-read_index : goal.returns-in-Refused-read_index
+returns-in-Refused-read_index c = unfold roots_at in search (values, index) depth 10
+
+pub returns-in-Refused-read_index-2 : goal.returns-in-Refused-read_index-2
+returns-in-Refused-read_index-2 c = unfold roots_at in search (values, index) depth 10
+
+pub returns-in-Value-read_index-2 : goal.returns-in-Value-read_index-2
+returns-in-Value-read_index-2 c = unfold roots_at in search (values, index) depth 10

@@ -1,0 +1,13 @@
+-- `render_words` meets its contract: the plane's number, then the face's.
+-- Assumes nothing.
+use Rattle.nodes.proofs.Renders.{bad_plane, bad_face, all_good}
+use Rattle.nodes.proofs.here.render_words.Goals as goal
+
+pub returns-then-plane-ge2147483648 : goal.returns-then-plane-ge2147483648
+returns-then-plane-ge2147483648 c = λ file a w. bad_plane _ file a _ _ w c.requires c.u32_at-plane.ensures c.if-plane-ge2147483648.true
+
+pub returns-then-u16_at-ge32768 : goal.returns-then-u16_at-ge32768
+returns-then-u16_at-ge32768 c = λ file a w. bad_face _ file a _ _ w c.requires c.u32_at-plane.ensures c.if-plane-ge2147483648.false _ c.u16_at.ensures c.if-u16_at-ge32768.true
+
+pub returns : goal.returns
+returns c = λ file a w. all_good _ file a _ _ w c.requires c.u32_at-plane.ensures c.if-plane-ge2147483648.false _ c.u16_at.ensures c.if-u16_at-ge32768.false _ c.pair_at.ensures

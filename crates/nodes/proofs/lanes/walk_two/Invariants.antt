@@ -1,0 +1,11 @@
+-- `walk_two` meets its contract. The loop's invariant (`Beside`): the two walks from the present words on, after the visits so far.
+-- Assumes nothing.
+use Rattle.std.proofs.Common.{◌+◌, ◌-◌}
+use Rattle.nodes.proofs.Beside.{Beside}
+use Rattle.nodes.proofs.lanes.walk_two.Given as goal
+
+abbrev pub invariant-loop-nodes : goal.invariant-loop-nodes
+invariant-loop-nodes l = Beside l.s l.t l.p l.q l.first l.second l.a l.b l.m l.n
+
+abbrev pub decreases-loop-nodes : goal.decreases-loop-nodes
+decreases-loop-nodes l = (l.t.nodes.count - l.m) + (l.t.nodes.count - l.n)

@@ -1,0 +1,28 @@
+-- `file_words` meets its contract: the index (20), the node's place (23) and its record.
+-- Assumes nothing.
+use Rattle.nodes.proofs.Places.{within}
+use Rattle.nodes.proofs.Sections.{within_itself, at_start}
+use Rattle.nodes.specs.Fast.{render_node_here, clip_node_here}
+use Rattle.nodes.proofs.Readers.{no_node, render_at, render_not, clip_at, clip_not}
+use Rattle.nodes.proofs.read.file_words.Goals as goal
+
+pub returns-then-nodes-index : goal.returns-then-nodes-index
+returns-then-nodes-index c = let a = c.args in no_node _ a.nodes a.index a.render c.if-nodes-index.true
+
+pub render_words-requires : goal.render_words-requires
+render_words-requires c = within _ _ _ _ _ _ c.place.ensures c.in-At.is
+
+pub returns-in-At : goal.returns-in-At
+returns-in-At c = render_at _ _ _ _ c.if-render.true _ c.place.ensures c.render_words.result _ c.in-At.is (at_start render_node_here _ _ _ (c.render_words.ensures _ 0 (within_itself _)))
+
+pub returns-in-Refused : goal.returns-in-Refused
+returns-in-Refused c = render_not _ _ _ _ c.if-render.true _ c.place.ensures _ c.in-Refused.is
+
+pub clip_words-requires : goal.clip_words-requires
+clip_words-requires c = within _ _ _ _ _ _ c.place-2.ensures c.in-At-place.is
+
+pub returns-in-At-place : goal.returns-in-At-place
+returns-in-At-place c = clip_at _ _ _ _ c.if-render.false _ c.place-2.ensures c.clip_words.result _ c.in-At-place.is (at_start clip_node_here _ _ _ (c.clip_words.ensures _ 0 (within_itself _)))
+
+pub returns-in-Refused-place : goal.returns-in-Refused-place
+returns-in-Refused-place c = clip_not _ _ _ _ c.if-render.false _ c.place-2.ensures _ c.in-Refused-place.is

@@ -1,0 +1,22 @@
+-- `plane_at` meets its contract: the index (30), then a box's plane, or the plane's place (23) and its record.
+-- Assumes nothing.
+use Rattle.std.proofs.Common.{sym, ap, ◌∙◌}
+use Rattle.nodes.proofs.Places.{within}
+use Rattle.format.specs.Answer.{answer}
+use Rattle.nodes.proofs.Planes.{no_plane, box_plane_lem, plane_at_lem, plane_not}
+use Rattle.nodes.proofs.read.plane_at.Goals as goal
+
+pub returns-then-planes-index : goal.returns-then-planes-index
+returns-then-planes-index c = sym (no_plane _ _ _ c.if-planes-index.true)
+
+pub returns-then-is_box : goal.returns-then-is_box
+returns-then-is_box c = c.box_plane.ensures ∙ sym (box_plane_lem _ _ _ c.if-planes-index.false _ c.is_box.ensures c.if-is_box.true)
+
+pub plane_here-requires : goal.plane_here-requires
+plane_here-requires c = within _ _ _ _ _ _ c.place.ensures c.in-At.is
+
+pub returns-in-At : goal.returns-in-At
+returns-in-At c = ap answer c.plane_here.ensures ∙ sym (plane_at_lem _ _ _ c.if-planes-index.false _ c.is_box.ensures c.if-is_box.false _ c.place.ensures _ c.in-At.is)
+
+pub returns-in-Refused : goal.returns-in-Refused
+returns-in-Refused c = sym (plane_not _ _ _ c.if-planes-index.false _ c.is_box.ensures c.if-is_box.false _ c.place.ensures _ c.in-Refused.is)

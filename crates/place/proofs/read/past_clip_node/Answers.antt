@@ -1,0 +1,11 @@
+-- `place::read::past_clip_node` meets its contract. Assumes nothing.
+use mathlib.Core.Path.{refl}
+use Rattle.records.specs.Answers.{collision_node_step}
+use Rattle.place.proofs.Past.{past}
+use Rattle.place.proofs.read.past_clip_node.Goals as goal
+
+pub returns-in-Refused : goal.returns-in-Refused
+returns-in-Refused c = search (past collision_node_step, refl) depth 6
+
+pub returns-in-Value : goal.returns-in-Value
+returns-in-Value c = search (past collision_node_step, refl) depth 6

@@ -1,0 +1,13 @@
+-- `give` meets its contract. The loop's invariant: the entries passed are copied.
+-- Assumes nothing.
+use Prim.Native.Nat.{◌-◌, ◌≤◌}
+use mathlib.Core.Path.{◌≡◌}
+use lib.ListN.{length, take}
+use Rattle.points.proofs.many.give.Given as goal
+
+abbrev pub invariant-loop-i : goal.invariant-loop-i
+invariant-loop-i l =
+    (l.i ≤ length l.initial.list) × ((length l.list ≡ length l.initial.list) × (take l.i l.list ≡ take l.i l.bytes))
+
+abbrev pub decreases-loop-i : goal.decreases-loop-i
+decreases-loop-i l = length l.initial.list - l.i

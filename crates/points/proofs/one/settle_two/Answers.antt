@@ -1,0 +1,12 @@
+-- `settle_two` meets its contract.
+-- Assumes nothing.
+use native.Mathlib.Omega.{arith}
+use Rattle.points.proofs.Single.{two_settles}
+use Rattle.points.proofs.Downward.{pair_few}
+use Rattle.points.proofs.one.settle_two.Goals as goal
+
+pub overflow_add-result : goal.overflow_add-result
+overflow_add-result c = omega (arith, pair_few _ _ _ _ c.args.words _ _ _ (omega (arith, c.ranges)) c.walk_pair-pair.ensures)
+
+pub returns : goal.returns
+returns c = two_settles _ _ _ _ _ _ _ c.requires _ c.walk_pair-pair.ensures _ _ c.put.ensures c.put-2.ensures
