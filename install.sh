@@ -6,8 +6,8 @@
 #
 # --prefix DIR    where to (if not said: /usr/local). DESTDIR in the environment goes before it.
 # --library FILE  the archive, if it was made elsewhere; BSP29_LIBRARY in the environment says the same (a
-#                 relative path there: from this folder). Without both, `rt staticlib ffi` proves and
-#                 writes it first.
+#                 relative path there: from this folder). Without both, `rt lib` proves and writes it
+#                 first, in crates/ffi.
 # --uninstall     takes away what was installed there.
 set -eu
 
@@ -47,8 +47,8 @@ if [ "$uninstall" = yes ]; then
 fi
 
 if [ -z "$library" ]; then
-    (cd "$root" && rt staticlib ffi)
-    library=$root/target/staticlib/libffi.a
+    (cd "$root/crates/ffi" && rt lib)
+    library=$root/crates/ffi/out/libffi.a
 fi
 
 # the version stands in the header

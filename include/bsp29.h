@@ -1,8 +1,8 @@
 /*
- * bsp29.h: BSP29 maps that strangers send. C99 and C++11, x86-64 Linux.
+ * bsp29.h: BSP29 maps that strangers send. C99 and C++11, x86-64 Linux (x86-64-v2 and above).
  *
- * Link the static library libbsp29.a (README.md says how it is installed). `rt staticlib ffi` writes it
- * as target/staticlib/libffi.a; link that file by its path, since systems have another library called
+ * Link the static library libbsp29.a (README.md says how it is installed). `rt lib` in crates/ffi writes
+ * it as crates/ffi/out/libffi.a; link that file by its path, since systems have another library called
  * ffi. bsp29_easy.h has small structs and wrappers over these calls.
  *
  * Each call but bsp_version answers 0 (BSP_OK), or the number of a refusal (enum bsp_refusal;
@@ -14,12 +14,12 @@
  * thread may call it at any time.
  *
  * Stack, measured on a chain of 512 nodes, the deepest there can be, and not proved: bsp_trace_nodes
- * needs up to 551,000 bytes, bsp_trace_line 477,000, bsp_order_trace 427,000, bsp_trace 402,000 (296,000
- * with the map record of a file that was loaded), bsp_accept 329,000, bsp_contents_box 263,000,
- * bsp_tree_check, bsp_hull_check and bsp_order 165,000.
- * bsp_load, bsp_load_place, bsp_texture_frame and bsp_texture_static need up to 554,000 bytes,
- * bsp_texture_numbers 966,000 and bsp_record of a texture info 1,011,000, whatever the nodes. The other
- * calls have no such depth.
+ * needs up to 510,000 bytes, bsp_order_trace 460,000, bsp_trace_line 412,000, bsp_trace 362,000 (239,000
+ * with the map record of a file that was loaded), bsp_accept 296,000, bsp_contents_box 263,000,
+ * bsp_tree_check, bsp_hull_check and bsp_order 132,000.
+ * bsp_load, bsp_load_place, bsp_texture_frame and bsp_texture_static need up to 543,000 bytes,
+ * bsp_texture_numbers 966,000 and bsp_record 470,000, of a texture info 1,011,000, whatever the nodes. The
+ * other calls have no such depth.
  *
  * A list is two parameters: a pointer to its first entry and the number of its entries.
  *   - The pointer is not null and is aligned for its entries, even where the number is 0.

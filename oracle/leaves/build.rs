@@ -1,8 +1,8 @@
-//! Links the static library of the crate ffi_math, which `rt staticlib ffi_math` leaves in the
-//! repository's target/staticlib, or the one in the folder that ORACLE_LIBRARY names.
+//! Links the static library of the crate ffi_math, which `rt lib` leaves in crates/ffi_math/out, or the one
+//! in the folder that ORACLE_LIBRARY names.
 
 fn main() {
-    let usual = concat!(env!("CARGO_MANIFEST_DIR"), "/../../target/staticlib").to_string();
+    let usual = concat!(env!("CARGO_MANIFEST_DIR"), "/../../crates/ffi_math/out").to_string();
     let folder = std::env::var("ORACLE_LIBRARY").unwrap_or(usual);
     println!("cargo:rustc-link-search=native={folder}");
     println!("cargo:rustc-link-lib=static=ffi_math");

@@ -1,8 +1,8 @@
 //! Finds the static library and links it as `libbsp29.a`. It writes into OUT_DIR alone and proves nothing.
 //!
 //! With BSP29_LIBRARY set, the library is that file; a relative path is taken from the folder two above
-//! this crate's own, which is the repository's root. Else it is the one that `rt staticlib ffi` has made in
-//! the repository, which must not be older than what it is proved from.
+//! this crate's own, which is the repository's root. Else it is the one that `rt lib` has made in crates/ffi
+//! of the repository, which must not be older than what it is proved from.
 
 use std::env;
 use std::fs;
@@ -38,9 +38,8 @@ fn main() {
 
 /// The library that the repository has made of the crates as they are.
 fn of_repository(root: &Path) -> PathBuf {
-    let library = root.join("target/staticlib/libffi.a");
+    let library = root.join("crates/ffi/out/libffi.a");
     let (crates, list) = (root.join("crates"), root.join("crates.txt"));
-    println!("cargo:rerun-if-changed={}", crates.display());
     println!("cargo:rerun-if-changed={}", list.display());
     let Ok(time) = fs::metadata(&library).and_then(|data| data.modified()) else {
         stop("the static library is not made yet");
@@ -48,8 +47,13 @@ fn of_repository(root: &Path) -> PathBuf {
     for (part, name) in
         folders(&crates).iter().flat_map(|c| ["src", "specs", "proofs"].map(|p| (c, p)))
     {
-        if newer(&part.join(name), time) {
-            stop(&format!("{} is newer than the static library", part.join(name).display()));
+        let folder = part.join(name);
+        // not the whole of `crates`: beside these lies what `rt` keeps for its next check
+        if folder.is_dir() {
+            println!("cargo:rerun-if-changed={}", folder.display());
+        }
+        if newer(&folder, time) {
+            stop(&format!("{} is newer than the static library", folder.display()));
         }
     }
     if newer(&list, time) {
@@ -75,7 +79,7 @@ fn newer(path: &Path, time: SystemTime) -> bool {
 
 fn stop(why: &str) -> ! {
     eprintln!("bsp29-sys: {why}");
-    eprintln!("bsp29-sys: run `rt staticlib ffi` in the repository, or set BSP29_LIBRARY to the path of the");
+    eprintln!("bsp29-sys: run `rt lib` in crates/ffi of the repository, or set BSP29_LIBRARY to the path of the");
     eprintln!("bsp29-sys: library if it is made elsewhere (rust/bsp29-sys/README.md)");
     exit(1)
 }

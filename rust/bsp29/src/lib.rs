@@ -4,7 +4,7 @@
 //! A safe crate over the static library of this repository, whose code is proved: whatever the bytes,
 //! the numbers or the floats, each call answers or refuses ([`Refusal`]); none crashes, hangs or reads
 //! outside the file. The crate `bsp29-sys` below this one finds the library: the one that
-//! `rt staticlib ffi` has made, or the file that the environment variable `BSP29_LIBRARY` names.
+//! `rt lib` in crates/ffi has made, or the file that the environment variable `BSP29_LIBRARY` names.
 //!
 //! Every NaN that a call answers is the same one, 0x7fc00000.
 //!
