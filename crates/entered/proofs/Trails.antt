@@ -203,7 +203,7 @@ module _ (s : List ℕ) (t : Tables) (p : Vector3) (i : ℕ) (r : ReadWords) (is
     no_plane x q2 =
         sym (ap (onward p) (enter_no_plane s t T refl refl refl i r is-r w q (number_of x) (mapped_refused (λ h. Pl.point_side h p) (plane_in s t w.plane) (number_of x) (sym is-r2 ∙ ap sided_answer q2))))
 
-    module _ (b : Bool) (q2 : r2 ≡ S.Front b) (word : ℕ) (is_IsWord : word ≡ word_on w b) where
+    module _ (b : Bool) (q2 : r2 ≡ S.Front b) (word : ℕ) (is_word : word ≡ word_on w b) where
       on_side : (h : Hyperplane) × (plane_in s t w.plane ≡ answer h) × (Pl.point_side h p ≡ Pl.side_if b)
       on_side = mapped_answer (λ h. Pl.point_side h p) (plane_in s t w.plane) (Pl.side_if b) (sym is-r2 ∙ ap sided_answer q2)
 
@@ -214,7 +214,7 @@ module _ (s : List ℕ) (t : Tables) (p : Vector3) (i : ℕ) (r : ReadWords) (is
           ∙ ap (λ (y : HyperplaneSide). node_or0 (child_on (node_of t.table w) y)) on_side.2
 
       pub to_node : word < 32768 → word ≡ next T p i
-      to_node l = sym (goes ∙ ap node_or0 (child_node t.table w b word is_IsWord l))
+      to_node l = sym (goes ∙ ap node_or0 (child_node t.table w b word is_word l))
 
       pub to_end : 32768 ≤ word → 0 ≡ next T p i
-      to_end l = sym (goes ∙ ap node_or0 (child_end t.table w b word is_IsWord l))
+      to_end l = sym (goes ∙ ap node_or0 (child_end t.table w b word is_word l))

@@ -54,14 +54,14 @@ module _ (bytes out : List ℕ) (z : BodySizes) (l : sizes_length ≤ length out
   long : sizes_length ≤ length (put (sizes_words z) out)
   long = omega arith
 
-  hull_of_lem : (s m : List ℕ) (i j : ℕ) (hull : List ℕ)
+  hull_of : (s m : List ℕ) (i j : ℕ) (hull : List ℕ)
       → bsp_hull_sized s m (put (sizes_words z) out) i j hull ≡ at_least 31 m hull (at_least hull_length hull hull (given (mapped hull_words (hull_sized s (map_of m) z i j)) hull))
   unfolding bsp_hull_sized
-  hull_of_lem s m i j hull = rw (le-ltb (length (put (sizes_words z) out)) sizes_length long, same_file) refl
+  hull_of s m i j hull = rw (le-ltb (length (put (sizes_words z) out)) sizes_length long, same_file) refl
 
 pub from_file : FromFile
 from_file bytes out z l e = record {
   answered = rw (is_written bytes out z l e) refl;
   read_back = rw (is_written bytes out z l e) (same_file bytes out z l e);
-  hull = λ s m i j hull. rw (is_written bytes out z l e) (hull_of_lem bytes out z l e s m i j hull);
+  hull = λ s m i j hull. rw (is_written bytes out z l e) (hull_of bytes out z l e s m i j hull);
 }

@@ -34,11 +34,11 @@ pub record Sizes : Type 0 where
   pub faces_at : ℕ
   pub planes : ℕ
   pub infos : ℕ
-  pub edge_list_lem : ℕ
+  pub edge_list : ℕ
   pub edges : ℕ
   pub vertices : ℕ
   pub faces : ℕ
-  pub face_list_lem : ℕ
+  pub face_list : ℕ
   pub leaves : ℕ
   pub row : ℕ
   pub render : ℕ
@@ -60,16 +60,16 @@ map z = record {
   lightmaps = part 0 0;
   collision_nodes = part 164 z.clip;
   leaves = part 20 z.leaves;
-  facelist = part 188 z.face_list_lem;
+  facelist = part 188 z.face_list;
   edges = part 184 z.edges;
-  edgelist = part 172 z.edge_list_lem;
+  edgelist = part 172 z.edge_list;
   models = part 76 64;
   texture_count = 0;
 }
 
 -- faces at; planes, texture infos, edge list, edges, vertices; faces, face list, leaves, row; render nodes, clip nodes
 abbrev pub sizes : ℕ → ℕ → ℕ → ℕ → ℕ → ℕ → ℕ → ℕ → ℕ → ℕ → ℕ → ℕ → Sizes
-sizes a b c d e f g h i j k l = record { faces_at = a; planes = b; infos = c; edge_list_lem = d; edges = e; vertices = f; faces = g; face_list_lem = h; leaves = i; row = j; render = k; clip = l }
+sizes a b c d e f g h i j k l = record { faces_at = a; planes = b; infos = c; edge_list = d; edges = e; vertices = f; faces = g; face_list = h; leaves = i; row = j; render = k; clip = l }
 
 abbrev pub good : Sizes
 good = sizes 0 20 40 12 4 12 20 2 56 1 24 8

@@ -44,10 +44,10 @@ module _ (id : BspFileSectionId) (z : BspFileSection) (n i : ℕ) {count : ℕ} 
   unfolding place
   none h = simp (← is-count, le-leb _ _ h)
 
-  module _ {within : Bool} (is_Within : within ≡ within_limit id count) (h : i < count) where
+  module _ {within : Bool} (is_within : within ≡ within_limit id count) (h : i < count) where
     pub above : within ≡ false → refused 23 ≡ place id z n i
     unfolding place
-    above e = simp (← is-count, lt-leb _ _ h, ← is_Within, e)
+    above e = simp (← is-count, lt-leb _ _ h, ← is_within, e)
 
     module _ {k : ℕ} (is-k : k ≡ element_size id) where
       pub before_end : i * k + k ≤ z.size
@@ -56,11 +56,11 @@ module _ (id : BspFileSectionId) (z : BspFileSection) (n i : ℕ) {count : ℕ} 
       module _ (e : within ≡ true) where
         pub outside : n < z.offset + i * k + k → refused 23 ≡ place id z n i
         unfolding place
-        outside g = simp (← is-count, lt-leb _ _ h, ← is_Within, e, ← is-k, lt-leb _ _ g)
+        outside g = simp (← is-count, lt-leb _ _ h, ← is_within, e, ← is-k, lt-leb _ _ g)
 
         pub inside : z.offset + i * k + k ≤ n → answer (z.offset + i * k) ≡ place id z n i
         unfolding place
-        inside g = simp (← is-count, lt-leb _ _ h, ← is_Within, e, ← is-k, le-leb _ _ g)
+        inside g = simp (← is-count, lt-leb _ _ h, ← is_within, e, ← is-k, le-leb _ _ g)
 
 -- What a place that was found says, whichever way it was asked for.
 pub record Found (id : BspFileSectionId) (z : BspFileSection) (n i p : ℕ) : Type 0 where

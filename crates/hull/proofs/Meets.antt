@@ -66,13 +66,13 @@ module _ (f : List ℕ) (t : Tables) (w : WordsT) (b : Bool) where
   unfolding met_on
   meets m y is_m q = sym is_m ∙ ap met_answer q
 
-  module _ (word : ℕ) (is_IsWord : word ≡ Fast.word_on w b) where
+  module _ (word : ℕ) (is_word : word ≡ Fast.word_on w b) where
     pub meets_node : word < 32768 → child ≡ met_node word
-    meets_node h = ap (met_child (Fast.table f t)) (child_node t.table w b word is_IsWord h)
+    meets_node h = ap (met_child (Fast.table f t)) (child_node t.table w b word is_word h)
 
     pub meets_end : 32768 ≤ word → (x : Answer BspLeafContents) → x ≡ contents_met f t word → child ≡ met_end x
     unfolding contents_met
-    meets_end h x is_x = ap (met_child (Fast.table f t)) (child_end t.table w b word is_IsWord h) ∙ ap met_end (sym is_x)
+    meets_end h x is_x = ap (met_child (Fast.table f t)) (child_end t.table w b word is_word h) ∙ ap met_end (sym is_x)
 
 -- the sides of two points, by the bytes of a table that is whole
 module _ (f : List ℕ) (t : Tables) (render : Bool) (n m l : List ℕ) (own : Owned f t render n m l) (i : ℕ) (p q : Vector3) (r : Sides) (is-r : sides_answer r ≡ mapped (two_sides p q) (Owned.plane_of m i)) where

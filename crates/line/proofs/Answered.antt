@@ -77,8 +77,8 @@ module _ {E : Type 0} (T : Table E BspLeafContents) (R : Reads T) (root : ℕ) (
   entered : (n k : ℕ) (m : Met n k) → (h : Hyperplane) × (enter T n ≡ answer (record { nd = (valid n k m).record_of; plane = h }))
   entered n k m =
       let v = valid n k m in
-      let w : (h : Hyperplane) × (T.plane_at v.record_of.plane ≡ answer h) = R.planes_read v.record_of.plane v.plane_in_lem in
-      (w.0, enter_is T n v.record_of v.read_as w.0 v.plane_in_lem w.1)
+      let w : (h : Hyperplane) × (T.plane_at v.record_of.plane ≡ answer h) = R.planes_read v.record_of.plane v.plane_in in
+      (w.0, enter_is T n v.record_of v.read_as w.0 v.plane_in w.1)
 
   end_met : (n k : ℕ) (m : Met n k) (side : HyperplaneSide) (e : E) → child_on (valid n k m).record_of side ≡ end e → Told (meet T e)
   unfolding meet

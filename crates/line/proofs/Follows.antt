@@ -104,14 +104,14 @@ module _ (f : List ℕ) (t : Tables) (n m : List ℕ) (whole : Bool) (R : Read f
       opened f t i k p q r (made ∙ note_read (node_and_dists p q) f t i k h z) w a b e
 
 -- what a look makes of it
-module _ (f : List ℕ) (t : Tables) (i k : ℕ) (p q : Vector3) (w : WordsT) (a b : Float) (O : Opened f t i k p q w a b) (word : ℕ) (is_IsWord : word ≡ word_on w (Ieee.le zero32 a)) where
+module _ (f : List ℕ) (t : Tables) (i k : ℕ) (p q : Vector3) (w : WordsT) (a b : Float) (O : Opened f t i k p q w a b) (word : ℕ) (is_word : word ≡ word_on w (Ieee.le zero32 a)) where
   looks : Made (child_by_distance p) f t i k (child_of t.table word)
   looks = record {
     in_range = O.in_range;
     left = O.left;
     node = record { nd = node_of t.table w; plane = O.plane };
     entered = O.entered;
-    is_made = ap (λ (d : Float). child_on (node_of t.table w) (Pl.from_dist d)) O.first ∙ child_is t.table w (Ieee.le zero32 a) ∙ ap (child_of t.table) (sym is_IsWord);
+    is_made = ap (λ (d : Float). child_on (node_of t.table w) (Pl.from_dist d)) O.first ∙ child_is t.table w (Ieee.le zero32 a) ∙ ap (child_of t.table) (sym is_word);
   }
 
   pub look_on : word < 32768 → contents_from (Fast.table f t) (k - 1) word p ≡ contents_from (Fast.table f t) k i p
@@ -127,9 +127,9 @@ module _ (f : List ℕ) (t : Tables) (i k : ℕ) (p q : Vector3) (w : WordsT) (a
 pub end_line : (f : List ℕ) (t : Tables) (k i : ℕ) (s : Stretch) (w : WordsT) (a b : Float) (O : Opened f t i k s.start s.end w a b) → not (beq (Ieee.le zero32 a) (Ieee.le zero32 b)) ≡ false
     → (word : ℕ) → word ≡ word_on w (Ieee.le zero32 a) → 32768 ≤ word → (root : ℕ) (l : LineTrace) → into_leaf (Fast.table f t) l (contents_met f t word) ≡ line_from (Fast.table f t) root k i s l
 unfolding contents_met
-end_line f t k i s w a b O same word is_IsWord h root l =
-    sym (ap (λ (c : Child End). on_child (Fast.table f t) (λ n s l. line_from (Fast.table f t) root (k - 1) n s l) c s l) (child_end t.table w (Ieee.le zero32 a) word is_IsWord h))
-    ∙ on_child_lem f t root k i s l w a b O same word is_IsWord
+end_line f t k i s w a b O same word is_word h root l =
+    sym (ap (λ (c : Child End). on_child (Fast.table f t) (λ n s l. line_from (Fast.table f t) root (k - 1) n s l) c s l) (child_end t.table w (Ieee.le zero32 a) word is_word h))
+    ∙ on_child_lem f t root k i s l w a b O same word is_word
 
 -- ---- a look with more calls left
 
@@ -217,9 +217,9 @@ module _ (f : List ℕ) (t : Tables) (root : ℕ) where
     abbrev go : ℕ → Stretch → LineTrace → Went
     go = λ n s l. line_from T root x.left n s l
 
-    module _ (word : ℕ) (is_IsWord : word ≡ word_on x.w (not front)) where
+    module _ (word : ℕ) (is_word : word ≡ word_on x.w (not front)) where
       far_child : child_of t.table word ≡ child_on nd (Pl.negated_side (Pl.from_dist x.a))
-      far_child = ap (child_of t.table) is_IsWord ∙ sym (child_is t.table x.w (not front)) ∙ ap (child_on nd) (other_side front)
+      far_child = ap (child_of t.table) is_word ∙ sym (child_is t.table x.w (not front)) ∙ ap (child_on nd) (other_side front)
 
       pub resumes : (s : Stretch) → s ≡ far_part x.part x.k → Follows f t root xs x.left s word l x true all
       resumes s is-s c e = (

@@ -68,7 +68,7 @@ other_side false = refl
 
 -- ---- the child that a word stands for
 
-module _ (f : List ℕ) (t : Tables) (root left : ℕ) (w : WordsT) (b : Bool) (s : Stretch) (l : LineTrace) (word : ℕ) (is_IsWord : word ≡ word_on w b) where
+module _ (f : List ℕ) (t : Tables) (root left : ℕ) (w : WordsT) (b : Bool) (s : Stretch) (l : LineTrace) (word : ℕ) (is_word : word ≡ word_on w b) where
   abbrev T₀ : Table End BspLeafContents
   T₀ = Fast.table f t
 
@@ -77,12 +77,12 @@ module _ (f : List ℕ) (t : Tables) (root left : ℕ) (w : WordsT) (b : Bool) (
 
   pub child_line : word < 32768 → line_from T₀ root left word s l ≡ child_went f t root left w b s l
   unfolding child_went
-  child_line h = sym (ap (λ (c : Child End). on_child T₀ go₀ c s l) (child_node t.table w b word is_IsWord h))
+  child_line h = sym (ap (λ (c : Child End). on_child T₀ go₀ c s l) (child_node t.table w b word is_word h))
 
   module _ (h : 32768 ≤ word) (x : EndContents) (is_x : end_answer x ≡ contents_met f t word) where
     child_met : into_leaf T₀ l (end_answer x) ≡ child_went f t root left w b s l
     unfolding child_went contents_met
-    child_met = ap (into_leaf T₀ l) is_x ∙ sym (ap (λ (c : Child End). on_child T₀ go₀ c s l) (child_end t.table w b word is_IsWord h))
+    child_met = ap (into_leaf T₀ l) is_x ∙ sym (ap (λ (c : Child End). on_child T₀ go₀ c s l) (child_end t.table w b word is_word h))
 
     pub child_leaf : (c : BspLeafContents) → x ≡ E.Contents c → onward (into c l) ≡ child_went f t root left w b s l
     child_leaf c q = sym (ap (λ (y : EndContents). into_leaf T₀ l (end_answer y)) q) ∙ child_met
@@ -150,17 +150,17 @@ module _ (f : List ℕ) (t : Tables) (root k i : ℕ) (s : Stretch) (l : LineTra
         ∙ ap (λ (d : Float). across T go root (node_of t.table w) O.plane s a d l) O.second)
 
     -- both ends on one side: on to the child, with the same ends
-    module _ (same : not (beq (Ieee.le zero32 a) (Ieee.le zero32 b)) ≡ false) (word : ℕ) (is_IsWord : word ≡ word_on w (Ieee.le zero32 a)) where
+    module _ (same : not (beq (Ieee.le zero32 a) (Ieee.le zero32 b)) ≡ false) (word : ℕ) (is_word : word ≡ word_on w (Ieee.le zero32 a)) where
       pub on_child_lem : on_child T go (child_at t w (Ieee.le zero32 a)) s l ≡ all
       on_child_lem = pick_true _ _ _ (same_is (Ieee.le zero32 a) (Ieee.le zero32 b) same) ∙ enters
 
       pub goes_on : word < 32768 → line_from T root (k - 1) word s l ≡ all
-      goes_on h = sym (ap (λ (c : Child End). on_child T go c s l) (child_node t.table w (Ieee.le zero32 a) word is_IsWord h)) ∙ on_child_lem
+      goes_on h = sym (ap (λ (c : Child End). on_child T go c s l) (child_node t.table w (Ieee.le zero32 a) word is_word h)) ∙ on_child_lem
 
       module _ (h : 32768 ≤ word) (x : EndContents) (is_x : end_answer x ≡ contents_met f t word) where
         in_end : into_leaf T l (end_answer x) ≡ all
         unfolding contents_met
-        in_end = ap (into_leaf T l) is_x ∙ sym (ap (λ (c : Child End). on_child T go c s l) (child_end t.table w (Ieee.le zero32 a) word is_IsWord h)) ∙ on_child_lem
+        in_end = ap (into_leaf T l) is_x ∙ sym (ap (λ (c : Child End). on_child T go c s l) (child_end t.table w (Ieee.le zero32 a) word is_word h)) ∙ on_child_lem
 
         pub in_leaf : (c : BspLeafContents) → x ≡ E.Contents c → onward (into c l) ≡ all
         in_leaf c q = sym (ap (λ (y : EndContents). into_leaf T l (end_answer y)) q) ∙ in_end
@@ -215,20 +215,20 @@ module _ (f : List ℕ) (g : Ground) (w : WordsT) (front : Bool) (s : Stretch) (
     pub far_solid : Contents.equal c Solid ≡ true → blocked T₂ g.root h (Pl.side_if front) s k l ≡ far
     far_solid y = pick_true _ _ _ y ∙ met
 
-    module _ (y : Contents.equal c Solid ≡ false) (word : ℕ) (is_IsWord : word ≡ word_on w (not front)) where
+    module _ (y : Contents.equal c Solid ≡ false) (word : ℕ) (is_word : word ≡ word_on w (not front)) where
       far_open : on_child T₂ go (child_at g.t w (not front)) (far_part s k) l ≡ far
       far_open =
           ap (λ (u : HyperplaneSide). on_child T₂ go (child_on (node_of g.t.table w) u) (far_part s k) l) (other_side front) ∙ pick_false _ _ _ y ∙ met
 
       pub far_node : word < 32768 → go word (far_part s k) l ≡ far
-      far_node h = sym (ap (λ (c : Child End). on_child T₂ go c (far_part s k) l) (child_node g.t.table w (not front) word is_IsWord h)) ∙ far_open
+      far_node h = sym (ap (λ (c : Child End). on_child T₂ go c (far_part s k) l) (child_node g.t.table w (not front) word is_word h)) ∙ far_open
 
       -- a leaf has the contents that were looked for
       pub far_leaf : 32768 ≤ word → onward (into c l) ≡ far
       unfolding contents_met
       far_leaf h =
-          ap (into_leaf T₂ l) (sym (ap end_answer q) ∙ is-e ∙ sym (beside_end f g.t w (not front) p word is_IsWord h))
-          ∙ sym (ap (λ (c : Child End). on_child T₂ go c (far_part s k) l) (child_end g.t.table w (not front) word is_IsWord h)) ∙ far_open
+          ap (into_leaf T₂ l) (sym (ap end_answer q) ∙ is-e ∙ sym (beside_end f g.t w (not front) p word is_word h))
+          ∙ sym (ap (λ (c : Child End). on_child T₂ go c (far_part s k) l) (child_end g.t.table w (not front) word is_word h)) ∙ far_open
 
 -- ---- at a crossing
 

@@ -42,13 +42,13 @@ module _ {E : Type 0} (T : Table E BspLeafContents) (p : Vector3) where
     look_unread n m = look_step ∙ ap (contents_at T (λ n. contents_from T j n p) p) m
 
 -- the child that a word stands for
-module _ (f : List ℕ) (t : Tables) (go : ℕ → Answer BspLeafContents) (w : WordsT) (b : Bool) (word : ℕ) (is_IsWord : word ≡ word_on w b) where
+module _ (f : List ℕ) (t : Tables) (go : ℕ → Answer BspLeafContents) (w : WordsT) (b : Bool) (word : ℕ) (is_word : word ≡ word_on w b) where
   pub look_child : word < 32768 → contents_on (Fast.table f t) go (child_at t w b) ≡ go word
-  look_child h = ap (contents_on (Fast.table f t) go) (child_node t.table w b word is_IsWord h)
+  look_child h = ap (contents_on (Fast.table f t) go) (child_node t.table w b word is_word h)
 
   pub look_end : 32768 ≤ word → contents_on (Fast.table f t) go (child_at t w b) ≡ contents_met f t word
   unfolding contents_met
-  look_end h = ap (contents_on (Fast.table f t) go) (child_end t.table w b word is_IsWord h)
+  look_end h = ap (contents_on (Fast.table f t) go) (child_end t.table w b word is_word h)
 
 pub word_node : (tab : HullTable) (word : ℕ) → word < 32768 → child_of tab word ≡ node word
 word_node tab word h = simp (lt-ltb _ _ h)
@@ -80,11 +80,11 @@ module _ (f : List ℕ) (t : Tables) (k i : ℕ) (p : Vector3) where
     to_end l = sym (goes ∙ ap (contents_on T (λ n. contents_from T (k - 1) n p)) (word_end t.table word l))
 
 -- the child beside a crossing
-module _ (f : List ℕ) (t : Tables) (w : WordsT) (b : Bool) (p : Vector3) (word : ℕ) (is_IsWord : word ≡ word_on w b) where
+module _ (f : List ℕ) (t : Tables) (w : WordsT) (b : Bool) (p : Vector3) (word : ℕ) (is_word : word ≡ word_on w b) where
   pub beside_node : word < 32768 → contents_from (Fast.table f t) 512 word p ≡ contents_beside f t w b p
   unfolding contents_beside
-  beside_node h = sym (look_child f t (λ n. contents_from (Fast.table f t) 512 n p) w b word is_IsWord h)
+  beside_node h = sym (look_child f t (λ n. contents_from (Fast.table f t) 512 n p) w b word is_word h)
 
   pub beside_end : 32768 ≤ word → contents_met f t word ≡ contents_beside f t w b p
   unfolding contents_beside
-  beside_end h = sym (look_end f t (λ n. contents_from (Fast.table f t) 512 n p) w b word is_IsWord h)
+  beside_end h = sym (look_end f t (λ n. contents_from (Fast.table f t) 512 n p) w b word is_word h)

@@ -68,8 +68,8 @@ module _ (f : List ℕ) (t : Tables) (i : ℕ) (r : ReadWords) (is-r : words_ans
       no_side x e = without (child_by_distance p) (number_of x) (sym is-a ∙ ap plane_answer e)
 
       pub one_side : (h : Hyperplane) → a ≡ P.Value h → (d : Float) → d ≡ Pl.point_dist h p → (word : ℕ) → word ≡ word_on w (Ieee.le zero32 d) → answer (child_of t.table word) ≡ made_from (child_by_distance p) f t i
-      one_side h e d is-d word is_IsWord =
-          ap (λ (n : ℕ). answer (child_of t.table n)) is_IsWord ∙ ap answer (sym (child_is t.table w (Ieee.le zero32 d)))
+      one_side h e d is-d word is_word =
+          ap (λ (n : ℕ). answer (child_of t.table n)) is_word ∙ ap answer (sym (child_is t.table w (Ieee.le zero32 d)))
           ∙ ap (λ (x : Float). answer (child_on (node_of t.table w) (Pl.from_dist x))) is-d ∙ with_plane_lem (child_by_distance p) h (sym is-a ∙ ap plane_answer e)
 
 -- the same point

@@ -56,6 +56,6 @@ pub ruleset face = (face_ok, face_no)
 
 pub ruleset surface = (surface_ok, surface_no)
 
-pub ruleset render_node_lem = (render_node_ok, render_node_no)
+pub ruleset render_node = (render_node_ok, render_node_no)
 
 pub ruleset texinfo = (texinfo_ok, texinfo_no)

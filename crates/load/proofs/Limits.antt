@@ -31,7 +31,7 @@ pub record Limited (m : BspData) : Type 0 where
   pub planes : Within Planes m
   pub vertices : Within Vertices m
   pub visibility : Within Visibility m
-  pub render_nodes_lem : Within RenderNodes m
+  pub render_nodes : Within RenderNodes m
   pub collision_nodes_lem : Within CollisionNodes m
   pub leaves : Within Leaves m
   pub edges : Within Edges m
@@ -57,7 +57,7 @@ each_limit m p e =
       planes = within Planes m a.0;
       vertices = within Vertices m b.0;
       visibility = within Visibility m c.0;
-      render_nodes_lem = within RenderNodes m d.0;
+      render_nodes = within RenderNodes m d.0;
       collision_nodes_lem = within CollisionNodes m f.0;
       leaves = within Leaves m g.0;
       edges = within Edges m h.0;

@@ -159,8 +159,8 @@ module _ (s : List ℕ) (m : BspData) (loads : load_of s ≡ answer m) where
   pub vertices : Answers (vertex_of s m) (record_count Vertices m.vertices)
   vertices = let p = passed s m loads in answers Vertices vector_at s m bounded_vector (each_limit m p.limited.0 p.limited.1).vertices p.vertices
 
-  pub render_nodes_lem : Answers (render_node_of s m) (record_count RenderNodes m.render_nodes)
-  render_nodes_lem = let p = passed s m loads in answers RenderNodes render_node_at s m bounded_render_node (each_limit m p.limited.0 p.limited.1).render_nodes_lem p.render_nodes_lem
+  pub render_nodes : Answers (render_node_of s m) (record_count RenderNodes m.render_nodes)
+  render_nodes = let p = passed s m loads in answers RenderNodes render_node_at s m bounded_render_node (each_limit m p.limited.0 p.limited.1).render_nodes p.render_nodes
 
   pub file_faces : Answers (file_face_of s m) (record_count Faces m.faces)
   unfolding faces
@@ -281,8 +281,8 @@ module _ (s : List ℕ) (m : BspData) (loads : load_of s ≡ answer m) where
       let p = passed s m loads in
       let n = record_count Leaves m.leaves in
       let z = m.render_nodes in
-      let l = (each_limit m p.limited.0 p.limited.1).render_nodes_lem in
-      let st : (j : ℕ) → j < record_count RenderNodes z → Stands render_node_at s (z.offset + j * 24) 24 = λ j k. stands RenderNodes bounded_render_node s z p.render_nodes_lem.0 p.render_nodes_lem.1 j k in
+      let l = (each_limit m p.limited.0 p.limited.1).render_nodes in
+      let st : (j : ℕ) → j < record_count RenderNodes z → Stands render_node_at s (z.offset + j * 24) 24 = λ j k. stands RenderNodes bounded_render_node s z p.render_nodes.0 p.render_nodes.1 j k in
       let r = again render_node_at (references_at n) s 24 (λ at u q g. let x = names n s at u q g in (x.0, x.1.0))
       (record_count RenderNodes z) z.offset p.references.0 p.references.1 (λ j k. ((st j k).value, (st j k).reads)) i h in
       let x = names n s (z.offset + i * 24) r.0 (z.offset + i * 24 + 24) r.1 in

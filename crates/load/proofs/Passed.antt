@@ -54,7 +54,7 @@ pub record Passed (s : List ℕ) (m : BspData) : Type 0 where
   pub textures : (p : ℕ) × (Section.textures s m.textures ≡ ok m.texture_count p)
   pub vertices : Ok (section vector_at Vertices s m.vertices)
   pub visibility : Ok (blob s m.visibility)
-  pub render_nodes_lem : Ok (section render_node_at RenderNodes s m.render_nodes)
+  pub render_nodes : Ok (section render_node_at RenderNodes s m.render_nodes)
   pub texinfo : Ok (texinfos s m)
   pub faces_read : Ok (faces s m)
   pub lightmaps : Ok (blob s m.lightmaps)
@@ -93,7 +93,7 @@ rest s m w q e l t p n =
         textures = n;
         vertices = (a.1.0, a.1.1.0);
         visibility = (b.1.0, b.1.1.0);
-        render_nodes_lem = (c.1.0, c.1.1.0);
+        render_nodes = (c.1.0, c.1.1.0);
         texinfo = (d.1.0, d.1.1.0);
         faces_read = (f.1.0, f.1.1.0);
         lightmaps = (g.1.0, g.1.1.0);

@@ -154,9 +154,9 @@ module _ (s : List ℕ) where
   unfolding render_child_at
   render_child_lem at = then (i16_at s at) _ (i16 at) (λ f p. gives _ _)
 
-  render_node_lem : (at : ℕ) → Known (render_node_at s at)
+  render_node : (at : ℕ) → Known (render_node_at s at)
   unfolding render_node_at render_node_end_at
-  render_node_lem at =
+  render_node at =
       then (index_at 10 s at) _ (index 10 ten at) (λ n p. then (render_child_at s p) _ (render_child_lem p) (λ f q. then (render_child_at s q) _ (render_child_lem q) (λ b t.
       then (point_at s t) _ (point t) (λ low p. then (point_at s p) _ (point p) (λ high q. then (index16_at s q) _ (index16 q) (λ face u. then (u16_at s u) _ (u16 u) (λ c v. gives _ _)))))))
 
@@ -293,7 +293,7 @@ module _ (s : List ℕ) where
     references : Known (leaf_references s m)
     unfolding leaf_references references_at
     references =
-        rows (references_at leaves) (λ at. then (render_node_at s at) _ (render_node_lem at) (λ n p. test (outside leaves n.front) _ _ (says 11 eleven) (test (outside leaves n.back) _ _ (says 11 eleven) (gives _ _)))) _ _
+        rows (references_at leaves) (λ at. then (render_node_at s at) _ (render_node at) (λ n p. test (outside leaves n.front) _ _ (says 11 eleven) (test (outside leaves n.back) _ _ (says 11 eleven) (gives _ _)))) _ _
 
     texture_infos : Known (texinfos s m)
     unfolding texinfos textured
@@ -326,7 +326,7 @@ module _ (s : List ℕ) where
     unfolding from_vertices
     from_vertices_lem =
         then (section vector_at _ s _) _ (whole vector_at vector _ _) (λ u p. then (blob s _) _ (bytes _) (λ u p.
-        then (section render_node_at _ s _) _ (whole render_node_at render_node_lem _ _) (λ u p. from_texinfo_lem)))
+        then (section render_node_at _ s _) _ (whole render_node_at render_node _ _) (λ u p. from_texinfo_lem)))
 
   -- ---- the texture section
 

@@ -103,7 +103,7 @@ module _ (seed n : ℕ) (low : 1 ≤ n) (high : n ≤ 500) where
   render_chained : Chained (nodes_of s (made_map n) Render) n
   render_chained =
       chained (nodes_of s (made_map n) Render) (leaf 0) (leaf 1) seed n low high (Back.render_count n) (Back.plane_count n) (rw two_leaves_lem refl) (rw two_leaves_lem refl)
-      (λ i h. ap (mapped Tables.render_node) (Back.render_nodes_lem seed n high i h) ∙ rw (render_child_lem (front_of (node_number seed i)), render_child_lem (back_of n i)) refl)
+      (λ i h. ap (mapped Tables.render_node) (Back.render_nodes seed n high i h) ∙ rw (render_child_lem (front_of (node_number seed i)), render_child_lem (back_of n i)) refl)
 
   clip_chained : Chained (nodes_of s (made_map n) Clip) n
   clip_chained =
@@ -116,7 +116,7 @@ module _ (seed n : ℕ) (low : 1 ≤ n) (high : n ≤ 500) where
     render_node_count = Back.render_count n;
     clip_node_count = Back.clip_count n;
     planes = Back.planes seed n high;
-    render_nodes_lem = Back.render_nodes_lem seed n high;
+    render_nodes = Back.render_nodes seed n high;
     clip_nodes = Back.clip_nodes seed n high;
     solid_leaf = Back.leaves seed n high 0 (omega arith);
     empty_leaf = Back.leaves seed n high 1 (omega arith);

@@ -62,9 +62,9 @@ module _ (seed n : ℕ) (h : n ≤ 500) where
       reads_back Planes (plane_part seed) (λ i. plane_said (node_number seed i)) n 125 s (made_map n) refl (le-leb n 8192 (omega arith)) (λ i l. plane_size seed i)
       (λ i l. reads_plane (node_number seed i)) (parts seed n).its_planes
 
-  pub render_nodes_lem : (i : ℕ) → i < n → render_node_of s (made_map n) i ≡ answer (render_node_said n i (node_number seed i))
+  pub render_nodes : (i : ℕ) → i < n → render_node_of s (made_map n) i ≡ answer (render_node_said n i (node_number seed i))
   unfolding made_map
-  render_nodes_lem =
+  render_nodes =
       reads_back RenderNodes (render_part seed n) (λ i. render_node_said n i (node_number seed i)) n (129 + n * 20) s (made_map n) refl (le-leb n 32767 (omega arith))
       (λ i l. render_size seed n i) (λ i l. reads_render_node n i (node_number seed i) l (omega arith)) (parts seed n).its_render_nodes
 

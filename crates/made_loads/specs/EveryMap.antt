@@ -28,7 +28,7 @@ pub record ReadsBack (seed n : ℕ) (s : List ℕ) (m : BspData) : Type 0 where
   pub render_node_count : record_count RenderNodes m.render_nodes ≡ n
   pub clip_node_count : record_count CollisionNodes m.collision_nodes ≡ n
   pub planes : (i : ℕ) → i < n → plane_of s m i ≡ answer (plane_said (node_number seed i))
-  pub render_nodes_lem : (i : ℕ) → i < n → render_node_of s m i ≡ answer (render_node_said n i (node_number seed i))
+  pub render_nodes : (i : ℕ) → i < n → render_node_of s m i ≡ answer (render_node_said n i (node_number seed i))
   pub clip_nodes : (i : ℕ) → i < n → collision_node_of s m i ≡ answer (clip_node_said n i (node_number seed i))
   pub solid_leaf : leaf_of s m 0 ≡ answer (leaf_said Solid)
   pub empty_leaf : leaf_of s m 1 ≡ answer (leaf_said Empty)

@@ -114,10 +114,10 @@ module _ (p q : Vector3) (h : Hyperplane) (r : Dists) (e : dists_answer r ≡ an
 -- the child on a side
 pub toward : (tab : HullTable) (w : WordsT) (p : Vector3) (h : Hyperplane) (b : Bool) → Pl.point_side h p ≡ Pl.side_if b → (word : ℕ) → word ≡ word_on w b
     → child_of tab word ≡ child_toward p (record { nd = node_of tab w; plane = h })
-toward tab w p h b e word is_IsWord = ap (child_of tab) is_IsWord ∙ sym (ap (child_on (node_of tab w)) e ∙ child_is tab w b)
+toward tab w p h b e word is_word = ap (child_of tab) is_word ∙ sym (ap (child_on (node_of tab w)) e ∙ child_is tab w b)
 
 pub at_side : (tab : HullTable) (w : WordsT) (sd : HyperplaneSide) (word : ℕ) → word ≡ word_at w sd → child_of tab word ≡ child_on (node_of tab w) sd
-at_side tab w sd word is_IsWord = ap (child_of tab) is_IsWord ∙ child_at_lem tab w sd
+at_side tab w sd word is_word = ap (child_of tab) is_word ∙ child_at_lem tab w sd
 
 pub with_dists : (nd : Node End) (p q : Vector3) (h : Hyperplane) (x y : Float) → ◌≡◌ {A = Float × Float} (two_dists p q h) (x, y) → ◌≡◌ {A = Node End × (Float × Float)} (nd, (x, y)) (node_and_dists p q (record { nd = nd; plane = h }))
 with_dists nd p q h x y e = ap (λ (z : Float × Float). (nd, z)) (sym e)

@@ -42,14 +42,14 @@ module _ (bs : List ℕ) (count i : ℕ) where
     pub picked_30 : count ≤ i → refused 30 ≡ all
     picked_30 h = sym (ap (λ (a : Answer Hyperplane). picked_by f b (side_from p a)) (outside_30 h))
 
-    module _ (known : ℕ) (is_Known : known ≡ min count (length bs / 20)) where
+    module _ (known : ℕ) (is_known : known ≡ min count (length bs / 20)) where
       pub picked_23 : known ≤ i → i < count → refused 23 ≡ all
-      picked_23 h g = sym (ap (λ (a : Answer Hyperplane). picked_by f b (side_from p a)) (unread_23 g (omega (arith, is_Known, h, g))))
+      picked_23 h g = sym (ap (λ (a : Answer Hyperplane). picked_by f b (side_from p a)) (unread_23 g (omega (arith, is_known, h, g))))
 
       pub picked : i < known → (x : Bool) → Pl.side_if x ≡ Pl.point_side (plane_here bs (i * 20)) p → (w : ℕ) → w ≡ cond x f b → answer w ≡ all
       picked h x e w is-w =
           ap answer (is-w ∙ go x ∙ ap (side_of f b) e)
-          ∙ sym (ap (λ (a : Answer Hyperplane). picked_by f b (side_from p a)) (there (omega (arith, is_Known, h)) (omega (arith, is_Known, h))))
+          ∙ sym (ap (λ (a : Answer Hyperplane). picked_by f b (side_from p a)) (there (omega (arith, is_known, h)) (omega (arith, is_known, h))))
         where
           go : (x : Bool) → cond x f b ≡ side_of f b (Pl.side_if x)
           go true = refl

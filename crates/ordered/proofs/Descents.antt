@@ -68,13 +68,13 @@ module _ (bs : List ℕ) (count : ℕ) (ws : List ℤ) where
     abbrev child : Traces.Met
     child = Traces.met_child (rows bs count ws) (child_on (row_of w) (Pl.side_if b))
 
-    module _ (word : ℕ) (is_IsWord : word ≡ word_on w b) where
+    module _ (word : ℕ) (is_word : word ≡ word_on w b) where
       pub meets_node : word < 2147483648 → child ≡ met_node word
-      meets_node h = ap (Traces.met_child (rows bs count ws)) (child_node w b word is_IsWord h)
+      meets_node h = ap (Traces.met_child (rows bs count ws)) (child_node w b word is_word h)
 
       pub meets_end : 2147483648 ≤ word → (c : BspLeafContents) → c ≡ coded_contents (contents_of (4294967296 - word)) → child ≡ met_contents c
       unfolding meet
-      meets_end h c is_c = ap (Traces.met_child (rows bs count ws)) (child_end w b word is_IsWord h c is_c)
+      meets_end h c is_c = ap (Traces.met_child (rows bs count ws)) (child_end w b word is_word h c is_c)
 
     module _ (m : Met) (is_m : met_child m ≡ child_on (row_of w) (Pl.side_if b)) where
       pub meets_place : (i : ℕ) → m ≡ M.Place i → child ≡ met_node i

@@ -128,14 +128,14 @@ module _ (s : List ℕ) (m : BspData) where
   records_served = record {
     plane = record_served _ _ s m;
     vertex = record_served _ _ s m;
-    render_node_lem = record_served _ _ s m;
-    texture_info_lem = record_served _ _ s m;
+    render_node = record_served _ _ s m;
+    texture_info = record_served _ _ s m;
     face = λ i h. face_served i (record_served _ _ s m i h);
-    clip_node_lem = record_served _ _ s m;
+    clip_node = record_served _ _ s m;
     leaf = record_served _ _ s m;
-    face_list_lem = record_served _ _ s m;
+    face_list = record_served _ _ s m;
     edge = record_served _ _ s m;
-    edge_list_lem = record_served _ _ s m;
+    edge_list = record_served _ _ s m;
     model = model_served;
     entities = text_served;
   }
@@ -279,7 +279,7 @@ module _ (s : List ℕ) (m : BspData) (A : Accepted s m) where
   queries_served : Queries (λ A a. Served a) s m
   queries_served = record {
     records = records_served s m;
-    hull_of_lem = hull_served;
+    hull_of = hull_served;
     hull_checks = hull_checked_lem;
     hull_walks = λ i j h e. let c = hull_checked_lem i j h e (clear h.table) (clear_fits h.table) in walks_served s m h (clear h.table) c.0 c.1;
     find_leaf = λ p. let c = passes_if (nodes_of s m Render) (clear Render) 0 (clear_fits Render) A.node_0 in leaf_served s m Render (clear Render) 0 c.0 c.1 refl p;
@@ -308,18 +308,18 @@ queries_to f s m q = record {
   records = record {
     plane = λ i h. f _ _ (q.records.plane i h);
     vertex = λ i h. f _ _ (q.records.vertex i h);
-    render_node_lem = λ i h. f _ _ (q.records.render_node_lem i h);
-    texture_info_lem = λ i h. f _ _ (q.records.texture_info_lem i h);
+    render_node = λ i h. f _ _ (q.records.render_node i h);
+    texture_info = λ i h. f _ _ (q.records.texture_info i h);
     face = λ i h. f _ _ (q.records.face i h);
-    clip_node_lem = λ i h. f _ _ (q.records.clip_node_lem i h);
+    clip_node = λ i h. f _ _ (q.records.clip_node i h);
     leaf = λ i h. f _ _ (q.records.leaf i h);
-    face_list_lem = λ i h. f _ _ (q.records.face_list_lem i h);
+    face_list = λ i h. f _ _ (q.records.face_list i h);
     edge = λ i h. f _ _ (q.records.edge i h);
-    edge_list_lem = λ i h. f _ _ (q.records.edge_list_lem i h);
+    edge_list = λ i h. f _ _ (q.records.edge_list i h);
     model = λ i h. f _ _ (q.records.model i h);
     entities = f _ _ q.records.entities;
   };
-  hull_of_lem = λ i j h k. f _ _ (q.hull_of_lem i j h k);
+  hull_of = λ i j h k. f _ _ (q.hull_of i j h k);
   hull_checks = q.hull_checks;
   hull_walks = λ i j h e. walks_to f s m h (q.hull_walks i j h e);
   find_leaf = λ p. f _ _ (q.find_leaf p);
@@ -351,14 +351,14 @@ module _ (s : List ℕ) (m : BspData) (loads : load_of s ≡ answer m) where
   records_answered = record {
     plane = Loads.planes s m loads;
     vertex = Loads.vertices s m loads;
-    render_node_lem = Loads.render_nodes_lem s m loads;
-    texture_info_lem = Loads.texture_infos s m loads;
+    render_node = Loads.render_nodes s m loads;
+    texture_info = Loads.texture_infos s m loads;
     face = Loads.faces_with_extents s m loads;
-    clip_node_lem = Loads.collision_nodes_lem s m loads;
+    clip_node = Loads.collision_nodes_lem s m loads;
     leaf = Loads.leaves s m loads;
-    face_list_lem = Loads.facelist s m loads;
+    face_list = Loads.facelist s m loads;
     edge = Loads.edges s m loads;
-    edge_list_lem = Loads.edgelist s m loads;
+    edge_list = Loads.edgelist s m loads;
     model = Loads.models s m loads;
     entities = (_, Loads.entity_text_lem s m loads);
   }
@@ -385,7 +385,7 @@ module _ (s : List ℕ) (m : BspData) (loads : load_of s ≡ answer m) where
   queries_answered : Accepted s m → Queries IsAnswered s m
   queries_answered A = record {
     records = records_answered;
-    hull_of_lem = hull_answered;
+    hull_of = hull_answered;
     hull_checks = hull_checked_lem s m A;
     hull_walks = λ i j h e. let c = hull_checked_lem s m A i j h e (clear s m A h.table) (clear_fits s m A h.table) in walks_answered h (clear s m A h.table) c.0 c.1;
     find_leaf = λ p.

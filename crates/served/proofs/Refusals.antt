@@ -178,7 +178,7 @@ module _ (s map : List ℕ) where
 pub every_refusal : EveryRefusal
 every_refusal s map = record {
   load = of_load s map;
-  tree_check_lem = of_tree_check_lem s map;
+  tree_check = of_tree_check_lem s map;
   contents = of_contents_lem s map;
   find_leaf = of_find_leaf_lem s map;
   trace = of_trace_lem s map;

@@ -32,7 +32,7 @@ of_tree_check = ListTooShort ∷ NoSuchRecord ∷ Unreadable ∷ IndexOutsideTab
 
 pub record Refusals (s map : List ℕ) : Type 0 where
   pub load : OfLoad (bsp_load s map).status
-  pub tree_check_lem : (table root : ℕ) (marks out : List ℕ) → ZeroOr of_tree_check (bsp_tree_check s map table root marks out).status
+  pub tree_check : (table root : ℕ) (marks out : List ℕ) → ZeroOr of_tree_check (bsp_tree_check s map table root marks out).status
   pub contents : (hull : List ℕ) (point : List Float) (out : List ℕ) → ZeroOr of_contents (bsp_contents s map hull point out).status
   pub find_leaf : (root : ℕ) (point : List Float) (out : List ℕ) → ZeroOr of_find_leaf (bsp_find_leaf s map root point out).status
   pub trace : (hull : List ℕ) (segment : List Float) (out : List ℕ) → ZeroOr of_trace (bsp_trace s map hull segment out).status

@@ -52,13 +52,13 @@ module _ {A : Type 0} (s m h k : List ℕ) (ask : Table End BspLeafContents → 
 same_from : (s m h k : List ℕ) → length h ≡ length k → get_or h 0 0 ≡ get_or k 0 0 → get_or h 1 0 ≡ get_or k 1 0 → get_or h 0 0 < 2 → SameFrom s m h k
 unfolding bsp_contents bsp_trace bsp_find_leaf
 same_from s m h k n t r l = record {
-  bsp_contents_lem = λ point out. rw (n, same_asked s m h k (λ T root. with_visits (point_walk T root (point_at point 0))) r t l);
-  bsp_trace_lem = λ segment out. rw (n, same_asked s m h k (λ T root. with_visits (Tracing.trace T root (point_at segment 0) (point_at segment 3))) r t l);
-  bsp_find_leaf_lem = λ point out. rw r;
+  contents = λ point out. rw (n, same_asked s m h k (λ T root. with_visits (point_walk T root (point_at point 0))) r t l);
+  trace = λ segment out. rw (n, same_asked s m h k (λ T root. with_visits (Tracing.trace T root (point_at segment 0) (point_at segment 3))) r t l);
+  find_leaf = λ point out. rw r;
 }
 
 same_list : (s m h k : List ℕ) → h ≡ k → SameFrom s m h k
-same_list s m h k e = record { bsp_contents_lem = λ point out. rw e; bsp_trace_lem = λ segment out. rw e; bsp_find_leaf_lem = λ point out. rw e }
+same_list s m h k e = record { contents = λ point out. rw e; trace = λ segment out. rw e; find_leaf = λ point out. rw e }
 
 -- ---- the words of a hull
 

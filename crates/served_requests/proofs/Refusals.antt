@@ -50,7 +50,7 @@ use Rattle.ffi_order.specs.Calls.{Ordering, ordering, ordered_in, bsp_order, bsp
 use Rattle.ffi_points.specs.Calls.{bsp_contents_points}
 use Rattle.ffi_made.specs.Calls.{bsp_made_up}
 use Rattle.ffi_place.specs.Calls.{place_words, bsp_load_place}
-use Rattle.place.specs.Place.{place_of as placeOfFile}
+use Rattle.place.specs.Place.{place_of as place_of_file}
 use Rattle.served.specs.Refusals.{ZeroOr, of_tree_check}
 use Rattle.served.proofs.Refusals.{of_check}
 use Rattle.served.proofs.Statuses.{of_given, at_least_lem, both, of_listed, OfWords, of_table, of_none, of_words}
@@ -225,7 +225,7 @@ module _ (s map : List ℕ) where
 
   of_load_place : (out : List ℕ) → ZeroOr (ListTooShort ∷ []) (bsp_load_place s out).status
   unfolding bsp_load_place
-  of_load_place out = at_least_lem (ZeroOr (ListTooShort ∷ [])) (inl refl) (inr (inl refl)) 4 out out (given (mapped place_words (answer (placeOfFile s))) out) (inl refl)
+  of_load_place out = at_least_lem (ZeroOr (ListTooShort ∷ [])) (inl refl) (inr (inl refl)) 4 out out (given (mapped place_words (answer (place_of_file s))) out) (inl refl)
 
 of_made_up : (seed nodes : ℕ) (buffer out : List ℕ) → ZeroOr (NodeCountOutside ∷ ListTooShort ∷ []) (bsp_made_up seed nodes buffer out).status
 unfolding bsp_made_up made_up
@@ -243,8 +243,8 @@ every_refusal s map = record {
   order_contents = of_order_contents_lem s map;
   order_trace = of_order_trace_lem s map;
   contents_points = of_points_lem s map;
-  hull_sized_lem = of_hull_sized_lem s map;
-  body_sizes_lem = of_body_sizes_lem s map;
+  hull_sized = of_hull_sized_lem s map;
+  body_sizes = of_body_sizes_lem s map;
   load_place = of_load_place s map;
   made_up = of_made_up;
 }

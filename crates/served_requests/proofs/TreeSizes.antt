@@ -65,9 +65,9 @@ module _ (h k : List ℕ) (e : take hull_asked h ≡ take hull_asked k) where
 pub calls_for_c : CallsForC
 unfolding bsp_contents bsp_trace bsp_contents_nodes bsp_trace_nodes bsp_hull_check
 calls_for_c s m h k e = record {
-  bsp_contents_lem = λ point out. rw (short h k e, from h k e);
-  bsp_trace_lem = λ segment out. rw (short h k e, from h k e);
-  bsp_contents_nodes_lem = λ point list out. rw (short h k e, from h k e);
-  bsp_trace_nodes_lem = λ segment list out. rw (short h k e, from h k e);
-  bsp_hull_check_lem = λ marks out. rw (short h k e, from h k e);
+  contents = λ point out. rw (short h k e, from h k e);
+  trace = λ segment out. rw (short h k e, from h k e);
+  contents_nodes = λ point list out. rw (short h k e, from h k e);
+  trace_nodes = λ segment list out. rw (short h k e, from h k e);
+  hull_check = λ marks out. rw (short h k e, from h k e);
 }

@@ -11,9 +11,9 @@ use Rattle.ffi_sizes.specs.Calls.{bsp_hull_sized}
 
 -- the file s, the map record's words m, the hulls' words h and k
 pub record SameFrom (s m h k : List ℕ) : Type 0 where
-  pub bsp_contents_lem : (point : List Float) (out : List ℕ) → bsp_contents s m h point out ≡ bsp_contents s m k point out
-  pub bsp_trace_lem : (segment : List Float) (out : List ℕ) → bsp_trace s m h segment out ≡ bsp_trace s m k segment out
-  pub bsp_find_leaf_lem : (point : List Float) (out : List ℕ) → bsp_find_leaf s m (get_or h 1 0) point out ≡ bsp_find_leaf s m (get_or k 1 0) point out
+  pub contents : (point : List Float) (out : List ℕ) → bsp_contents s m h point out ≡ bsp_contents s m k point out
+  pub trace : (segment : List Float) (out : List ℕ) → bsp_trace s m h segment out ≡ bsp_trace s m k segment out
+  pub find_leaf : (point : List Float) (out : List ℕ) → bsp_find_leaf s m (get_or h 1 0) point out ≡ bsp_find_leaf s m (get_or k 1 0) point out
 
 -- the same number, and the same words before the bounds and behind them
 pub record SameButBounds (a b : Written) : Type 0 where

@@ -38,8 +38,8 @@ pub record Refusals (s map : List ℕ) : Type 0 where
   pub order_contents : (list : List ℤ) (root : ℕ) (point : List Float) (out : List ℕ) → ZeroOr of_order_contents (bsp_order_contents s map list root point out).status
   pub order_trace : (list : List ℤ) (root : ℕ) (segment : List Float) (out : List ℕ) → ZeroOr of_order_trace (bsp_order_trace s map list root segment out).status
   pub contents_points : (hull : List ℕ) (points : List Float) (list out : List ℕ) → ZeroOr of_points (bsp_contents_points s map hull points list out).status
-  pub hull_sized_lem : (sizes : List ℕ) (model i : ℕ) (out : List ℕ) → ZeroOr of_hull_sized (bsp_hull_sized s map sizes model i out).status
-  pub body_sizes_lem : (out : List ℕ) → ZeroOr of_body_sizes (bsp_body_sizes s out).status
+  pub hull_sized : (sizes : List ℕ) (model i : ℕ) (out : List ℕ) → ZeroOr of_hull_sized (bsp_hull_sized s map sizes model i out).status
+  pub body_sizes : (out : List ℕ) → ZeroOr of_body_sizes (bsp_body_sizes s out).status
   pub load_place : (out : List ℕ) → ZeroOr (ListTooShort ∷ []) (bsp_load_place s out).status
   pub made_up : (seed nodes : ℕ) (buffer out : List ℕ) → ZeroOr (NodeCountOutside ∷ ListTooShort ∷ []) (bsp_made_up seed nodes buffer out).status
 

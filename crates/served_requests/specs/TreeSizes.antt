@@ -32,11 +32,11 @@ CoreCalls = (s : List ℕ) (m : BspData) (a b : BspCollisionHull) → SameOld a 
 
 -- the calls for C: the file s, the map record's words m, the hulls' words h and k
 pub record SameFromC (s m h k : List ℕ) : Type 0 where
-  pub bsp_contents_lem : (point : List Float) (out : List ℕ) → bsp_contents s m h point out ≡ bsp_contents s m k point out
-  pub bsp_trace_lem : (segment : List Float) (out : List ℕ) → bsp_trace s m h segment out ≡ bsp_trace s m k segment out
-  pub bsp_contents_nodes_lem : (point : List Float) (list out : List ℕ) → bsp_contents_nodes s m h point list out ≡ bsp_contents_nodes s m k point list out
-  pub bsp_trace_nodes_lem : (segment : List Float) (list out : List ℕ) → bsp_trace_nodes s m h segment list out ≡ bsp_trace_nodes s m k segment list out
-  pub bsp_hull_check_lem : (marks out : List ℕ) → bsp_hull_check s m h marks out ≡ bsp_hull_check s m k marks out
+  pub contents : (point : List Float) (out : List ℕ) → bsp_contents s m h point out ≡ bsp_contents s m k point out
+  pub trace : (segment : List Float) (out : List ℕ) → bsp_trace s m h segment out ≡ bsp_trace s m k segment out
+  pub contents_nodes : (point : List Float) (list out : List ℕ) → bsp_contents_nodes s m h point list out ≡ bsp_contents_nodes s m k point list out
+  pub trace_nodes : (segment : List Float) (list out : List ℕ) → bsp_trace_nodes s m h segment list out ≡ bsp_trace_nodes s m k segment list out
+  pub hull_check : (marks out : List ℕ) → bsp_hull_check s m h marks out ≡ bsp_hull_check s m k marks out
 
 abbrev pub CallsForC : Type 0
 CallsForC = (s m h k : List ℕ) → take hull_asked h ≡ take hull_asked k → SameFromC s m h k

@@ -95,7 +95,7 @@ module _ {E : Type 0} (N : Nodes E) where
       record {
         h = max F.h B.h + 1;
         m' = B.m';
-        is = rw (s.read_as, lt-ltb nd.plane N.planes s.plane_in_lem, F.is, B.is);
+        is = rw (s.read_as, lt-ltb nd.plane N.planes s.plane_in, F.is, B.is);
         fit = B.fit;
         only = λ n t. only_b n (B.only n t);
       }

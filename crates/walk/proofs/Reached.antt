@@ -141,7 +141,7 @@ module _ {E : Type 0} (N : Nodes E) where
     in_range = d.0;
     record_of = record_of a f b;
     read_as = d.1;
-    plane_in_lem = d.2;
+    plane_in = d.2;
     ends_in = λ sd e q. tip_in (part sd f b) (part_drawn N sd f b d.3 d.4) e (sym (on_part sd a f b) ∙ q);
   })
 

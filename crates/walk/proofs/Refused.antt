@@ -176,7 +176,7 @@ module _ {E : Type 0} (N : Nodes E) (root : ℕ) where
   tree_has_none t r (unreadable n i k) = answer_refused (t.valid n i).record_of r (sym (t.valid n i).read_as ∙ k)
   tree_has_none t r (plane_outside n nd e i k l) =
       let q : (t.valid n i).record_of ≡ nd = answered_same _ _ (sym (t.valid n i).read_as ∙ k) in
-      let h : nd.plane < N.planes = subst (λ (x : Node E). x.plane < N.planes) q (t.valid n i).plane_in_lem in
+      let h : nd.plane < N.planes = subst (λ (x : Node E). x.plane < N.planes) q (t.valid n i).plane_in in
       omega arith
   tree_has_none t r (end_outside n nd sd x e i k c l) =
       let q : (t.valid n i).record_of ≡ nd = answered_same _ _ (sym (t.valid n i).read_as ∙ k) in

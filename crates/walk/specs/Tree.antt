@@ -35,7 +35,7 @@ module _ {E : Type 0} (N : Nodes E) where
     pub in_range : n < N.count
     pub record_of : Node E
     pub read_as : N.node_at n ≡ answer record_of
-    pub plane_in_lem : record_of.plane < N.planes
+    pub plane_in : record_of.plane < N.planes
     pub ends_in : (side : HyperplaneSide) (e : E) → child_on record_of side ≡ end e → N.leaf_in e ≡ true
 
   -- none of the check's refusals occurs in the root's tree: each node is valid (30, 23), none is reached by two ways (34), none is deeper than 512, the root's depth being 1 (32)

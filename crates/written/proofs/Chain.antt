@@ -112,7 +112,7 @@ module _ {E : Type 0} (plane : ℕ → ℕ) (front : ℕ → E) (stop : E) (N : 
     in_chain m (below {m = k} side t c) = (child_is k m side (in_chain k t) c).2
 
     valid : (m : ℕ) → m < n → Valid N m
-    valid m h = record { in_range = omega arith; record_of = record_at m; read_as = reads m h; plane_in_lem = planes m h; ends_in = λ side e q. ends_in m side e h q }
+    valid m h = record { in_range = omega arith; record_of = record_at m; read_as = reads m h; plane_in = planes m h; ends_in = λ side e q. ends_in m side e h q }
 
     one_way : (m : ℕ) (p q : List HyperplaneSide) → Reach N 0 p m → Reach N 0 q m → p ≡ q
     one_way m p q r w =
