@@ -1,4 +1,5 @@
 -- The row of a leaf: one law for each way through `check_row`. What a leaf's record is refused with is not 33. Assumes nothing.
+use Rattle.std.specs.Prelude.{Some, None}
 use Prim.Native.Nat.{ℕ, ◌+◌, ◌*◌, ◌<◌}
 use mathlib.Core.Path.{◌≡◌, refl, sym, ap, ◌∙◌}
 use mathlib.Core.Bool.{Bool, true, false, cond}
@@ -15,7 +16,6 @@ use Rattle.format.specs.declared.section.BspFileSectionId.TheVariants.{Leaves}
 use Rattle.records.specs.Access.{reading, read_at, record_of}
 use Rattle.records.specs.Leaf.{leaf_at, leaf_of}
 use Rattle.records.specs.declared.leaf.BspLeaf.{BspLeaf}
-use Rattle.records.specs.declared.number.OptionalOffset.TheVariants.{None, Some}
 use Rattle.vis.specs.Pvs.{section_row, pvs_of}
 use Rattle.vis.proofs.Sections.{no_leaf, no_offset, at_offset}
 use Rattle.accept.specs.Accept.{Check, passes, whole_row, row_check}

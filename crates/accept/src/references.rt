@@ -8,11 +8,11 @@ ghost use Rattle.accept.specs.Answers.{acceptance_answer};
 use crate::Acceptance;
 use crate::check::{inside, within};
 use crate::row::check_rows;
-use faces::face::{BspFace, FaceAnswer, file_face};
+use faces::face::{BspFace, file_face};
 use format::section::{BspData, BspFileSectionId};
-use models::model::{FileModelAnswer, file_model};
-use records::edge::{BspEdge, EdgeAnswer, EdgeIndexAnswer, edge, edgelist};
-use records::leaf::{LeafAnswer, leaf};
+use models::model::file_model;
+use records::edge::{BspEdge, edge, edgelist};
+use records::leaf::leaf;
 
 // An edge's two vertices.
 fn check_vertices(map: BspData, edge: BspEdge) -> Acceptance
@@ -35,8 +35,8 @@ fn check_edge_named(file: &[u8], map: BspData, index: usize) -> Acceptance
         return r;
     };
     match edge(file, map, index) {
-        EdgeAnswer::Refused(e) => Acceptance::Refused(e),
-        EdgeAnswer::Value(e) => check_vertices(map, e),
+        Err(e) => Acceptance::Refused(e),
+        Ok(e) => check_vertices(map, e),
     }
 }
 
@@ -45,8 +45,8 @@ fn check_edge(file: &[u8], map: BspData, index: usize) -> Acceptance
     ensures { acceptance_answer result ≡ Acc.edge_check file.now map index }
 {
     match edgelist(file, map, index) {
-        EdgeIndexAnswer::Refused(e) => Acceptance::Refused(e),
-        EdgeIndexAnswer::Value(entry) => check_edge_named(file, map, entry.index),
+        Err(e) => Acceptance::Refused(e),
+        Ok(entry) => check_edge_named(file, map, entry.index),
     }
 }
 
@@ -97,8 +97,8 @@ fn check_face(file: &[u8], map: BspData, index: usize) -> Acceptance
     ensures { acceptance_answer result ≡ Acc.face_check file.now map index }
 {
     match file_face(file, map, index) {
-        FaceAnswer::Refused(e) => Acceptance::Refused(e),
-        FaceAnswer::Value(face) => check_face_references(file, map, face),
+        Err(e) => Acceptance::Refused(e),
+        Ok(face) => check_face_references(file, map, face),
     }
 }
 
@@ -122,8 +122,8 @@ fn check_leaf(file: &[u8], map: BspData, index: usize) -> Acceptance
     ensures { acceptance_answer result ≡ Acc.leaf_faces file.now map index }
 {
     match leaf(file, map, index) {
-        LeafAnswer::Refused(e) => Acceptance::Refused(e),
-        LeafAnswer::Value(l) => within(
+        Err(e) => Acceptance::Refused(e),
+        Ok(l) => within(
             l.facelist_id,
             l.facelist_count,
             map.facelist.record_count(BspFileSectionId::FaceList),
@@ -151,8 +151,8 @@ fn check_model_faces(file: &[u8], map: BspData, index: usize) -> Acceptance
     ensures { acceptance_answer result ≡ Acc.model_faces file.now map index }
 {
     match file_model(file, map, index) {
-        FileModelAnswer::Refused(e) => Acceptance::Refused(e),
-        FileModelAnswer::Value(f) => within(
+        Err(e) => Acceptance::Refused(e),
+        Ok(f) => within(
             f.face_id,
             f.face_count,
             map.faces.record_count(BspFileSectionId::Faces),
@@ -185,8 +185,8 @@ fn check_models_leaves(file: &[u8], map: BspData) -> Acceptance
     let mut i = 0;
     while i < count {
         let own = match file_model(file, map, i) {
-            FileModelAnswer::Refused(e) => return Acceptance::Refused(e),
-            FileModelAnswer::Value(f) => f,
+            Err(e) => return Acceptance::Refused(e),
+            Ok(f) => f,
         };
         let last = first + (own.leaf_count as usize);
         let r = inside(last, leaves);

@@ -13,8 +13,7 @@ ghost use Rattle.accept.specs.Fast as Fast;
 use crate::Acceptance;
 use format::refusal::Refusal;
 use format::section::{BspData, BspFileSection, BspFileSectionId};
-use records::leaf::{LeafAnswer, leaf};
-use records::number::OptionalOffset;
+use records::leaf::leaf;
 
 // The groups from a position to the end, by its byte, the next one and the groups from the next two positions on. At the last position a
 // zero byte has no count: the next byte is 0 here, and so are the groups.
@@ -159,18 +158,12 @@ fn check_row(file: &[u8], map: BspData, notes: &[u32; 32768], index: usize) -> A
 {
     let count = map.leaves.record_count(BspFileSectionId::Leaves);
     match leaf(file, map, index) {
-        LeafAnswer::Refused(e) => Acceptance::Refused(e),
-        LeafAnswer::Value(record) => {
+        Err(e) => Acceptance::Refused(e),
+        Ok(record) => {
             let vis_offset = record.vis_offset;
             match vis_offset {
-                OptionalOffset::None => Acceptance::Passed,
-                OptionalOffset::Some(offset) => check_section_row(
-                    file,
-                    map.visibility,
-                    notes,
-                    offset,
-                    count,
-                ),
+                None => Acceptance::Passed,
+                Some(offset) => check_section_row(file, map.visibility, notes, offset, count),
             }
         }
     }

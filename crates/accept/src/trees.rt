@@ -9,7 +9,7 @@ ghost use Rattle.accept.specs.Fast as Fast;
 
 use crate::Acceptance;
 use format::section::{BspData, BspFileSectionId};
-use models::model::{FileModelAnswer, PerHull, file_model};
+use models::model::{PerHull, file_model};
 use nodes::table::HullTable;
 use tree::{TreeChecked, tree_check};
 
@@ -92,8 +92,8 @@ fn check_model_trees(
     ensures { (acceptance_answer result ≡ Acc.model_trees file.now map model) × Fast.BothRemembered file.now map render.new clip.new }
 {
     match file_model(file, map, model) {
-        FileModelAnswer::Refused(e) => Acceptance::Refused(e),
-        FileModelAnswer::Value(own) => {
+        Err(e) => Acceptance::Refused(e),
+        Ok(own) => {
             let roots = own.collision_node_ids;
             check_roots(file, map, roots, marks, render, clip)
         }

@@ -17,7 +17,6 @@ use hull::collision::BspCollisionHull;
 use math::{BoxSide, Vector3, is_box};
 use nodes::read::{EndContents, ReadWords, end_contents, is_front, plane_at, read_words};
 use nodes::table::{Tables, tables_of};
-use records::plane::PlaneAnswer;
 use tree::{TreeChecked, tree_check};
 
 // A set of contents: bit n stands for the code n.
@@ -66,8 +65,8 @@ fn box_node(s: &[u8], t: Tables, lo: Vector3, hi: Vector3, node: usize, levels: 
         ReadWords::Refused(e) => return BoxContents::Refused(e),
     };
     let plane = match plane_at(s, t, words.plane as usize) {
-        PlaneAnswer::Value(h) => h,
-        PlaneAnswer::Refused(e) => return BoxContents::Refused(e),
+        Ok(h) => h,
+        Err(e) => return BoxContents::Refused(e),
     };
     match plane.box_side(lo, hi) {
         BoxSide::One(side) => { box_child(s, t, lo, hi, words.on(is_front(side)), levels - 1) }

@@ -1,6 +1,8 @@
 -- The child on a side, and the two parts of a segment that crosses a plane.
 -- Assumes nothing.
+use Rattle.std.specs.Prelude.{Result, Ok, Err}
 use Prim.Native.Nat.{ℕ, ◌<◌, ◌≤◌}
+use Rattle.format.specs.Answers.{answer_of}
 use mathlib.Core.Path.{◌≡◌, refl, sym, ap, ap₂, ◌∙◌}
 use mathlib.Core.Bool.{Bool, true, false, cond}
 use mathlib.Core.List.{List}
@@ -22,9 +24,6 @@ use Rattle.phys.specs.declared.TraceEnd.{TraceEnd}
 use Rattle.walk.specs.Table.{Child, node, end, Node, Table, child_on}
 use Rattle.walk.specs.Walk.{Outcome, done, refused, onto}
 use Rattle.walk.specs.Tracing.{with_far, stops, near_of, far_of, after_near, with_near, recursive_trace}
-use Rattle.records.specs.Answers.{plane_answer}
-use Rattle.records.specs.declared.plane.PlaneAnswer.{PlaneAnswer}
-use Rattle.records.specs.declared.plane.PlaneAnswer.TheVariants as P
 use Rattle.nodes.specs.Tables.{End}
 use Rattle.nodes.specs.Fast.{node_of, word_on, end_of, plane_in}
 use Rattle.nodes.specs.Fast as Fast
@@ -58,17 +57,17 @@ module _ (tab : HullTable) (w : WordsT) where
 
 -- ---- a crossing whose ends are at the distances a and b
 
-module _ (f : List ℕ) (t : Tables) (s e : Vector3) (w : WordsT) (a b₀ : Float) (p : PlaneAnswer) (is-p : plane_answer p ≡ plane_in f t w.plane) where
+module _ (f : List ℕ) (t : Tables) (s e : Vector3) (w : WordsT) (a b₀ : Float) (p : Result Hyperplane Refusal) (is-p : answer_of p ≡ plane_in f t w.plane) where
   abbrev T : Table End BspLeafContents
   T = Fast.table f t
 
   abbrev nd : Node End
   nd = node_of t.table w
 
-  pub no_plane : (x : Refusal) → p ≡ P.Refused x → Crosses f t w a b₀ s e (C.Refused x)
-  no_plane x q k = ap (crossed_at T k nd s e a b₀) (sym (ap plane_answer q) ∙ is-p)
+  pub no_plane : (x : Refusal) → p ≡ Err x → Crosses f t w a b₀ s e (C.Refused x)
+  no_plane x q k = ap (crossed_at T k nd s e a b₀) (sym (ap answer_of q) ∙ is-p)
 
-  module _ (h : Hyperplane) (q : p ≡ P.Value h) where
+  module _ (h : Hyperplane) (q : p ≡ Ok h) where
     abbrev x : Crossing
     x = Pl.crossing h s e a b₀ (Pl.from_dist a)
 
@@ -93,7 +92,7 @@ module _ (f : List ℕ) (t : Tables) (s e : Vector3) (w : WordsT) (a b₀ : Floa
       crossed : (c c' : Child End) → c ≡ child_on nd (Pl.point_side h s) → c' ≡ child_on nd (Pl.point_side h e) → parts c c' ≡ crossed_at T k nd s e a b₀ (plane_in f t w.plane)
       crossed c c' is_c is-c' =
           ap₂ (λ (y y' : Child End). parts y y') is_c is-c'
-          ∙ both_are (near_of T go nd h s e x) ∙ ap (crossed_at T k nd s e a b₀) (sym (ap plane_answer q) ∙ is-p)
+          ∙ both_are (near_of T go nd h s e x) ∙ ap (crossed_at T k nd s e a b₀) (sym (ap answer_of q) ∙ is-p)
 
     pub crosses : (mid : Vector3) → mid ≡ x.point
         → (side : HyperplaneSide) → side ≡ Pl.point_side h s → (side' : HyperplaneSide) → side' ≡ Pl.point_side h e

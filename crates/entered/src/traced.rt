@@ -26,7 +26,6 @@ use nodes::read::{
 use nodes::segment::SegmentAt;
 use nodes::table::{Tables, tables_of};
 use phys::{Trace, TraceEnd, TraceStart};
-use records::plane::PlaneAnswer;
 
 // A child that a trace goes on to: a node, or the end that a word stands for.
 #[derive(Clone, Copy)]
@@ -91,8 +90,8 @@ fn parts_of(s: &[u8], t: Tables, w: Words, a: f32, b: f32, way: Way) -> Crossed
     ensures { Going.Crosses s.now t w a b way.from.point way.to.point result }
 {
     match plane_at(s, t, w.plane as usize) {
-        PlaneAnswer::Refused(e) => Crossed::Refused(e),
-        PlaneAnswer::Value(plane) => {
+        Err(e) => Crossed::Refused(e),
+        Ok(plane) => {
             let start = way.from.point;
             let end = way.to.point;
             let ratio = a / (a - b);

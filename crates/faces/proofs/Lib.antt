@@ -1,5 +1,4 @@
 -- Laws about the definitions of `faces`, and what its proofs share.
-pub mod Chain
 pub mod Spans
 pub mod FaceLayout
 pub mod FaceLaws

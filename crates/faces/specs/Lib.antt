@@ -1,4 +1,3 @@
 -- What the contracts of `faces` cite.
 pub mod Face
 pub mod Extents
-pub mod Answers

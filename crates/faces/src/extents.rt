@@ -1,17 +1,16 @@
 // The texture mins and extents of a face, as loading works them out (the Rust's text after 'see Calc_SurfaceExtents').
-ghost use Rattle.std.specs.Prelude.{◌≡◌, ◌+◌, ◌<◌, ◌^◌};
-ghost use Rattle.records.specs.Answers.{vertex_answer};
+ghost use Rattle.std.specs.Prelude.{◌≡◌, ◌-◌};
+ghost use Rattle.format.specs.Answers.{answer_of};
 ghost use Rattle.faces.specs.Extents.{vertex_on, corner_of, unbounded, widened, span_over, texture_min, extent, surface_in, span_of, surface_of, with_surface, face_of};
-ghost use Rattle.faces.specs.Answers.{span_answer, surface_answer, face_answer};
 
-use crate::face::{BspFace, FaceAnswer, TexturePair, file_face};
-use float::num::{ceil, floor, from_bits, max, min, to_i16, wrapping_times_16};
-use format::refusal::Refusal;
+use crate::face::{BspFace, TexturePair, file_face};
+use float::num::{ceil, floor, max, min, to_i16};
+use format::refusal::{Answer, Refusal};
 use format::section::{BspData, BspFileSectionId};
 use math::Vector3;
-use records::edge::{BspEdge, BspEdgeDirection, EdgeAnswer, EdgeIndexAnswer, edge, edgelist};
-use records::plane::{VertexAnswer, vertex};
-use records::texinfo::{BspTexInfo, TexInfoAnswer, texinfo};
+use records::edge::{BspEdge, BspEdgeDirection, edge, edgelist};
+use records::plane::vertex;
+use records::texinfo::{BspTexInfo, texinfo};
 
 // The vertex of an edge on the side from which it is walked, `vertex_ids[direction as usize]`.
 fn vertex_on(direction: BspEdgeDirection, edge: BspEdge) -> usize
@@ -24,22 +23,13 @@ fn vertex_on(direction: BspEdgeDirection, edge: BspEdge) -> usize
 }
 
 // The vertex of an entry of the list of edges.
-fn corner(s: &[u8], map: BspData, index: usize) -> VertexAnswer
-    ensures { vertex_answer result ≡ corner_of s.now map index }
+#[tactic(auto, unfolding(crate::specs::Extents::corner_of))]
+fn corner(s: &[u8], map: BspData, index: usize) -> Answer<Vector3>
+    ensures { answer_of result ≡ corner_of s.now map index }
 {
-    match edgelist(s, map, index) {
-        EdgeIndexAnswer::Refused(_) => VertexAnswer::Refused(Refusal::Unreadable),
-        EdgeIndexAnswer::Value(entry) => match edge(s, map, entry.index) {
-            EdgeAnswer::Refused(_) => VertexAnswer::Refused(Refusal::Unreadable),
-            EdgeAnswer::Value(e) => {
-                let direction = entry.direction;
-                match vertex(s, map, vertex_on(direction, e)) {
-                    VertexAnswer::Refused(_) => VertexAnswer::Refused(Refusal::Unreadable),
-                    VertexAnswer::Value(v) => VertexAnswer::Value(v),
-                }
-            }
-        },
-    }
+    let entry = edgelist(s, map, index).map_err(|_| Refusal::Unreadable)?;
+    let edge = edge(s, map, entry.index).map_err(|_| Refusal::Unreadable)?;
+    vertex(s, map, vertex_on(entry.direction, edge)).map_err(|_| Refusal::Unreadable)
 }
 
 // The least and the greatest s and t so far.
@@ -52,18 +42,20 @@ pub struct Span {
 }
 
 // Before the first vertex.
+#[tactic(auto, unfolding(crate::specs::Extents::unbounded))]
 fn unbounded_span() -> Span
     ensures { result ≡ unbounded }
 {
     Span {
-        s_min: from_bits(0x7f80_0000),
-        s_max: from_bits(0xff80_0000),
-        t_min: from_bits(0x7f80_0000),
-        t_max: from_bits(0xff80_0000),
+        s_min: f32::INFINITY,
+        s_max: f32::NEG_INFINITY,
+        t_min: f32::INFINITY,
+        t_max: f32::NEG_INFINITY,
     }
 }
 
 // With one vertex more.
+#[tactic(auto, unfolding(crate::specs::Extents::widened))]
 fn widened_span(info: BspTexInfo, vertex: Vector3, w: Span) -> Span
     ensures { result ≡ widened info vertex w }
 {
@@ -77,61 +69,51 @@ fn widened_span(info: BspTexInfo, vertex: Vector3, w: Span) -> Span
     }
 }
 
-#[derive(Clone, Copy)]
-pub enum SpanAnswer {
-    Value(Span),
-    Refused(Refusal),
-}
-
-// Over the vertices of `count` entries of the list of edges, from `first` on.
-fn span_over(s: &[u8], map: BspData, info: BspTexInfo, first: usize, count: usize) -> SpanAnswer
-    requires { first + count < 2 ^ 63 }
-    ensures { span_answer result ≡ span_over s.now map info count first unbounded }
+// Over the vertices of the entries of the list of edges from `first` up to `end`.
+#[tactic(auto, using(crate::proofs::Spans::done, crate::proofs::Spans::more))]
+fn span_over(s: &[u8], map: BspData, info: BspTexInfo, first: usize, end: usize) -> Answer<Span>
+    ensures { answer_of result ≡ span_over s.now map info (end - first) first unbounded }
 {
     let mut w = unbounded_span();
-    let mut i = first;
-    let mut left = count;
-    while 0 < left {
-        match corner(s, map, i) {
-            VertexAnswer::Refused(e) => {
-                return SpanAnswer::Refused(e);
-            }
-            VertexAnswer::Value(v) => {
-                w = widened_span(info, v, w);
-            }
-        }
-        i = i + 1;
-        left = left - 1;
+    for i in first..end {
+        let v = corner(s, map, i)?;
+        w = widened_span(info, v, w);
     }
-    SpanAnswer::Value(w)
+    Ok(w)
 }
 
-// The same, where the whole range lies in the list of edges.
-fn span_in_list(s: &[u8], map: BspData, info: BspTexInfo, first: usize, count: usize) -> SpanAnswer
-    ensures { span_answer result ≡ span_of s.now map info first count }
+// Over the vertices of `count` entries from `first` on, which must all lie in the list of edges.
+#[tactic(auto, unfolding(crate::specs::Extents::span_of))]
+fn span_in_list(
+    s: &[u8],
+    map: BspData,
+    info: BspTexInfo,
+    first: usize,
+    count: usize,
+) -> Answer<Span>
+    ensures { answer_of result ≡ span_of s.now map info first count }
 {
     let total = map.edgelist.record_count(BspFileSectionId::EdgeList) as usize;
-    if total < count {
-        return SpanAnswer::Refused(Refusal::Unreadable);
+    match first.checked_add(count) {
+        Some(end) if end <= total => span_over(s, map, info, first, end),
+        _ => Err(Refusal::Unreadable),
     }
-    if total - count < first {
-        return SpanAnswer::Refused(Refusal::Unreadable);
-    }
-    span_over(s, map, info, first, count)
 }
 
 // A texture min of the least value: divided by 16, floored, cast, times 16 in 16 bits.
+#[tactic(auto, unfolding(crate::specs::Extents::texture_min, float::specs::Whole::times16))]
 fn texture_min(low: f32) -> i16
     ensures { result ≡ texture_min low }
 {
-    wrapping_times_16(to_i16(floor(low / 16.0)))
+    to_i16(floor(low / 16.0)).wrapping_mul(16)
 }
 
 // An extent of the least and the greatest value: the difference is cast.
+#[tactic(auto, unfolding(crate::specs::Extents::extent, float::specs::Whole::times16))]
 fn extent_of(low: f32, high: f32) -> i16
     ensures { result ≡ extent low high }
 {
-    wrapping_times_16(to_i16(ceil(high / 16.0) - floor(low / 16.0)))
+    to_i16(ceil(high / 16.0) - floor(low / 16.0)).wrapping_mul(16)
 }
 
 // What loading works out for a face, and whether its texture info is marked special, so that its extents may be above 2,000.
@@ -142,6 +124,7 @@ pub struct Surface {
     pub special: bool,
 }
 
+#[tactic(auto, unfolding(crate::specs::Extents::surface_in))]
 fn surface_in(w: Span, special: bool) -> Surface
     ensures { result ≡ surface_in w special }
 {
@@ -158,62 +141,33 @@ fn surface_in(w: Span, special: bool) -> Surface
     }
 }
 
-#[derive(Clone, Copy)]
-pub enum SurfaceAnswer {
-    Value(Surface),
-    Refused(Refusal),
-}
-
 // The texture mins and extents of a face. 23 where its texture info, its edges or their vertices are not there; loading makes that 11.
-pub fn surface_of(s: &[u8], map: BspData, face: BspFace) -> SurfaceAnswer
-    ensures { surface_answer result ≡ surface_of s.now map face }
+#[tactic(auto, unfolding(crate::specs::Extents::surface_of))]
+pub fn surface_of(s: &[u8], map: BspData, face: BspFace) -> Answer<Surface>
+    ensures { answer_of result ≡ surface_of s.now map face }
 {
-    match texinfo(s, map, face.texinfo_id) {
-        TexInfoAnswer::Refused(_) => SurfaceAnswer::Refused(Refusal::Unreadable),
-        TexInfoAnswer::Value(info) => match span_in_list(
-            s,
-            map,
-            info,
-            face.edge_id,
-            face.edge_count,
-        ) {
-            SpanAnswer::Refused(e) => SurfaceAnswer::Refused(e),
-            SpanAnswer::Value(w) => SurfaceAnswer::Value(surface_in(w, info.special)),
-        },
-    }
+    let info = texinfo(s, map, face.texinfo_id).map_err(|_| Refusal::Unreadable)?;
+    let w = span_in_list(s, map, info, face.edge_id, face.edge_count)?;
+    Ok(surface_in(w, info.special))
 }
 
 // The face with its texture mins and extents.
 fn with_surface(face: BspFace, of: Surface) -> BspFace
     ensures { result ≡ with_surface face of }
 {
-    let side = face.side;
-    let light_styles = face.light_styles;
-    let lightmap_id = face.lightmap_id;
-    let texture_mins = of.texture_mins;
-    let extents = of.extents;
     BspFace {
-        plane_id: face.plane_id,
-        side,
-        edge_id: face.edge_id,
-        edge_count: face.edge_count,
-        texinfo_id: face.texinfo_id,
-        light_styles,
-        lightmap_id,
-        texture_mins,
-        extents,
+        texture_mins: of.texture_mins,
+        extents: of.extents,
+        ..face
     }
 }
 
 // The face of an index, with its texture mins and extents. An extent above 2,000 is not tested.
-pub fn face(s: &[u8], map: BspData, index: usize) -> FaceAnswer
-    ensures { face_answer result ≡ face_of s.now map index }
+#[tactic(auto, unfolding(crate::specs::Extents::face_of))]
+pub fn face(s: &[u8], map: BspData, index: usize) -> Answer<BspFace>
+    ensures { answer_of result ≡ face_of s.now map index }
 {
-    match file_face(s, map, index) {
-        FaceAnswer::Refused(e) => FaceAnswer::Refused(e),
-        FaceAnswer::Value(face) => match surface_of(s, map, face) {
-            SurfaceAnswer::Refused(e) => FaceAnswer::Refused(e),
-            SurfaceAnswer::Value(of) => FaceAnswer::Value(with_surface(face, of)),
-        },
-    }
+    let face = file_face(s, map, index)?;
+    let of = surface_of(s, map, face)?;
+    Ok(with_surface(face, of))
 }

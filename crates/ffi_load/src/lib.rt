@@ -5,7 +5,6 @@ ghost use Rattle.std.specs.Prelude.{◌≡◌};
 ghost use Rattle.words.specs.Words.{written};
 ghost use Rattle.ffi_load.specs.Calls as Calls;
 
-use load::Loaded;
 use words::LIST_TOO_SHORT;
 
 // The 31 words of a file's map record. 22: a list of fewer than 31 words.
@@ -16,7 +15,7 @@ pub fn load(file: &[u8], map: &mut [u32]) -> u32
         return LIST_TOO_SHORT;
     }
     match load::load(file) {
-        Loaded::Refused(e) => e.number(),
-        Loaded::Map(data) => words::give_u32(&words::map_words(data), map),
+        Err(e) => e.number(),
+        Ok(data) => words::give_u32(&words::map_words(data), map),
     }
 }

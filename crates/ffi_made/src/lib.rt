@@ -1,27 +1,14 @@
 // Made-up maps as words in lists that a caller lends.
 #![tactic(auto)]
 
-ghost use Rattle.std.specs.Prelude.{◌≡◌, ◌≤◌, length};
-ghost use Rattle.format.specs.Answer.{mapped};
-ghost use Rattle.words.specs.Words.{written, left, given, number_words};
-ghost use Rattle.made.specs.Answers.{length_of};
+ghost use Rattle.std.specs.Prelude.{◌≡◌};
+ghost use Rattle.words.specs.Words.{left};
 ghost use Rattle.ffi_made.specs.Calls as Calls;
 
-use made::MadeUp;
-use words::{LIST_TOO_SHORT, give};
+use words::{LIST_TOO_SHORT, give_number};
 
 // The node count is outside 1 to 500.
 pub const NODE_COUNT_OUTSIDE: u32 = 29;
-
-fn give_length(made: MadeUp, out: &mut [u64]) -> u32
-    requires { 1 ≤ length out.old }
-    ensures { written result out.new ≡ given (mapped number_words (length_of made)) out.old }
-{
-    match made {
-        MadeUp::Refused(e) => e.number(),
-        MadeUp::Length(n) => give(&[n as u64], out),
-    }
-}
 
 // The file of a made-up map at the front of `buffer`, and its length. 29: a node count outside 1 to 500; then 22: no word for the length
 // or a buffer that is too short.
@@ -34,5 +21,5 @@ pub fn made_up(seed: u32, nodes: u64, buffer: &mut [u8], out: &mut [u64]) -> u32
     if out.len() < 1 {
         return LIST_TOO_SHORT;
     }
-    give_length(made::made_up(seed, nodes as usize, buffer), out)
+    give_number(made::made_up(seed, nodes as usize, buffer), out)
 }

@@ -1,7 +1,7 @@
 -- Traces from words and as words: the sixteen words that `bsp_trace` writes after the visits. A float is its 32 bits, every NaN 0x7fc00000.
 -- A word past the list's end counts as 0.
 -- Assumes nothing.
-use Rattle.std.specs.Prelude.{ℕ, ◌+◌, not, cond, List, [], ◌∷◌, ◌++◌, eqb, get_or, Float}
+use Rattle.std.specs.Prelude.{Option, Some, None, ℕ, ◌+◌, not, cond, List, [], ◌∷◌, ◌++◌, eqb, get_or, Float}
 use Rattle.std.specs.Float.{binary32}
 use Rattle.std.specs.Float.Ieee.{of_bits}
 use Rattle.math.specs.Vector.{vector}
@@ -9,8 +9,6 @@ use Rattle.math.specs.declared.vector.Vector3.{Vector3}
 use Rattle.format.specs.Answer.{Answer, answer, refused}
 use Rattle.format.specs.Code.{contents_of}
 use Rattle.format.specs.Contents.{code_of}
-use Rattle.format.specs.declared.code.CodedContents.{CodedContents}
-use Rattle.format.specs.declared.code.CodedContents.TheVariants.{Contents, Invalid}
 use Rattle.format.specs.declared.contents.BspLeafContents.{BspLeafContents}
 use Rattle.format.specs.declared.contents.BspLeafContents.TheVariants.{Empty}
 use Rattle.phys.specs.Trace.{start, terminal, boundary, trace}
@@ -32,9 +30,9 @@ abbrev pub point_at : List ℕ → ℕ → Vector3
 point_at ws at = vector (float_at ws at) (float_at ws (at + 1)) (float_at ws (at + 2))
 
 -- the contents that a code stands for, and Empty where it stands for none
-abbrev pub contents_or : CodedContents → BspLeafContents
-contents_or (Contents c) = c
-contents_or Invalid = Empty
+abbrev pub contents_or : Option BspLeafContents → BspLeafContents
+contents_or (Some c) = c
+contents_or None = Empty
 
 -- word 0: the code of the contents
 unfoldable pub contents_given : List ℕ → BspLeafContents

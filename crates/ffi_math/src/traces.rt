@@ -1,9 +1,9 @@
 // The traces: one is given by sixteen words, the words that `bsp_trace` writes after the visits, and
 // answered by its word number `word`.
 ghost use Rattle.std.specs.Prelude.{◌≡◌, ◌≤◌, get_or};
+ghost use Rattle.format.specs.Answers.{answer_of};
 ghost use Rattle.math.specs.Vector as Vec;
 ghost use Rattle.phys.specs.Trace as Tr;
-ghost use Rattle.phys.specs.Answers as Answers;
 ghost use Rattle.words.specs.Words.{flag_word};
 ghost use Rattle.ffi_math.specs.TraceWords as Traces;
 ghost use Rattle.ffi_math.specs.FloatWords.{coordinate_of};
@@ -11,10 +11,11 @@ ghost use Rattle.ffi_math.specs.FloatWords.{coordinate_of};
 use crate::planes::{plane_given, plane_word};
 use crate::vectors::part_of;
 use float::num::{from_bits, to_bits};
-use format::code::{CodedContents, contents_of};
+use format::code::contents_of;
 use format::contents::BspLeafContents;
+use format::refusal::Answer;
 use math::Vector3;
-use phys::{Joined, Trace, TraceEnd, TraceEndBoundary, TraceEndKind, TraceStart};
+use phys::{Trace, TraceEnd, TraceEndBoundary, TraceEndKind, TraceStart};
 use words::word_at;
 
 fn float_at(words: &[u32], at: usize) -> f32
@@ -37,10 +38,7 @@ fn point_at(words: &[u32], at: usize) -> Vector3
 fn contents_given(words: &[u32]) -> BspLeafContents
     ensures { result ≡ Traces.contents_given words.now }
 {
-    match contents_of(word_at(words, 0)) {
-        CodedContents::Contents(contents) => contents,
-        CodedContents::Invalid => BspLeafContents::Empty,
-    }
+    contents_of(word_at(words, 0)).unwrap_or(BspLeafContents::Empty)
 }
 
 fn start_given(words: &[u32]) -> TraceStart
@@ -137,18 +135,18 @@ fn trace_word(trace: Trace, word: u32) -> u32
 }
 
 // Word number `word` of what `join` answers.
-fn joined_word(joined: Joined, word: u32) -> u32
-    ensures { result ≡ get_or (Traces.joined_words (Answers.joined_of joined)) word 0 }
+fn joined_word(joined: Answer<Trace>, word: u32) -> u32
+    ensures { result ≡ get_or (Traces.joined_words (answer_of joined)) word 0 }
 {
     match joined {
-        Joined::Trace(trace) => {
+        Ok(trace) => {
             if word == 0 {
                 0
             } else {
                 trace_word(trace, word - 1)
             }
         }
-        Joined::Refused(e) => { if word == 0 { e.number() } else { 0 } }
+        Err(e) => { if word == 0 { e.number() } else { 0 } }
     }
 }
 

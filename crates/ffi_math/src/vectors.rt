@@ -114,5 +114,5 @@ pub extern "C" fn vector_equals(ax: f32, ay: f32, az: f32, bx: f32, by: f32, bz:
         y: by,
         z: bz,
     };
-    a.equals(b)
+    a == b
 }

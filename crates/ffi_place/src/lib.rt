@@ -5,7 +5,7 @@ ghost use Rattle.std.specs.Prelude.{◌≡◌};
 ghost use Rattle.words.specs.Words.{written};
 ghost use Rattle.ffi_place.specs.Calls as Calls;
 
-use place::{LoadPlace, load_place};
+use place::load_place;
 use words::LIST_TOO_SHORT;
 
 // The refusal's number, 0 where the file loads; the section's number in the directory, 15 for the header; the record; the byte.
@@ -17,13 +17,16 @@ pub fn place(file: &[u8], out: &mut [u64]) -> u32
         return LIST_TOO_SHORT;
     }
     match load_place(file) {
-        LoadPlace::Loads => words::give(&[0, 0, 0, 0], out),
-        LoadPlace::Refused(e, section, stop) => {
-            let number = e.number() as u64;
-            let index = stop.index as u64;
-            let byte = stop.byte as u64;
-            words::give(&[number, section as u64, index, byte], out)
-        }
+        Ok(()) => words::give(&[0, 0, 0, 0], out),
+        Err(at) => words::give(
+            &[
+                at.refusal.number() as u64,
+                at.section_number() as u64,
+                at.stop.index as u64,
+                at.stop.byte as u64,
+            ],
+            out,
+        ),
     }
 }
 

@@ -5,12 +5,25 @@ ghost use Rattle.std.specs.Prelude.{◌≡◌};
 ghost use Rattle.words.specs.Words.{written};
 ghost use Rattle.ffi_records.specs.Calls as Calls;
 
-use words::{LIST_TOO_SHORT, NO_SUCH_RECORD, map_of};
+use answer::{give_found, number_words};
+use faces::extents::face;
+use models::model::model;
+use record_words::{
+    collision_node_words, edge_index_words, edge_words, face_words, leaf_words, model_words,
+    render_node_words, texinfo_words, vector_words,
+};
+use records::edge::{edge, edgelist, facelist};
+use records::leaf::leaf;
+use records::node::{collision_node, render_node};
+use records::plane::{plane, vertex};
+use textures::access::texture_info;
+use words::{LIST_TOO_SHORT, NO_SUCH_RECORD, map_of, plane_words};
 
 mod answer;
 
 // The record of an index, in the words of its section. 22: a map of fewer than 31 words or a list of fewer than 20; 20: a section that has
 // no records here.
+#[tactic(auto, unfolding(crate::specs::Calls::record_in, crate::specs::Calls::bsp_record))]
 pub fn record(file: &[u8], map: &[u32], section: u32, index: u64, out: &mut [u64]) -> u32
     ensures { written result out.new ≡ Calls.bsp_record file.now map.now section index out.old }
 {
@@ -23,17 +36,20 @@ pub fn record(file: &[u8], map: &[u32], section: u32, index: u64, out: &mut [u64
     let data = map_of(map);
     let at = index as usize;
     match section {
-        1 => answer::give_plane(file, data, at, out),
-        3 => answer::give_vertex(file, data, at, out),
-        5 => answer::give_render_node(file, data, at, out),
-        6 => answer::give_texinfo(file, data, at, out),
-        7 => answer::give_face(file, data, at, out),
-        9 => answer::give_collision_node(file, data, at, out),
-        10 => answer::give_leaf(file, data, at, out),
-        11 => answer::give_face_index(file, data, at, out),
-        12 => answer::give_edge(file, data, at, out),
-        13 => answer::give_edge_index(file, data, at, out),
-        14 => answer::give_model(file, data, at, out),
+        1 => give_found(plane(file, data, at).map(plane_words), out),
+        3 => give_found(vertex(file, data, at).map(vector_words), out),
+        5 => give_found(render_node(file, data, at).map(render_node_words), out),
+        6 => give_found(texture_info(file, data, at).map(texinfo_words), out),
+        7 => give_found(face(file, data, at).map(face_words), out),
+        9 => give_found(
+            collision_node(file, data, at).map(collision_node_words),
+            out,
+        ),
+        10 => give_found(leaf(file, data, at).map(leaf_words), out),
+        11 => give_found(facelist(file, data, at).map(number_words), out),
+        12 => give_found(edge(file, data, at).map(edge_words), out),
+        13 => give_found(edgelist(file, data, at).map(edge_index_words), out),
+        14 => give_found(model(file, data, at).map(model_words), out),
         _ => NO_SUCH_RECORD,
     }
 }

@@ -2,28 +2,29 @@
 #![tactic(auto)]
 
 ghost use Rattle.std.specs.Prelude.{◌≡◌, ◌≤◌, length};
+ghost use Rattle.format.specs.Answers.{answer_of};
 ghost use Rattle.format.specs.Answer.{mapped};
 ghost use Rattle.words.specs.Words.{written, given};
 ghost use Rattle.hull.specs.Answers.{hull_answer};
-ghost use Rattle.sizes.specs.Answers.{sizes_answer};
 ghost use Rattle.ffi_hull.specs.Layout.{hull_length, hull_words};
 ghost use Rattle.ffi_sizes.specs.Layout as Layout;
 ghost use Rattle.ffi_sizes.specs.Calls as Calls;
 
 use ffi_hull::layout::{HULL_WORDS, hull_words};
+use format::refusal::Answer;
 use hull::collision::HullAnswer;
-use sizes::SizesAnswer;
+use sizes::BodySizes;
 use words::{LIST_TOO_SHORT, give, map_of};
 
 mod layout;
 
-fn give_sizes(sizes: SizesAnswer, out: &mut [u64]) -> u32
+fn give_sizes(sizes: Answer<BodySizes>, out: &mut [u64]) -> u32
     requires { Layout.sizes_length ≤ length out.old }
-    ensures { written result out.new ≡ given (mapped Layout.sizes_words (sizes_answer sizes)) out.old }
+    ensures { written result out.new ≡ given (mapped Layout.sizes_words (answer_of sizes)) out.old }
 {
     match sizes {
-        SizesAnswer::Refused(e) => e.number(),
-        SizesAnswer::Sizes(value) => give(&layout::sizes_words(value), out),
+        Err(e) => e.number(),
+        Ok(value) => give(&layout::sizes_words(value), out),
     }
 }
 

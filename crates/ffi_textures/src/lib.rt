@@ -2,35 +2,24 @@
 #![tactic(auto)]
 
 ghost use Rattle.std.specs.Prelude.{◌≡◌, ◌≤◌, length};
+ghost use Rattle.format.specs.Answers.{answer_of};
 ghost use Rattle.format.specs.Answer.{mapped};
 ghost use Rattle.words.specs.Words.{written, left, given, number_words};
-ghost use Rattle.textures.specs.Frame.{file_number, list_length};
-ghost use Rattle.texture_list.specs.Answers.{texture_answer};
 ghost use Rattle.ffi_textures.specs.Calls as Calls;
 
-use texture_list::answer::{BspTexture, TextureAnswer};
+use format::refusal::Answer;
+use texture_list::answer::BspTexture;
 use texture_numbers::texture_numbers;
 use textures::access::{frame_texture, static_texture};
-use textures::answer::{FileNumber, TextureList};
 use words::{LIST_TOO_SHORT, flag_word, give, map_of};
 
-fn give_number(number: FileNumber, out: &mut [u64]) -> u32
+fn give_number(number: Answer<u32>, out: &mut [u64]) -> u32
     requires { 1 ≤ length out.old }
-    ensures { written result out.new ≡ given (mapped number_words (file_number number)) out.old }
+    ensures { written result out.new ≡ given (mapped number_words (answer_of number)) out.old }
 {
     match number {
-        FileNumber::Refused(e) => e.number(),
-        FileNumber::Value(n) => give(&[n as u64], out),
-    }
-}
-
-fn give_length(listed: TextureList, out: &mut [u64]) -> u32
-    requires { 1 ≤ length out.old }
-    ensures { written result out.new ≡ given (mapped number_words (list_length listed)) out.old }
-{
-    match listed {
-        TextureList::Refused(e) => e.number(),
-        TextureList::Length(n) => give(&[n as u64], out),
+        Err(e) => e.number(),
+        Ok(n) => give(&[n as u64], out),
     }
 }
 
@@ -47,13 +36,13 @@ fn texture_words(texture: BspTexture) -> [u64; 5]
     ]
 }
 
-fn give_texture(texture: TextureAnswer, out: &mut [u64]) -> u32
+fn give_texture(texture: Answer<BspTexture>, out: &mut [u64]) -> u32
     requires { 5 ≤ length out.old }
-    ensures { written result out.new ≡ given (mapped Calls.texture_words (texture_answer texture)) out.old }
+    ensures { written result out.new ≡ given (mapped Calls.texture_words (answer_of texture)) out.old }
 {
     match texture {
-        TextureAnswer::Refused(e) => e.number(),
-        TextureAnswer::Value(x) => give(&texture_words(x), out),
+        Err(e) => e.number(),
+        Ok(x) => give(&texture_words(x), out),
     }
 }
 
@@ -111,5 +100,5 @@ pub fn numbers(file: &[u8], map: &[u32], list: &mut [u32], out: &mut [u64]) -> u
     if out.len() < 1 {
         return LIST_TOO_SHORT;
     }
-    give_length(texture_numbers(file, map_of(map), list), out)
+    give_number(texture_numbers(file, map_of(map), list), out)
 }

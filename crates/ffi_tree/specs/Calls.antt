@@ -1,24 +1,23 @@
 -- What the tree check says, and what it leaves in the marks and in the lent list.
-use Rattle.std.specs.Prelude.{ℕ, cond, List, eqb}
+use Rattle.std.specs.Prelude.{ℕ, cond, List, Option, Some, None, eqb}
 use Rattle.format.specs.Answer.{mapped}
 use Rattle.words.specs.Words.{given, Left, left, enough, beside, number_words, map_length, map_of}
 use Rattle.walk.specs.TreeCheck.{Checked, tree_check}
 use Rattle.nodes.specs.Tables.{nodes_of}
+use Rattle.nodes.specs.declared.table.HullTable.{HullTable}
 use Rattle.nodes.specs.declared.table.HullTable.TheVariants.{Render, Clip, Box}
-use Rattle.ffi_tree.specs.declared.TableNumbered.{TableNumbered}
-use Rattle.ffi_tree.specs.declared.TableNumbered.TheVariants.{Table, NoTable}
 
 -- the node table of a number: 0 render nodes, 1 clip nodes, 2 a box
-unfoldable pub table_numbered : ℕ → TableNumbered
-table_numbered n = cond (eqb n 0) (Table Render) (cond (eqb n 1) (Table Clip) (cond (eqb n 2) (Table Box) NoTable))
+unfoldable pub table_numbered : ℕ → Option HullTable
+table_numbered n = cond (eqb n 0) (Some Render) (cond (eqb n 1) (Some Clip) (cond (eqb n 2) (Some Box) None))
 
 -- the marks as the check leaves them, and the height in `out`
 abbrev pub checked_in : Checked → List ℕ → Left
 checked_in k out = beside k.marks (given (mapped number_words k.answer) out)
 
-abbrev pub check_of : TableNumbered → List ℕ → List ℕ → ℕ → List ℕ → List ℕ → Left
-check_of (Table t) s map root marks out = checked_in (tree_check (nodes_of s (map_of map) t) marks root) out
-check_of NoTable s map root marks out = left 20 marks out
+abbrev pub check_of : Option HullTable → List ℕ → List ℕ → ℕ → List ℕ → List ℕ → Left
+check_of (Some t) s map root marks out = checked_in (tree_check (nodes_of s (map_of map) t) marks root) out
+check_of None s map root marks out = left 20 marks out
 
 unfoldable pub bsp_tree_check : List ℕ → List ℕ → ℕ → ℕ → List ℕ → List ℕ → Left
 bsp_tree_check s map table root marks out =

@@ -12,20 +12,14 @@ use tree::TreeChecked;
 use words::{LIST_TOO_SHORT, NO_SUCH_RECORD, give, map_of};
 
 // The node table of a number.
-#[derive(Clone, Copy)]
-pub enum TableNumbered {
-    Table(HullTable),
-    NoTable,
-}
-
-fn table_numbered(n: u32) -> TableNumbered
+fn table_numbered(n: u32) -> Option<HullTable>
     ensures { result ≡ Calls.table_numbered n }
 {
     match n {
-        0 => TableNumbered::Table(HullTable::Render),
-        1 => TableNumbered::Table(HullTable::Clip),
-        2 => TableNumbered::Table(HullTable::Box),
-        _ => TableNumbered::NoTable,
+        0 => Some(HullTable::Render),
+        1 => Some(HullTable::Clip),
+        2 => Some(HullTable::Box),
+        _ => None,
     }
 }
 
@@ -58,8 +52,8 @@ pub fn tree_check(
         return LIST_TOO_SHORT;
     }
     match table_numbered(table) {
-        TableNumbered::NoTable => NO_SUCH_RECORD,
-        TableNumbered::Table(t) => give_height(
+        None => NO_SUCH_RECORD,
+        Some(t) => give_height(
             tree::tree_check(file, map_of(map), t, root as usize, marks),
             out,
         ),

@@ -1,24 +1,11 @@
 // The leaves that can be seen from a leaf, as words in lists that a caller lends.
 #![tactic(auto)]
 
-ghost use Rattle.std.specs.Prelude.{◌≡◌, ◌≤◌, length};
-ghost use Rattle.format.specs.Answer.{mapped};
-ghost use Rattle.words.specs.Words.{written, left, given, number_words};
-ghost use Rattle.vis.specs.Answers.{length_of};
+ghost use Rattle.std.specs.Prelude.{◌≡◌};
+ghost use Rattle.words.specs.Words.{left};
 ghost use Rattle.ffi_vis.specs.Calls as Calls;
 
-use vis::Pvs;
 use words::{LIST_TOO_SHORT, give, map_of};
-
-fn give_length(pvs: Pvs, out: &mut [u64]) -> u32
-    requires { 1 ≤ length out.old }
-    ensures { written result out.new ≡ given (mapped number_words (length_of pvs)) out.old }
-{
-    match pvs {
-        Pvs::Refused(e) => e.number(),
-        Pvs::Length(n) => give(&[n as u64], out),
-    }
-}
 
 // The leaves that can be seen from a leaf, at the front of `list`, and their count. 22: a map of fewer than 31 words or no word for the
 // count; 22 again, last of all: a list of too few entries.
@@ -32,14 +19,11 @@ pub fn pvs(
 ) -> u32
     ensures { left result list.new out.new ≡ Calls.bsp_pvs file.now map.now leaf leaf_count list.old out.old }
 {
-    if map.len() < 31 {
+    if map.len() < 31 || out.is_empty() {
         return LIST_TOO_SHORT;
     }
-    if out.len() < 1 {
-        return LIST_TOO_SHORT;
+    match vis::get_pvs(file, map_of(map), leaf as usize, leaf_count as usize, list) {
+        Ok(n) => give(&[n as u64], out),
+        Err(e) => e.number(),
     }
-    give_length(
-        vis::get_pvs(file, map_of(map), leaf as usize, leaf_count as usize, list),
-        out,
-    )
 }

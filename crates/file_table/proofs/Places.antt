@@ -11,7 +11,7 @@ use Rattle.models.specs.Model.{bounds_at, roots_at, file_model_end_at, file_mode
 use Rattle.models.specs.Text.{text_end}
 use Rattle.sections.specs.Records.{records, section, blob}
 use Rattle.sections.specs.Table.{is_multiple, section_at, three_sections_at, table_end_at, table_at, is_version, header_at, exceeds, limits, limits_from_leaves}
-use Rattle.utf8.specs.Unicode.{lead, next, run, whole, is_utf8}
+use Rattle.utf8.specs.Unicode.{lead, next_of, run, whole, is_utf8}
 use Rattle.textures.specs.Count.{any}
 use Rattle.textures.specs.Group.{sequenced}
 use Rattle.textures.specs.Section as Textures
@@ -26,5 +26,5 @@ use Rattle.ffi_place.specs.Calls.{bsp_load_place}
 use Rattle.file_table.specs.Places.{places, meant}
 
 pub as_meant : places ≡ meant
-unfolding places meant bsp_load_place place_of header_stop stop_in stops span_of section_span record_at header_at i16_at u16_at i32_at u32_at f32_at is_version table_at three_sections_at section_at is_multiple index_at table_end_at limits limits_from_leaves exceeds record_count entities text_end is_utf8 run next lead whole Textures.textures textures_at listed sequenced any section records number_at index16_at offset_of offset_at blob texinfos faces leaf_at contents_at leaf_end_at negated_contents contents_of face_extents leaf_references file_model_at file_model_end_at bounds_at roots_at vector_at point_at of_bits
+unfolding places meant bsp_load_place place_of header_stop stop_in stops span_of section_span record_at header_at i16_at u16_at i32_at u32_at f32_at is_version table_at three_sections_at section_at is_multiple index_at table_end_at limits limits_from_leaves exceeds record_count entities text_end is_utf8 run next_of lead whole Textures.textures textures_at listed sequenced any section records number_at index16_at offset_of offset_at blob texinfos faces leaf_at contents_at leaf_end_at negated_contents contents_of face_extents leaf_references file_model_at file_model_end_at bounds_at roots_at vector_at point_at of_bits
 as_meant = refl

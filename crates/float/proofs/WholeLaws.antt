@@ -1,5 +1,5 @@
 -- What the proofs of `floor`, `ceil` and `to_i16` use: the whole part of a value between two bounds, and that `floor_of` keeps what is whole already. Assumes nothing.
-use Rattle.std.proofs.Common.{◌≡◌, ℕ, zero, suc, ◌+◌, ◌-◌, ◌*◌, ◌/◌, ◌%◌, ◌^◌, ◌<◌, ◌≤◌, min, Bool, true, false, cond, not, ◌&&◌, ◌||◌, T, eqb, ltb, leb, ◌⊎◌, ℤ, pos, negsuc, neg_ℤ, sym, refl, ap, ◌∙◌, subst, inl, inr, true≢false, zero-le, le_trans, le_of_eq, lt_of_lt_of_le, le_of_suc-le-suc, le-add_right, lt_irrefl, mul-le-mul_right, zero-lt-suc, mul_assoc, div-lt_iff_lt-mul, add-mul, le_antisymm, lt_of_mul-lt-mul_right, eq-or-lt_of_le, mul-lt-mul_of_pos_right, mul-pos, one-mul, le-div_iff_mul-le, zero-mul, mul-one, mul_right_comm, div-mul-le_self, le-add_left, add-one, arith, lit<, lit≤, le→leb, eqb→eq, ltb→lt, lt→ltb, nltb→le, pow_pos, pow-add}
+use Rattle.std.proofs.Common.{◌≡◌, ℕ, zero, suc, ◌+◌, ◌-◌, ◌*◌, ◌/◌, ◌%◌, ◌^◌, ◌<◌, ◌≤◌, min, Bool, true, false, cond, not, ◌&&◌, ◌||◌, T, eqb, ltb, leb, ◌⊎◌, ℤ, pos, negsuc, neg_ℤ, sym, refl, ap, ◌∙◌, subst, inl, inr, true≢false, zero-le, le_trans, le_of_eq, lt_of_lt_of_le, le_of_suc-le-suc, le-add_right, lt_irrefl, mul-le-mul_right, zero-lt-suc, mul_assoc, div-lt_iff_lt-mul, add-mul, lt_of_mul-lt-mul_right, eq-or-lt_of_le, mul-lt-mul_of_pos_right, mul-pos, one-mul, le-div_iff_mul-le, zero-mul, mul-one, mul_right_comm, le-add_left, add-one, arith, lit<, lit≤, le→leb, eqb→eq, ltb→lt, lt→ltb, pow_pos, pow-add}
 use native.Mathlib.Nat.{le-suc, pow-succ'}
 use mathlib.Core.Bool.{false≢true}
 use lib.Arith.{le→nltb, digits_div}
@@ -7,7 +7,6 @@ use lib.Ieee.{Float, nan, inf, fin, Format, binary32, prec, emax, low, up, down,
 use lib.Ieee.Fits.{and_l, and_r, up_pos, down_pos, round_is, round-fits}
 use lib.Ieee.Bits.{is_false}
 use lib.Ieee.Exact.{HasValue, round_exact}
-use lib.Ieee.Compare.{differs_from_itself}
 use lib.Ieee.Back.{round_whole, whole_unique}
 use lib.Ieee.Order.{kept, drop}
 use Rattle.float.specs.Whole.{cut, raised, floor_of, ceil_of}
@@ -44,17 +43,6 @@ units_neg f s q k = go (ltb (q * 2 ^ k) (2 ^ (low f + suc (emax f)))) q
 
 pub round_neg : (f : Format) (s : Bool) (a c : ℕ) → neg (round f s a c) ≡ round f (not s) a c
 round_neg f s a c = ap neg (round_is f s a c) ∙ units_neg f s (kept (prec f) (a * 2 ^ low f) c) (drop (prec f) (a * 2 ^ low f) c) ∙ sym (round_is f (not s) a c)
-
-not_not : (b : Bool) → not (not b) ≡ b
-not_not true = refl
-not_not false = refl
-
-pub ceil_by_floor : (x : Float) → neg (floor_of (neg x)) ≡ ceil_of x
-unfolding neg floor_of ceil_of
-ceil_by_floor nan = refl
-ceil_by_floor (inf s) = ap inf (not_not s)
-ceil_by_floor (fin true m e) = round_neg binary32 false (cut (m * up e) (down e)) 1
-ceil_by_floor (fin false m e) = round_neg binary32 true (raised (m * up e) (down e)) 1
 
 -- ---- bounds on the whole part, from a comparison with k * 2 ^ j
 
@@ -168,13 +156,6 @@ big = fin false 1 (pos 23)
 abbrev minus_big : Float
 minus_big = fin true 1 (pos 23)
 
-pub floor_above : (x : Float) → T (fits binary32 x) → le big x ≡ true → x ≡ floor_of x
-unfolding le
-floor_above nan F h = unfold floor_of in refl
-floor_above (inf s) F h = unfold floor_of in refl
-floor_above (fin true m e) F h = absurd (not_level (8388608 * down e) (m * up e * 1) (mul-pos (lit< {m = 0} {n = 8388608} tt) (down_pos e)) (T_of h))
-floor_above (fin false m e) F h = floor_big false m e F (le_bool (8388608 * down e) (m * up e * 1) true (T_of h))
-
 pub floor_below : (x : Float) → T (fits binary32 x) → le x minus_big ≡ true → x ≡ floor_of x
 unfolding le
 floor_below nan F h = unfold floor_of in refl
@@ -214,14 +195,6 @@ floor_zero (fin false (suc m) e) F a b c d = absurd (F-of b (lt→ltb (0 * down 
 abbrev pub Small : Bool → Float → Type 0
 Small s x = (m : ℕ) × (e : ℤ) × (x ≡ fin s m e) × (m * up e * 1 < 8388608 * down e)
 
-pub small_above : (x : Float) → le big x ≡ false → lt plus_zero x ≡ true → Small false x
-unfolding le lt
-small_above nan a b = absurd (false≢true b)
-small_above (inf true) a b = absurd (false≢true b)
-small_above (inf false) a b = absurd (true≢false a)
-small_above (fin true m e) a b = absurd (false≢true b)
-small_above (fin false m e) a b = (m, e, refl, not_le_bool (8388608 * down e) (m * up e * 1) a)
-
 pub small_below : (x : Float) → le x minus_big ≡ false → lt x plus_zero ≡ true → Small true x
 unfolding le lt
 small_below nan a b = absurd (false≢true b)
@@ -259,10 +232,6 @@ module _ (m : ℕ) (e : ℤ) (h : m * up e * 1 < 8388608 * down e) where
       small : (q : ℕ) → q < 8388608 → min q 18446744073709551615 ≡ q
       small q k = omega arith
 
-  pub in_float_lem : T (in_float binary32 (pos (whole m e)))
-  unfolding in_float
-  in_float_lem = le→leb (whole m e) 16777216 (le_trans (le_trans (le-suc (whole m e)) whole_lt) (lit≤ {m = 8388608} {n = 16777216} tt))
-
   pub in_float_next : T (in_float binary32 (pos (whole m e + 1)))
   unfolding in_float
   in_float_next = le→leb (whole m e + 1) 16777216 (next (whole m e) whole_lt)
@@ -285,10 +254,6 @@ module _ (m : ℕ) (e : ℤ) (h : m * up e * 1 < 8388608 * down e) where
       ∙ same_test (ltb (t * down e * down d) (m * up e * down d)) (ltb (t * down e) (m * up e))
       (λ u. lt→ltb (t * down e) (m * up e) (lt_of_mul-lt-mul_right (down d) (ltb→lt (t * down e * down d) (m * up e * down d) u)))
       (λ u. lt→ltb (t * down e * down d) (m * up e * down d) (mul-lt-mul_of_pos_right (ltb→lt (t * down e) (m * up e) u) (down_pos d)))
-
-  pub floor_pos : of_int binary32 (pos (whole m e)) ≡ floor_of (fin false m e)
-  unfolding of_int floor_of
-  floor_pos = refl
 
   -- below zero, with a fraction
   pub floor_neg : lt (of_int binary32 (pos (whole m e))) (fin false m e) ≡ true → neg (of_int binary32 (pos (whole m e + 1))) ≡ floor_of (fin true m e)
@@ -315,14 +280,6 @@ module _ (m : ℕ) (e : ℤ) (h : m * up e * 1 < 8388608 * down e) where
           let hi : a < t * d + d = subst (λ (x : ℕ). a < x) (one_more t d) ((div-lt_iff_lt-mul D).0 (le_of_eq (sym (add-one t)))) in
           only (raised a d) t ((le-div_iff_mul-le D).1 (subst (λ (x : ℕ). x ≤ a + (d - 1)) (sym (one_more t d)) (fits_in a d (t * d) D l)))
           ((div-lt_iff_lt-mul D).1 (subst (λ (x : ℕ). a + (d - 1) < x) (sym (one_more (t + 1) d ∙ ap (λ (x : ℕ). x + d) (one_more t d))) (fits_under a d (t * d) D hi)))
-
-  -- below zero, and whole
-  pub floor_neg_whole : T (fits binary32 (fin true m e)) → lt (of_int binary32 (pos (whole m e))) (fin false m e) ≡ false → fin true m e ≡ floor_of (fin true m e)
-  unfolding of_int
-  floor_neg_whole F t =
-      floor_keeps true m e (whole m e) F
-      (le_antisymm (nltb→le (whole m e * down e) (m * up e) (subst (λ (b : Bool). T (not b)) (sym (sym (lt_whole (round binary32 false (whole m e) 1) (whole m e) back_value) ∙ t)) tt)) (div-mul-le_self (m * up e) (down e)))
-      (round_whole binary32 true (whole m e) (le_trans (le_trans (le-suc (whole m e)) whole_lt) (lit≤ {m = 8388608} {n = 16777216} tt)))
 
 -- ---- `to_i16`
 
@@ -353,10 +310,6 @@ i16_below (fin true m e) h = ap (λ (q : ℕ). neg_ℤ (pos q)) (capped (whole m
       | inl u ↦ le_trans (le-suc b) (ltb→lt b a u)
       | inr u ↦ le_of_eq (sym (eqb→eq a b (and_l (eqb a b) true u)))
     ]
-
-pub i16_nan : (x : Float) → ne x x ≡ true → pos 0 ≡ to_signed 15 x
-unfolding to_signed
-i16_nan x h = ap (to_signed 15) (sym (differs_from_itself x (T_of h)))
 
 -- Between the two bounds the cast to an `i64` is defined, and gives what the cast to an `i16` gives.
 abbrev pub Between : Float → Type 0
@@ -403,12 +356,6 @@ module _ (x : Float) (z : Small false x) where
   pub pos_asked : T (lt (fin true 1 (pos 0)) x) × T (lt x (fin false 1 (pos 64)))
   pos_asked = subst (λ (y : Float). T (lt (fin true 1 (pos 0)) y) × T (lt y (fin false 1 (pos 64)))) (sym z.2) (asked z.0 z.1 z.3)
 
-  pub pos_in : T (in_float binary32 (pos (to_unsigned 64 x)))
-  pos_in = subst (λ (n : ℕ). T (in_float binary32 (pos n))) (sym (ap (to_unsigned 64) z.2 ∙ given z.0 z.1 z.3)) (in_float_lem z.0 z.1 z.3)
-
-  pub pos_floor : of_int binary32 (pos (to_unsigned 64 x)) ≡ floor_of x
-  pos_floor = ap (λ (n : ℕ). of_int binary32 (pos n)) (ap (to_unsigned 64) z.2 ∙ given z.0 z.1 z.3) ∙ floor_pos z.0 z.1 z.3 ∙ ap floor_of (sym z.2)
-
 module _ (x : Float) (z : Small true x) where
   turned : neg x ≡ fin false z.0 z.1
   unfolding neg
@@ -416,31 +363,6 @@ module _ (x : Float) (z : Small true x) where
 
   count : to_unsigned 64 (neg x) ≡ whole z.0 z.1
   count = ap (to_unsigned 64) turned ∙ given z.0 z.1 z.3
-
-  pub neg_asked : T (lt (fin true 1 (pos 0)) (neg x)) × T (lt (neg x) (fin false 1 (pos 64)))
-  neg_asked = subst (λ (y : Float). T (lt (fin true 1 (pos 0)) y) × T (lt y (fin false 1 (pos 64)))) (sym turned) (asked z.0 z.1 z.3)
-
-  pub neg_in : T (in_float binary32 (pos (to_unsigned 64 (neg x))))
-  neg_in = subst (λ (n : ℕ). T (in_float binary32 (pos n))) (sym count) (in_float_lem z.0 z.1 z.3)
-
-  pub neg_lt : to_unsigned 64 (neg x) < 8388608
-  neg_lt = subst (λ (n : ℕ). n < 8388608) (sym count) (whole_lt z.0 z.1 z.3)
-
-  pub neg_in_next : T (in_float binary32 (pos (to_unsigned 64 (neg x) + 1)))
-  neg_in_next = subst (λ (n : ℕ). T (in_float binary32 (pos (n + 1)))) (sym count) (in_float_next z.0 z.1 z.3)
-
-  pub neg_floor : lt (of_int binary32 (pos (to_unsigned 64 (neg x)))) (neg x) ≡ true → neg (of_int binary32 (pos (to_unsigned 64 (neg x) + 1))) ≡ floor_of x
-  neg_floor t =
-      ap (λ (n : ℕ). neg (of_int binary32 (pos (n + 1)))) count
-      ∙ floor_neg z.0 z.1 z.3 (ap (λ (y : Float). lt (of_int binary32 (pos (whole z.0 z.1))) y) (sym turned) ∙ ap (λ (n : ℕ). lt (of_int binary32 (pos n)) (neg x)) (sym count) ∙ t)
-      ∙ ap floor_of (sym z.2)
-
-  pub neg_floor_whole : T (fits binary32 x) → lt (of_int binary32 (pos (to_unsigned 64 (neg x)))) (neg x) ≡ false → x ≡ floor_of x
-  neg_floor_whole F t =
-      z.2
-      ∙ floor_neg_whole z.0 z.1 z.3 (subst (λ (y : Float). T (fits binary32 y)) z.2 F)
-      (ap (λ (y : Float). lt (of_int binary32 (pos (whole z.0 z.1))) y) (sym turned) ∙ ap (λ (n : ℕ). lt (of_int binary32 (pos n)) (neg x)) (sym count) ∙ t)
-      ∙ ap floor_of (sym z.2)
 
 -- ---- `round` changes nothing at the numbers that `floor_of` and `ceil_of` hand it
 

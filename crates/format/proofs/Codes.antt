@@ -1,5 +1,6 @@
 -- A contents code that a file has negated is looked up by its distance from -1, which is in range for every number.
 -- Assumes nothing.
+use Rattle.std.specs.Prelude.{Some, None}
 use Prim.Native.Nat.{ℕ, zero, suc, ◌+◌, ◌^◌, ◌<◌, ◌≤◌, zero-le}
 use mathlib.Core.Path.{◌≡◌, refl, sym, ap, ◌∙◌, subst}
 use mathlib.Core.Bool.{Bool, true, false}
@@ -19,10 +20,9 @@ use Rattle.format.specs.Contents.{code_of}
 use Rattle.format.specs.Code.{contents_of, contents_of_signed, negated_contents}
 use Rattle.format.specs.declared.contents.BspLeafContents.{BspLeafContents}
 use Rattle.format.specs.declared.contents.BspLeafContents.TheVariants.{Empty, Solid, Water, Slime, Lava, Sky, Current0, Current90, Current180, Current270, CurrentUp, CurrentDown}
-use Rattle.format.specs.declared.code.CodedContents.TheVariants.{Contents, Invalid}
 
 -- the code of some contents stands for them
-pub code_stands : (c : BspLeafContents) → contents_of (code_of c) ≡ Contents c
+pub code_stands : (c : BspLeafContents) → contents_of (code_of c) ≡ Some c
 unfolding contents_of
 code_stands Empty = refl
 code_stands Solid = refl
@@ -62,8 +62,13 @@ module _ (w : Width) (z : ℤ) (fit : SFits w z) where
   pub less_of : lt_z (to_z w (of_z w z)) (pos 0) ≡ true → to_z w (of_z w (negsuc 0 -ℤ to_z w (of_z w z))) ≡ negsuc 0 -ℤ z
   less_of e = cast_is e ∙ sym (less z (rw (to_z-of_z fit) at e))
 
+-- how far a number below 0 is from it
+pub abs_is : (z : ℤ) → lt_z z (pos 0) ≡ true → nat_abs z ≡ mag z + 1
+abs_is (pos n) e = absurd (not-suc-le-zero (ltb-true n 0 e))
+abs_is (negsuc k) e = sym (add-one k)
+
 -- no code is above 14
-pub high : (n : ℕ) → 14 < n → contents_of n ≡ Invalid
+pub high : (n : ℕ) → 14 < n → contents_of n ≡ None
 unfolding contents_of
 high n h =
     simp
@@ -79,7 +84,7 @@ module _ (w : Width) (big : 14 < 2 ^ hbits w) where
   below (pos n) fit e = absurd (not-suc-le-zero (ltb-true n 0 e))
   below (negsuc k) fit e = rw (add-one k) (top k fit.sfits (ltb (suc k) (2 ^ hbits w)) refl)
 
-  pub above : (z : ℤ) → SFits w z → lt_z z (pos 0) ≡ false → negated_contents w z ≡ Invalid
+  pub above : (z : ℤ) → SFits w z → lt_z z (pos 0) ≡ false → negated_contents w z ≡ None
   unfolding negated_contents contents_of
   above (pos zero) fit e = simp (lt-ltb 0 (2 ^ hbits w) (omega arith))
   above (pos (suc n)) fit e = ap contents_of_signed (to_z-of_z {w = w} {z = negsuc n} (record { sfits = omega (arith, fit.sfits) }))
@@ -91,7 +96,7 @@ pub widths : (w w' : Width) → 14 < 2 ^ hbits w → 14 < 2 ^ hbits w' → (z : 
 widths w w' h h' z f f' true e = below w h z f e ∙ sym (below w' h' z f' e)
 widths w w' h h' z f f' false e = above w h z f e ∙ sym (above w' h' z f' e)
 
-named : (k : ℕ) → contents_of (k + 1) ≡ get_or Layout.contents k Invalid
+named : (k : ℕ) → contents_of (k + 1) ≡ get_or Layout.contents k None
 unfolding contents_of
 named zero = refl
 named (suc zero) = refl

@@ -1,16 +1,15 @@
 -- The BSP map file as the Quake Specifications (version 3.4) list it: the size of each record, and offset, width and sign of each field; the
 -- directory; the contents codes. They are that document's and not the Rust's, written down from memory, since no copy was at hand (docs/DIFFERENCES.md);
 -- where the Rust reads a field with another sign, the laws about the readers say what follows.
-use Rattle.std.specs.Prelude.{ℕ, zero, suc, ◌+◌, ◌*◌, ◌^◌, List, [], ◌∷◌, ℤ, pos, negsuc, get_or, Float}
+use Rattle.std.specs.Prelude.{Option, Some, None, ℕ, zero, suc, ◌+◌, ◌*◌, ◌^◌, List, [], ◌∷◌, ℤ, pos, negsuc, get_or, Float}
 use Rattle.std.specs.Float.Ieee.{of_bits}
 use Rattle.std.specs.Float.{binary32}
 use Rattle.std.specs.Int.{Width, w8, w16, w32}
 use Rattle.std.proofs.Common.{to_z}
 use Rattle.format.specs.declared.section.BspFileSectionId.{BspFileSectionId}
 use Rattle.format.specs.declared.section.BspFileSectionId.TheVariants.{Entities, Planes, Textures, Vertices, Visibility, RenderNodes, TextureInfo, Faces, Lightmaps, CollisionNodes, Leaves, FaceList, Edges, EdgeList, Models}
+use Rattle.format.specs.declared.contents.BspLeafContents.{BspLeafContents}
 use Rattle.format.specs.declared.contents.BspLeafContents.TheVariants.{Empty, Solid, Water, Slime, Lava, Sky, Current0, Current90, Current180, Current270, CurrentUp, CurrentDown}
-use Rattle.format.specs.declared.code.CodedContents.{CodedContents}
-use Rattle.format.specs.declared.code.CodedContents.TheVariants.{Contents, Invalid}
 
 -- how the bits of a field are read
 pub data Sort : Type 0 where
@@ -162,25 +161,25 @@ record_size Models = model.size
 
 -- The contents of the codes −1 to −14: empty, solid, water, slime, lava, sky, origin, clip, the currents by their angle, up and down. The Rust
 -- has no name for sky, origin and clip; sky is taken (document 02, note 1), origin and clip are not.
-abbrev pub contents : List CodedContents
+abbrev pub contents : List (Option BspLeafContents)
 contents =
-    Contents Empty
-    ∷ Contents Solid
-    ∷ Contents Water
-    ∷ Contents Slime
-    ∷ Contents Lava
-    ∷ Contents Sky
-    ∷ Invalid
-    ∷ Invalid
-    ∷ Contents Current0
-    ∷ Contents Current90
-    ∷ Contents Current180
-    ∷ Contents Current270
-    ∷ Contents CurrentUp
-    ∷ Contents CurrentDown
+    Some Empty
+    ∷ Some Solid
+    ∷ Some Water
+    ∷ Some Slime
+    ∷ Some Lava
+    ∷ Some Sky
+    ∷ None
+    ∷ None
+    ∷ Some Current0
+    ∷ Some Current90
+    ∷ Some Current180
+    ∷ Some Current270
+    ∷ Some CurrentUp
+    ∷ Some CurrentDown
     ∷ []
 
 -- what a number in a file stands for
-abbrev pub contents_named : ℤ → CodedContents
-contents_named (pos n) = Invalid
-contents_named (negsuc k) = get_or contents k Invalid
+abbrev pub contents_named : ℤ → Option BspLeafContents
+contents_named (pos n) = None
+contents_named (negsuc k) = get_or contents k None

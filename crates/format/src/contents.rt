@@ -4,7 +4,7 @@ ghost use Rattle.format.specs.Contents as Contents;
 
 // The contents of a leaf in the BSP tree. Sky (6) is the specifications' (document 02, note 1); the Rust has no name for it. Origin and
 // Collide (7, 8) are left out, as in the Rust.
-#[derive(Clone, Copy)]
+#[derive(Clone, Copy, Debug, PartialEq, Eq)]
 pub enum BspLeafContents {
     Empty,
     Solid,
@@ -39,12 +39,5 @@ impl BspLeafContents {
             BspLeafContents::CurrentUp => 13,
             BspLeafContents::CurrentDown => 14,
         }
-    }
-
-    // Rust's `==`.
-    pub fn equals(self, other: BspLeafContents) -> bool
-        ensures { result ≡ Contents.equal self other }
-    {
-        self.code() == other.code()
     }
 }

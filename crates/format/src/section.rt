@@ -1,9 +1,9 @@
 // The fifteen sections of a file, the sizes and limits of their records, the map record, and where a record lies.
 ghost use Rattle.std.specs.Prelude.{◌≡◌};
+ghost use Rattle.format.specs.Answers.{answer_of};
 ghost use Rattle.format.specs.Section as Sec;
-ghost use Rattle.format.specs.Answers as Answers;
 
-use crate::refusal::Refusal;
+use crate::refusal::{Answer, Refusal};
 
 // Where a section lies in the file, in bytes.
 #[derive(Clone, Copy)]
@@ -51,13 +51,6 @@ pub struct BspData {
     pub edgelist: BspFileSection,
     pub models: BspFileSection,
     pub texture_count: u32,
-}
-
-// Where a record lies in the file, or why it can't be read.
-#[derive(Clone, Copy)]
-pub enum Place {
-    At(usize),
-    Refused(Refusal),
 }
 
 impl BspFileSectionId {
@@ -110,6 +103,7 @@ impl BspFileSectionId {
 
 impl BspFileSection {
     // How many whole records of its kind the section has.
+    #[tactic(auto, unfolding(crate::specs::Section::record_count))]
     pub fn record_count(self, id: BspFileSectionId) -> u32
         ensures { result ≡ Sec.record_count id self }
     {
@@ -117,21 +111,22 @@ impl BspFileSection {
     }
 
     // Where the record of an index lies in a file of `len` bytes.
-    pub fn place(self, id: BspFileSectionId, len: usize, index: usize) -> Place
-        ensures { Answers.place_answer result ≡ Sec.place id self len index }
+    #[tactic(auto, unfolding(crate::specs::Section::place))]
+    pub fn place(self, id: BspFileSectionId, len: usize, index: usize) -> Answer<usize>
+        ensures { answer_of result ≡ Sec.place id self len index }
     {
         let count = self.record_count(id);
         if (count as usize) <= index {
-            return Place::Refused(Refusal::NoSuchRecord);
+            return Err(Refusal::NoSuchRecord);
         }
         if id.within_limit(count) {
             let size = id.element_size() as usize;
             let at = (self.offset as usize) + index * size;
             if at + size <= len {
-                return Place::At(at);
+                return Ok(at);
             }
         }
-        Place::Refused(Refusal::Unreadable)
+        Err(Refusal::Unreadable)
     }
 }
 

@@ -105,11 +105,11 @@ fn join_two(near: Went, far: Went) -> Went
 {
     let contents = near.contents;
     let other = far.contents;
-    if contents.equals(other) {
+    if contents == other {
         return carried(far, contents, near.start_solid);
     }
-    if contents.equals(BspLeafContents::Solid) {
-        if other.equals(BspLeafContents::Solid) {
+    if contents == BspLeafContents::Solid {
+        if other == BspLeafContents::Solid {
             return counted(near, far.visits);
         }
         return carried(far, other, true);

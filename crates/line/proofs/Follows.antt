@@ -1,5 +1,8 @@
 -- The whole line in one loop: what a node says to a part and to a look, and what becomes of the planes that wait. Assumes nothing.
+use Rattle.std.specs.Prelude.{Result, Ok}
+use Rattle.format.specs.declared.refusal.Refusal.{Refusal}
 use Prim.Native.Nat.{ℕ, zero, suc, ◌+◌, ◌-◌, ◌*◌, ◌<◌, ◌≤◌}
+use Rattle.format.specs.Answers.{answer_of}
 use native.Mathlib.Omega.{arith}
 use mathlib.Core.Path.{◌≡◌, refl, sym, ap, subst, ◌∙◌}
 use mathlib.Core.Bool.{Bool, true, false, cond, not, ◌&&◌, beq}
@@ -26,9 +29,6 @@ use Rattle.math.specs.declared.plane.HyperplaneSide.{HyperplaneSide}
 use Rattle.walk.specs.Table.{Child, node, end, Node, Table, child_on}
 use Rattle.walk.specs.Walk.{Entered, enter, meet, with_node}
 use Rattle.nodes.specs.Tables.{End, is_box}
-use Rattle.records.specs.Answers.{plane_answer}
-use Rattle.records.specs.declared.plane.PlaneAnswer.{PlaneAnswer}
-use Rattle.records.specs.declared.plane.PlaneAnswer.TheVariants as P
 use Rattle.nodes.specs.declared.read.EndContents.{EndContents}
 use Rattle.nodes.specs.declared.read.EndContents.TheVariants as E
 use Rattle.nodes.specs.Fast.{end_answer, child_of, end_of, node_of, word_on, plane_in, place_in, node_in, node_at, node_size, is_render, render_node_here, clip_node_here, contents_met}
@@ -489,7 +489,7 @@ module _ (f : List ℕ) (g : Ground) (p q : Vector3) (l : LineTrace) (is_l : l �
 -- ---- where a line that is blocked stops
 
 module _ (f : List ℕ) (g : Ground) (y : Waiting) (l : LineTrace) (x : Cut) (K : Kept x y) (h : Hyperplane) (is-h : plane_in f g.t x.w.plane ≡ answer h) where
-  pub stops_there : l.all_solid ≡ false → (p : PlaneAnswer) → plane_answer p ≡ plane_in f g.t y.plane → (i : Hyperplane) → p ≡ P.Value i
+  pub stops_there : l.all_solid ≡ false → (p : Result Hyperplane Refusal) → answer_of p ≡ plane_in f g.t y.plane → (i : Hyperplane) → p ≡ Ok i
       → (a : EndContents) → end_answer a ≡ contents_from (Fast.table f g.t) 512 g.root y.point → (c : BspLeafContents) → a ≡ E.Contents c → Contents.equal c Solid ≡ false
       → (front : Bool) → front ≡ from_front y → (lp : LinePlane) → lp ≡ plane_from (Pl.side_if front) i → (m : LineTrace) → m ≡ with_plane lp l → (n : LineTrace) → n ≡ ended y.at y.point m
       → stopped n ≡ blocked (Fast.table f g.t) g.root h (Pl.from_dist x.a) x.part x.k l

@@ -1,5 +1,7 @@
 -- Each way through a step of the whole-line trace, by what the calls answer. Assumes nothing.
+use Rattle.std.specs.Prelude.{Result, Ok, Err}
 use Prim.Native.Nat.{ℕ, zero, suc, ◌-◌, ◌<◌, ◌≤◌}
+use Rattle.format.specs.Answers.{answer_of}
 use native.Mathlib.Omega.{arith}
 use mathlib.Core.Path.{◌≡◌, refl, sym, ap, subst, ◌∙◌}
 use mathlib.Core.Bool.{Bool, true, false, not, beq}
@@ -21,9 +23,6 @@ use Rattle.math.specs.declared.plane.Hyperplane.{Hyperplane}
 use Rattle.math.specs.declared.plane.HyperplaneSide.{HyperplaneSide}
 use Rattle.walk.specs.Table.{Child, Node, Table, child_on}
 use Rattle.walk.specs.Walk.{enter}
-use Rattle.records.specs.Answers.{plane_answer}
-use Rattle.records.specs.declared.plane.PlaneAnswer.{PlaneAnswer}
-use Rattle.records.specs.declared.plane.PlaneAnswer.TheVariants as P
 use Rattle.nodes.specs.Tables.{End}
 use Rattle.nodes.specs.Fast.{node_of, word_on, plane_in, contents_met, end_answer}
 use Rattle.nodes.specs.Fast as Fast
@@ -92,12 +91,12 @@ module _ (f : List ℕ) (t : Tables) (root left : ℕ) (w : WordsT) (b : Bool) (
 
 -- ---- the far side is solid
 
-module _ (f : List ℕ) (t : Tables) (n : ℕ) (h : Hyperplane) (p : PlaneAnswer) (is-p : plane_answer p ≡ plane_in f t n) (is-h : plane_in f t n ≡ answer h) where
-  pub blocked_unread : (e : Refusal) → p ≡ P.Refused e → ⊥
-  blocked_unread e q = let z : Ans.refused (number_of e) ≡ answer h = sym (ap plane_answer q) ∙ is-p ∙ is-h in let y : ◌≡◌ {A = ℕ} 0 1 = cc in absurd (omega arith)
+module _ (f : List ℕ) (t : Tables) (n : ℕ) (h : Hyperplane) (p : Result Hyperplane Refusal) (is-p : answer_of p ≡ plane_in f t n) (is-h : plane_in f t n ≡ answer h) where
+  pub blocked_unread : (e : Refusal) → p ≡ Err e → ⊥
+  blocked_unread e q = let z : Ans.refused (number_of e) ≡ answer h = sym (ap answer_of q) ∙ is-p ∙ is-h in let y : ◌≡◌ {A = ℕ} 0 1 = cc in absurd (omega arith)
 
-  pub blocked_plane : (g : Hyperplane) → p ≡ P.Value g → g ≡ h
-  blocked_plane g q = let e : answer g ≡ answer h = sym (ap plane_answer q) ∙ is-p ∙ is-h in let d : g ≡ h = cc in d
+  pub blocked_plane : (g : Hyperplane) → p ≡ Ok g → g ≡ h
+  blocked_plane g q = let e : answer g ≡ answer h = sym (ap answer_of q) ∙ is-p ∙ is-h in let d : g ≡ h = cc in d
 
 module _ {En : Type 0} (T : Table En BspLeafContents) (root : ℕ) (side : HyperplaneSide) (s : Stretch) (k : Float) (l : LineTrace) (h : Hyperplane) where
   pub blocked_all : l.all_solid ≡ true → stopped l ≡ blocked T root h side s k l

@@ -1,5 +1,7 @@
 -- What the reader of a node says of it, as it is entered; and the child that a word stands for. Assumes nothing.
+use Rattle.std.specs.Prelude.{Result, Ok, Err}
 use Prim.Native.Nat.{ℕ, ◌<◌, ◌≤◌}
+use Rattle.format.specs.Answers.{answer_of}
 use mathlib.Core.Path.{◌≡◌, refl, sym, ap, ◌∙◌}
 use native.Mathlib.Omega.{arith}
 use mathlib.Core.Bool.{Bool, true, false, cond}
@@ -17,9 +19,6 @@ use Rattle.math.specs.Plane as Pl
 use Rattle.math.specs.declared.vector.Vector3.{Vector3}
 use Rattle.math.specs.declared.plane.Hyperplane.{Hyperplane}
 use Rattle.math.specs.Vector.{zero32}
-use Rattle.records.specs.Answers.{plane_answer}
-use Rattle.records.specs.declared.plane.PlaneAnswer.{PlaneAnswer}
-use Rattle.records.specs.declared.plane.PlaneAnswer.TheVariants as P
 use Rattle.walk.specs.Table.{Node, child_on}
 use Rattle.walk.specs.Walk.{Entered, enter}
 use Rattle.nodes.specs.Tables.{End}
@@ -63,14 +62,14 @@ module _ (f : List ℕ) (t : Tables) (i : ℕ) (r : ReadWords) (is-r : words_ans
           ap (λ (y : Float × Float). answer (node_of t.table w, y)) (sym k.2) ∙ with_plane_lem (node_and_dists p q) k.0 k.1
 
     -- the child on a point's side
-    module _ (p : Vector3) (a : PlaneAnswer) (is-a : plane_answer a ≡ plane_in f t w.plane) where
-      pub no_side : (x : Refusal) → a ≡ P.Refused x → Ans.refused (number_of x) ≡ made_from (child_by_distance p) f t i
-      no_side x e = without (child_by_distance p) (number_of x) (sym is-a ∙ ap plane_answer e)
+    module _ (p : Vector3) (a : Result Hyperplane Refusal) (is-a : answer_of a ≡ plane_in f t w.plane) where
+      pub no_side : (x : Refusal) → a ≡ Err x → Ans.refused (number_of x) ≡ made_from (child_by_distance p) f t i
+      no_side x e = without (child_by_distance p) (number_of x) (sym is-a ∙ ap answer_of e)
 
-      pub one_side : (h : Hyperplane) → a ≡ P.Value h → (d : Float) → d ≡ Pl.point_dist h p → (word : ℕ) → word ≡ word_on w (Ieee.le zero32 d) → answer (child_of t.table word) ≡ made_from (child_by_distance p) f t i
+      pub one_side : (h : Hyperplane) → a ≡ Ok h → (d : Float) → d ≡ Pl.point_dist h p → (word : ℕ) → word ≡ word_on w (Ieee.le zero32 d) → answer (child_of t.table word) ≡ made_from (child_by_distance p) f t i
       one_side h e d is-d word is_word =
           ap (λ (n : ℕ). answer (child_of t.table n)) is_word ∙ ap answer (sym (child_is t.table w (Ieee.le zero32 d)))
-          ∙ ap (λ (x : Float). answer (child_on (node_of t.table w) (Pl.from_dist x))) is-d ∙ with_plane_lem (child_by_distance p) h (sym is-a ∙ ap plane_answer e)
+          ∙ ap (λ (x : Float). answer (child_on (node_of t.table w) (Pl.from_dist x))) is-d ∙ with_plane_lem (child_by_distance p) h (sym is-a ∙ ap answer_of e)
 
 -- the same point
 pub same_point : (f : List ℕ) (t : Tables) (i : ℕ) (p x : Vector3) → x ≡ p → made_from (child_by_distance x) f t i ≡ made_from (child_by_distance p) f t i

@@ -15,7 +15,6 @@ use nodes::read::{
 use nodes::segment::SegmentAt;
 use nodes::table::Tables;
 use nodes::walking::Onward;
-use records::plane::PlaneAnswer;
 
 // What a line goes through: the root, the tables, and whether the file has all of their nodes and planes. The root stands first: behind the
 // one byte of `whole` it would be copied by moves that wait for narrower ones.
@@ -60,8 +59,8 @@ fn look_any(s: &[u8], t: Tables, index: usize, point: Vector3) -> Onward
     match read_words(s, t, index) {
         ReadWords::Refused(e) => Onward::Refused(e),
         ReadWords::Words(w) => match plane_at(s, t, w.plane as usize) {
-            PlaneAnswer::Refused(e) => Onward::Refused(e),
-            PlaneAnswer::Value(plane) => Onward::Word(w.on(plane.point_dist(point) >= 0.0)),
+            Err(e) => Onward::Refused(e),
+            Ok(plane) => Onward::Word(w.on(plane.point_dist(point) >= 0.0)),
         },
     }
 }

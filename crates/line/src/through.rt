@@ -194,7 +194,7 @@ fn is_blocked(looked: bool, contents: BspLeafContents) -> bool
     ensures { result ≡ looked && Contents.equal contents Solid }
 {
     if looked {
-        return contents.equals(BspLeafContents::Solid);
+        return contents == BspLeafContents::Solid;
     }
     false
 }

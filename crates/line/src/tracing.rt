@@ -13,7 +13,7 @@ use crate::contents::{Ground, contents_beside, contents_from, node_at};
 use crate::state::{LineTrace, Stretch, crossing, plane_from};
 use crate::through::{Came, Stand, Waiting, follow};
 use format::contents::BspLeafContents;
-use format::refusal::Refusal;
+use format::refusal::{Answer, Refusal};
 use format::section::BspData;
 use hull::collision::BspCollisionHull;
 use math::Vector3;
@@ -21,7 +21,6 @@ use nodes::read::{EndContents, Words, end_contents, plane_at};
 use nodes::segment::SegmentAt;
 use nodes::table::tables_of;
 use nodes::whole::{are_whole, node_bytes, plane_bytes};
-use records::plane::PlaneAnswer;
 
 // What `trace_line` answers.
 #[derive(Clone, Copy)]
@@ -111,7 +110,7 @@ fn back_off(
             EndContents::Refused(e) => return Going::Refused(e),
             EndContents::Contents(c) => {
                 let next = k - 0.1;
-                if !c.equals(BspLeafContents::Solid) {
+                if c != BspLeafContents::Solid {
                     return Going::Stopped(line.impact(part, k));
                 }
                 if next >= 0.0 {
@@ -145,8 +144,8 @@ fn blocked(
         return Going::Stopped(line);
     }
     match plane_at(s, g.t, w.plane as usize) {
-        PlaneAnswer::Refused(e) => Going::Refused(e),
-        PlaneAnswer::Value(plane) => back_off(
+        Err(e) => Going::Refused(e),
+        Ok(plane) => back_off(
             s,
             nodes,
             planes,
@@ -176,7 +175,7 @@ fn beyond(
     match contents_beside(s, nodes, planes, g, w, !front, part.point_at(k)) {
         EndContents::Refused(e) => Far::Ended(Going::Refused(e)),
         EndContents::Contents(c) => {
-            if c.equals(BspLeafContents::Solid) {
+            if c == BspLeafContents::Solid {
                 return Far::Ended(blocked(s, nodes, planes, g, w, front, part, k, line));
             }
             let word = w.on(!front);
@@ -268,13 +267,13 @@ fn stop_at(s: &[u8], nodes: &[u8], planes: &[u8], g: Ground, x: Waiting, set: Li
     if set.all_solid {
         return Stop::At(set);
     }
-    let PlaneAnswer::Value(plane) = plane_at(s, g.t, x.plane as usize) else {
+    let Ok(plane) = plane_at(s, g.t, x.plane as usize) else {
         return Stop::Nothing;
     };
     match contents_from(s, nodes, planes, g, g.root, x.point) {
         EndContents::Refused(_) => Stop::Nothing,
         EndContents::Contents(c) => {
-            if c.equals(BspLeafContents::Solid) {
+            if c == BspLeafContents::Solid {
                 return Stop::Nothing;
             }
             let met = set.with_plane(plane_from(plane, x.is_from_front()));

@@ -1,6 +1,5 @@
 -- Laws about loading.
 pub mod Untested
-pub mod Chain
 pub mod Stages
 mod Texts
 pub mod Passed

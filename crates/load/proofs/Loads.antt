@@ -28,7 +28,8 @@ use Rattle.models.specs.Model.{file_model_at, file_model_of, leaf_id_of, model_o
 use Rattle.records.specs.Node.{render_node_at, collision_node_at, render_node_of, collision_node_of}
 use Rattle.records.specs.Plane.{plane_at, plane_of, vertex_of}
 use Rattle.records.specs.Texinfo.{texinfo_at, texinfo_of}
-use Rattle.models.specs.Text.{text_end, Part, entities_of}
+use Rattle.models.specs.Text.{text_end, entities_of}
+use Rattle.models.specs.declared.text.Part.{Part}
 use Rattle.records.specs.Triple.{vector_at}
 use Rattle.faces.specs.declared.face.BspFace.{BspFace}
 use Rattle.records.specs.declared.node.BspRenderNode.{BspRenderNode}

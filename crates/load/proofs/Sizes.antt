@@ -1,5 +1,6 @@
 -- Each reader takes at most the bytes of its record: its fields' sizes add up to the record's.
 -- Assumes nothing.
+use Rattle.std.specs.Prelude.{Option, Some, None}
 use Prim.Native.Nat.{ℕ}
 use mathlib.Core.Bool.{true, false}
 use lib.Dec.{eqb, ltb}
@@ -8,8 +9,6 @@ use lib.Signed.{lt_z}
 use mir.Syntax.{w16, w32}
 use Rattle.format.specs.Code.{negated_contents}
 use Rattle.format.specs.Step.{ok}
-use Rattle.format.specs.declared.code.CodedContents.{CodedContents}
-use Rattle.format.specs.declared.code.CodedContents.TheVariants as Coded
 use Rattle.format.specs.declared.contents.BspLeafContents.{BspLeafContents}
 use Rattle.records.specs.Edge.{edge_at, edge_index_at}
 use Rattle.faces.specs.Face.{side_at, styles_at, face_at, face_end_at, face_light_at}
@@ -105,9 +104,9 @@ bounded_render_node =
     then bounded_u16 _ 0 (λ count. of_ok _)))))))
 
 -- contents, or 10: no bytes
-of_contents_lem : {A : Type 0} (c : CodedContents) (h : BspLeafContents → A) → Bounded (λ s at. with_contents c (λ x. ok (h x) at)) 0
-of_contents_lem (Coded.Contents x) h = of_ok (λ s at. h x)
-of_contents_lem Coded.Invalid h = of_refused 10 0
+of_contents_lem : {A : Type 0} (c : Option BspLeafContents) (h : BspLeafContents → A) → Bounded (λ s at. with_contents c (λ x. ok (h x) at)) 0
+of_contents_lem (Some x) h = of_ok (λ s at. h x)
+of_contents_lem None h = of_refused 10 0
 
 bounded_collision_child : Bounded collision_child_at 2
 unfolding collision_child_at

@@ -9,61 +9,70 @@ ghost use Rattle.sections.specs.Answers.{position_step};
 ghost use Rattle.sections.specs.Records as Row;
 ghost use Rattle.load.specs.Entities.{text_of, entities};
 
-use format::refusal::Refusal;
+use format::refusal::{Answer, Refusal};
 use format::section::{BspFileSection, BspFileSectionId};
 use models::text::text_end;
-use sections::position::{Position, check_end_position};
+use sections::position::check_end_position;
 use sections::row::check_plain;
 use utf8::is_utf8;
 
 // The bytes from a position through the first zero, or to the file's end.
+#[tactic(auto, using(models::proofs::Texts::starts, models::proofs::Texts::stays, crate::proofs::Texts::none_is))]
 fn text(s: &[u8], at: usize) -> &[u8]
     ensures { result.now ≡ text_of s.now at }
 {
-    let end = text_end(s, at);
-    if at < s.len() { &s[at..end] } else { &s[..0] }
+    match s.get(at..text_end(s, at)) {
+        Some(text) => text,
+        None => &[],
+    }
 }
 
 // The entity text: its length, its encoding, and its end.
-pub fn check_entities(s: &[u8], section: BspFileSection) -> Position
+#[tactic(auto, unfolding(crate::specs::Entities::entities))]
+pub fn check_entities(s: &[u8], section: BspFileSection) -> Answer<usize>
     ensures { position_step result ≡ entities s.now section }
 {
-    let t = text(s, section.offset as usize);
-    if 65536 < t.len() {
-        return Position::Refused(Refusal::EntityTextTooLong);
+    let at = section.offset as usize;
+    let text = text(s, at);
+    if 65536 < text.len() {
+        return Err(Refusal::EntityTextTooLong);
     }
-    if is_utf8(t) {
-        let end = (section.offset as usize) + t.len();
-        return check_end_position(section, Position::At(end));
+    if !is_utf8(text) {
+        return Err(Refusal::EntityTextNotUtf8);
     }
-    Position::Refused(Refusal::EntityTextNotUtf8)
+    check_end_position(section, at + text.len())
 }
 
-pub fn check_planes(s: &[u8], section: BspFileSection) -> Position
+#[tactic(auto, using(sections::proofs::Plain::plain_section_lem, crate::proofs::Untested::plain_plane))]
+pub fn check_planes(s: &[u8], section: BspFileSection) -> Answer<usize>
     ensures { position_step result ≡ Row.section plane_at Id.Planes s.now section }
 {
     check_plain(s, section, BspFileSectionId::Planes)
 }
 
-pub fn check_vertices(s: &[u8], section: BspFileSection) -> Position
+#[tactic(auto, using(sections::proofs::Plain::plain_section_lem, crate::proofs::Untested::plain_vector))]
+pub fn check_vertices(s: &[u8], section: BspFileSection) -> Answer<usize>
     ensures { position_step result ≡ Row.section vector_at Id.Vertices s.now section }
 {
     check_plain(s, section, BspFileSectionId::Vertices)
 }
 
-pub fn check_facelist(s: &[u8], section: BspFileSection) -> Position
+#[tactic(auto, using(sections::proofs::Plain::plain_section_lem, sections::proofs::Plain::plain_u16))]
+pub fn check_facelist(s: &[u8], section: BspFileSection) -> Answer<usize>
     ensures { position_step result ≡ Row.section u16_at Id.FaceList s.now section }
 {
     check_plain(s, section, BspFileSectionId::FaceList)
 }
 
-pub fn check_edges(s: &[u8], section: BspFileSection) -> Position
+#[tactic(auto, using(sections::proofs::Plain::plain_section_lem, crate::proofs::Untested::plain_edge))]
+pub fn check_edges(s: &[u8], section: BspFileSection) -> Answer<usize>
     ensures { position_step result ≡ Row.section edge_at Id.Edges s.now section }
 {
     check_plain(s, section, BspFileSectionId::Edges)
 }
 
-pub fn check_edgelist(s: &[u8], section: BspFileSection) -> Position
+#[tactic(auto, using(sections::proofs::Plain::plain_section_lem, crate::proofs::Untested::plain_edge_index))]
+pub fn check_edgelist(s: &[u8], section: BspFileSection) -> Answer<usize>
     ensures { position_step result ≡ Row.section edge_index_at Id.EdgeList s.now section }
 {
     check_plain(s, section, BspFileSectionId::EdgeList)

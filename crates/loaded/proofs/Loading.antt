@@ -1,5 +1,6 @@
 -- Loading is refused with 1 to 12 alone (specs/Refusals.antt says it): each reader, section and test in the order of load.rs. So a status of 0 stands for
 -- a file that loads. Assumes nothing.
+use Rattle.std.specs.Prelude.{Option, Some, None}
 use Prim.Native.Nat.{ℕ, zero, suc, ◌+◌}
 use native.Mathlib.Omega.{arith}
 use mathlib.Core.Bool.{Bool, true, false, cond}
@@ -17,8 +18,6 @@ use Rattle.format.specs.Field.{u8_at, u16_at, u32_at, i16_at, i32_at, f32_at, in
 use Rattle.format.specs.Code.{negated_contents}
 use Rattle.format.specs.Section.{record_count}
 use Rattle.format.specs.declared.contents.BspLeafContents.{BspLeafContents}
-use Rattle.format.specs.declared.code.CodedContents.{CodedContents}
-use Rattle.format.specs.declared.code.CodedContents.TheVariants as Coded
 use Rattle.format.specs.declared.section.BspData.{BspData}
 use Rattle.format.specs.declared.section.BspFileSection.{BspFileSection}
 use Rattle.format.specs.declared.section.BspFileSectionId.{BspFileSectionId}
@@ -43,8 +42,6 @@ use Rattle.load.specs.Tested.{outside, textured, texinfos, faces, references_at,
 use Rattle.load.specs.Load.{load_at, outcome}
 use Rattle.load.specs.Private.{from_extents, from_edges, from_collision_nodes, from_texinfo, from_vertices, from_planes, from_header}
 use Rattle.load.proofs.Stages.{stages}
-use Rattle.records.specs.declared.number.OptionalOffset.{OptionalOffset}
-use Rattle.records.specs.declared.number.OptionalOffset.TheVariants as Opt
 use Rattle.texture_list.specs.Name.{is_ascii, is_wrong}
 use Rattle.textures.specs.Count.{any}
 use Rattle.textures.specs.Group.{is_alone, sequenced}
@@ -160,9 +157,9 @@ module _ (s : List ℕ) where
       then (index_at 10 s at) _ (index 10 ten at) (λ n p. then (render_child_at s p) _ (render_child_lem p) (λ f q. then (render_child_at s q) _ (render_child_lem q) (λ b t.
       then (point_at s t) _ (point t) (λ low p. then (point_at s p) _ (point p) (λ high q. then (index16_at s q) _ (index16 q) (λ face u. then (u16_at s u) _ (u16 u) (λ c v. gives _ _)))))))
 
-  with_contents_lem : {A : Type 0} (c : CodedContents) (k : BspLeafContents → Step A) → ((x : BspLeafContents) → Known (k x)) → Known (with_contents c k)
-  with_contents_lem (Coded.Contents c) k f = f c
-  with_contents_lem Coded.Invalid k f = says 10 ten
+  with_contents_lem : {A : Type 0} (c : Option BspLeafContents) (k : BspLeafContents → Step A) → ((x : BspLeafContents) → Known (k x)) → Known (with_contents c k)
+  with_contents_lem (Some c) k f = f c
+  with_contents_lem None k f = says 10 ten
 
   collision_child_lem : (at : ℕ) → Known (collision_child_at s at)
   unfolding collision_child_at
@@ -341,9 +338,9 @@ module _ (s : List ℕ) where
       then (u32_at s q) _ (u32 q) (λ a p. then (u32_at s p) _ (u32 p) (λ b q. then (u32_at s q) _ (u32 q) (λ c t. then (u32_at s t) _ (u32 t) (λ d u. gives _ _)))))))
       (says 13 thirteen)
 
-  present : (base end : ℕ) (o : OptionalOffset) → Known (present_at s base end o)
-  present base end Opt.None = gives _ _
-  present base end (Opt.Some o) = texture (base + o)
+  present : (base end : ℕ) (o : Option ℕ) → Known (present_at s base end o)
+  present base end None = gives _ _
+  present base end (Some o) = texture (base + o)
 
   list : (base n at end : ℕ) → Known (listed s base n at end)
   unfolding listed listed_at

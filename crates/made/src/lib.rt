@@ -2,6 +2,7 @@
 #![tactic(auto)]
 
 ghost use Rattle.std.specs.Prelude.{◌≡◌, ◌+◌, ◌*◌, ◌≤◌, ◌<◌, [], ◌∷◌, ◌++◌, length};
+ghost use Rattle.format.specs.Answers.{answer_of};
 ghost use Rattle.std.specs.Float.{binary32};
 ghost use Rattle.std.specs.Float.Ieee.{to_bits};
 ghost use Rattle.written.specs.Bytes.{u32, row};
@@ -10,16 +11,8 @@ ghost use Rattle.made.specs.Map.{distance_of, front_of, back_of};
 ghost use Rattle.made.specs.Map as Map;
 ghost use Rattle.made.specs.File.{is_node_count, made_up, file_of, made_map, header};
 ghost use Rattle.made.specs.Writing.{put_at, words_of, side_word, size_of, record_bytes, record_of_node};
-ghost use Rattle.made.specs.Answers.{length_of};
 
-use format::refusal::Refusal;
-
-// How long the file is, or why none was written.
-#[derive(Clone, Copy)]
-pub enum MadeUp {
-    Length(usize),
-    Refused(Refusal),
-}
+use format::refusal::{Answer, Refusal};
 
 // The number after the last one.
 fn next(last: u32) -> u32
@@ -228,16 +221,16 @@ pub fn is_node_count(nodes: usize) -> bool
 }
 
 // Writes the file of a made-up map to the front of the buffer, whose other bytes are kept. A refusal writes nothing.
-pub fn made_up(seed: u32, nodes: usize, buffer: &mut [u8]) -> MadeUp
-    ensures { listed (length_of result) buffer.new ≡ into (made_up seed nodes) buffer.old }
+pub fn made_up(seed: u32, nodes: usize, buffer: &mut [u8]) -> Answer<usize>
+    ensures { listed (answer_of result) buffer.new ≡ into (made_up seed nodes) buffer.old }
 {
     if !is_node_count(nodes) {
-        return MadeUp::Refused(Refusal::NodeCountOutside);
+        return Err(Refusal::NodeCountOutside);
     }
     let length = 249 + nodes * 52;
     if buffer.len() < length {
-        return MadeUp::Refused(Refusal::ListTooShort);
+        return Err(Refusal::ListTooShort);
     }
     put_file(seed, nodes, buffer);
-    MadeUp::Length(length)
+    Ok(length)
 }

@@ -28,7 +28,7 @@ use Rattle.records.specs.Plane.{plane_at}
 use Rattle.records.specs.declared.leaf.BspLeaf.{BspLeaf}
 use Rattle.models.specs.Model.{file_model_at}
 use Rattle.models.specs.Text.{text_end}
-use Rattle.utf8.specs.Unicode.{is_utf8, run, next, lead, whole}
+use Rattle.utf8.specs.Unicode.{is_utf8, run, next_of, lead, whole}
 use Rattle.textures.specs.Count.{any}
 use Rattle.textures.specs.Group.{sequenced}
 use Rattle.texture_list.specs.List.{textures_at, listed}
@@ -58,7 +58,7 @@ within_limits n h =
 -- the entity text
 
 one_zero : (s rest : List ℕ) → drop 124 s ≡ 0 ∷ rest → entities s (record { offset = 124; size = 1 }) ≡ ok tt 125
-unfolding entities text_end is_utf8 run next lead whole
+unfolding entities text_end is_utf8 run next_of lead whole
 one_zero s rest e = rw e refl
 
 text_reads : (seed n : ℕ) → entities (file_of seed n) (record { offset = 124; size = 1 }) ≡ ok tt 125

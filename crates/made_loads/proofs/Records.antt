@@ -28,8 +28,8 @@ use Rattle.records.specs.Number.{index16_at, offset_of, offset_at}
 use Rattle.records.specs.Node as Nd
 use Rattle.records.specs.Node.{render_child_at, render_node_end_at, render_node_at, collision_child_at, collision_node_at}
 use Rattle.records.specs.Leaf.{contents, contents_at, leaf_end_at, leaf_at, sounds_at, up_to}
-use Rattle.records.specs.declared.number.OptionalOffset.TheVariants.{None}
 use Rattle.models.specs.Model.{bounds_at, roots_at, file_model_end_at, file_model_at}
+use Rattle.std.specs.Prelude.{None}
 use Rattle.written.specs.Bytes.{i16, i32}
 use Rattle.made.specs.Map.{axis_of, distance_of, Side, node, solid, empty, front_of, back_of}
 use Rattle.made.specs.File.{zeros, plane, render_child, clip_child, render_node, clip_node, leaf, model}

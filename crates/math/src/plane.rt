@@ -4,7 +4,7 @@ ghost use Rattle.math.specs.Plane as Pl;
 
 use crate::vector::{Axis, Vector3, inverse_root};
 
-#[derive(Clone, Copy)]
+#[derive(Clone, Copy, PartialEq, Eq)]
 pub enum HyperplaneSide {
     Positive,
     Negative,
@@ -27,21 +27,6 @@ impl HyperplaneSide {
             HyperplaneSide::Positive
         } else {
             HyperplaneSide::Negative
-        }
-    }
-
-    pub fn is_same(self, other: HyperplaneSide) -> bool
-        ensures { result ≡ Pl.same_side self other }
-    {
-        match self {
-            HyperplaneSide::Positive => match other {
-                HyperplaneSide::Positive => true,
-                HyperplaneSide::Negative => false,
-            },
-            HyperplaneSide::Negative => match other {
-                HyperplaneSide::Positive => false,
-                HyperplaneSide::Negative => true,
-            },
         }
     }
 }
@@ -127,13 +112,13 @@ impl Hyperplane {
     pub fn new(normal: Vector3, dist: f32) -> Hyperplane
         ensures { result ≡ Pl.new_plane normal dist }
     {
-        if normal.equals(Vector3::unit_x()) {
+        if normal == Vector3::unit_x() {
             return Hyperplane::axis_x(dist);
         }
-        if normal.equals(Vector3::unit_y()) {
+        if normal == Vector3::unit_y() {
             return Hyperplane::axis_y(dist);
         }
-        if normal.equals(Vector3::unit_z()) {
+        if normal == Vector3::unit_z() {
             return Hyperplane::axis_z(dist);
         }
         if normal.is_unit() {
@@ -259,7 +244,7 @@ impl Hyperplane {
         let end_dist = self.point_dist(end);
         let start_side = HyperplaneSide::from_dist(start_dist);
         let end_side = HyperplaneSide::from_dist(end_dist);
-        if start_side.is_same(end_side) {
+        if start_side == end_side {
             return LinePlaneIntersect::NoIntersection(start_side);
         }
         let ratio = start_dist / (start_dist - end_dist);

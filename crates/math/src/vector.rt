@@ -12,7 +12,7 @@ pub enum Axis {
     Z,
 }
 
-#[derive(Clone, Copy)]
+#[derive(Clone, Copy, PartialEq)]
 pub struct Vector3 {
     pub x: f32,
     pub y: f32,
@@ -146,18 +146,6 @@ impl Vector3 {
         } else {
             false
         }
-    }
-
-    // Rust's `==`.
-    pub fn equals(self, other: Vector3) -> bool
-        ensures { result ≡ Vec.same self other }
-    {
-        if self.x == other.x {
-            if self.y == other.y {
-                return self.z == other.z;
-            }
-        }
-        false
     }
 
     // The coordinate along an axis.

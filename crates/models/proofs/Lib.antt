@@ -1,5 +1,4 @@
 -- Laws about the definitions of `models`, and what its proofs share.
-pub mod Chain
 pub mod Models
 pub mod Texts
 pub mod ModelLayout

@@ -1,4 +1,4 @@
--- Laws of models: the leaves before one, node counts that wrap, and that no leaf range does.
+-- Laws of models: the leaves before one, and that no leaf range wraps.
 -- Assumes nothing.
 use Rattle.std.proofs.Common.{◌≡◌, ℕ, zero, suc, ◌+◌, ◌-◌, ◌*◌, ◌%◌, ◌^◌, ◌<◌, ◌≤◌, List, refl, ap, mod-eq_of_lt, suc-mul, add-one, arith, leb-true}
 use Rattle.format.specs.Answer.{Answer, answer, refused, then_answer}
@@ -7,7 +7,7 @@ use Rattle.format.specs.Field.{i32_at, index_at}
 use Rattle.format.specs.Section.{record_count}
 use Rattle.format.specs.declared.section.BspData.{BspData}
 use Rattle.format.specs.declared.section.BspFileSectionId.TheVariants.{CollisionNodes, Models}
-use Rattle.models.specs.Model.{bounds_at, roots_at, file_model_at, file_model_end_at, file_model_of, leaf_id_of, wrapping_sub, with_rest, model_of, leaf_range}
+use Rattle.models.specs.Model.{bounds_at, roots_at, file_model_at, file_model_end_at, file_model_of, leaf_id_of, with_rest, model_of, leaf_range}
 use Rattle.models.specs.declared.model.PerHull.{PerHull}
 use Rattle.models.specs.declared.model.ModelBounds.{ModelBounds}
 use Rattle.models.specs.declared.model.BspModel.{BspModel}
@@ -42,10 +42,6 @@ module _ (s : List ℕ) (m : BspData) where
   pub stop : (i n total e : ℕ) → i < n → leaf_id_of s m i ≡ answer total → file_model_of s m i ≡ refused e → leaf_id_of s m n ≡ refused e
   stop i n total e h a b =
       stays (n - (i + 1)) (i + 1) n e (omega arith) (ends i total e a b)
-
--- what `std::num::wrapping_sub_usize` answers
-pub wraps : (a b r : ℕ) → a < 2 ^ 64 → b < 2 ^ 64 → r < 2 ^ 64 → (r + b) % 2 ^ 64 ≡ a → r ≡ wrapping_sub a b
-wraps a b r p q k e = omega arith
 
 abbrev counts : Step BspFileModel → ℕ
 counts (ok f p) = f.leaf_count

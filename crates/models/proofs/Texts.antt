@@ -1,32 +1,44 @@
--- The steps of the loop over the entity text: the zero byte, any other, and the end; and where the text lies.
+-- The bytes through the first zero byte, and where the text lies.
 -- Assumes nothing.
-use Rattle.std.proofs.Common.{◌≡◌, ℕ, suc, ◌+◌, ◌-◌, ◌<◌, ◌≤◌, Bool, true, false, cond, eqb, leb, List, [], ◌∷◌, length, get_or, take, drop, sym, refl, zero-le, add-zero, add-one, arith, length-drop, drop_of_length-le, drop-cons, eq-eqb, ne_eqb, le-leb, leb-false}
+use Rattle.std.proofs.Common.{◌≡◌, ℕ, suc, ◌+◌, ◌-◌, ◌<◌, ◌≤◌, min, Bool, true, false, cond, not, eqb, leb, ltb, Option, Some, None, List, [], ◌∷◌, length, get_or, take, drop, position, ◌==◌, sym, refl, zero-le, arith, length-drop, leb-false}
 use native.Mathlib.Nat.{add-sub_cancel_left}
-use borrow.Author.Tests.{lt-leb}
+use Rattle.std.specs.List.{position_or_len}
+use borrow.Author.Tests.{ltb-true, ltb-false}
 use Rattle.format.specs.Answer.{answer, refused}
 use Rattle.format.specs.declared.section.BspData.{BspData}
-use Rattle.models.specs.Text.{Part, through, text_end, entities_of, entity_text}
+use Rattle.models.specs.declared.text.Part.{Part}
+use Rattle.models.specs.Text.{through, text_end, entities_of, entity_text}
 
-module _ (s : List ℕ) (i : ℕ) where
-  pub zero_ends : i < length s → get_or s i 0 ≡ 0 → text_end s i ≡ i + 1
-  unfolding text_end
-  zero_ends h e = rw (drop-cons s i 0 h) (simp (eq-eqb (get_or s i 0) 0 e))
+-- where the first zero is, or the length
+abbrev zero_at : List ℕ → ℕ
+zero_at xs = position_or_len (λ b. b == 0) xs
 
-  pub goes_on : i < length s → (get_or s i 0 ≡ 0 → ⊥) → text_end s i ≡ text_end s (i + 1)
-  unfolding text_end
-  goes_on h e = rw (add-one i, drop-cons s i 0 h) (simp (ne_eqb (get_or s i 0) 0 e) (omega arith))
-
-  pub at_end : length s ≤ i → text_end s i ≡ i
-  unfolding text_end
-  at_end h = rw (drop_of_length-le s h) (add-zero i)
-
-through_le : (xs : List ℕ) → through xs ≤ length xs
-through_le [] = zero-le
-through_le (b ∷ bs) = by (eqb b 0) (through_le bs)
+through_min : (xs : List ℕ) → through xs ≡ min (zero_at xs + 1) (length xs)
+through_min [] = refl
+through_min (b ∷ bs) = by (eqb b 0) (through_min bs)
   where
-    by : (t : Bool) → through bs ≤ length bs → cond t 1 (suc (through bs)) ≤ suc (length bs)
+    by : (t : Bool) → through bs ≡ min (zero_at bs + 1) (length bs)
+        → cond t 1 (suc (through bs)) ≡ min (cond (not t) (1 + zero_at bs) 0 + 1) (suc (length bs))
     by true h = omega arith
     by false h = omega arith
+
+-- what `position` gave for the first zero
+pub through_some : (xs : List ℕ) (k : ℕ) → cond (ltb (zero_at xs) (length xs)) (Some (zero_at xs)) None ≡ Some k → through xs ≡ k + 1
+through_some xs k e = by (ltb (zero_at xs) (length xs)) refl e
+  where
+    by : (t : Bool) → ltb (zero_at xs) (length xs) ≡ t → cond t (Some (zero_at xs)) None ≡ Some k → through xs ≡ k + 1
+    by true h e = let q : zero_at xs ≡ k = cc in omega (arith, through_min xs, ltb-true (zero_at xs) (length xs) h)
+    by false h e = cc
+
+pub through_none : (xs : List ℕ) → cond (ltb (zero_at xs) (length xs)) (Some (zero_at xs)) None ≡ None → through xs ≡ length xs
+through_none xs e = by (ltb (zero_at xs) (length xs)) refl e
+  where
+    by : (t : Bool) → ltb (zero_at xs) (length xs) ≡ t → cond t (Some (zero_at xs)) None ≡ None → through xs ≡ length xs
+    by true h e = cc
+    by false h e = omega (arith, through_min xs, ltb-false (zero_at xs) (length xs) h)
+
+pub through_le : (xs : List ℕ) → through xs ≤ length xs
+through_le xs = omega (arith, through_min xs)
 
 module _ (s : List ℕ) (at : ℕ) where
   pub starts : at ≤ text_end s at
@@ -37,41 +49,26 @@ module _ (s : List ℕ) (at : ℕ) where
   unfolding text_end
   stays h = omega (arith, through_le (drop at s), length-drop at s)
 
--- The three ways through `entities`; `end` is what `text_end` answers.
-module _ (s : List ℕ) (m : BspData) where
-  module _ (past : length s ≤ m.entities.offset) where
-    pub empty : m.entities.size ≡ 0 → answer (record { offset = m.entities.offset; size = 0 }) ≡ entities_of s m
-    unfolding entities_of
-    empty e = simp (le-leb (length s) m.entities.offset past, eq-eqb m.entities.size 0 e)
-
-    pub outside : (m.entities.size ≡ 0 → ⊥) → refused 23 ≡ entities_of s m
-    unfolding entities_of
-    outside some = simp (le-leb (length s) m.entities.offset past, ne_eqb m.entities.size 0 some)
-
-  pub lies : m.entities.offset < length s → (end : ℕ) → end ≡ text_end s m.entities.offset
-      → answer (record { offset = m.entities.offset; size = end - m.entities.offset }) ≡ entities_of s m
-  unfolding entities_of
-  lies inside end is_end = simp (lt-leb (length s) m.entities.offset inside, ← is_end)
-
--- a text that is found and is not empty lies in the file
-pub within : (s : List ℕ) (m : BspData) (p : Part) → entities_of s m ≡ answer p → (p.size ≡ 0 → ⊥) → p.offset + p.size ≤ length s
+-- a text that is found has at most the bytes from its offset on: one that is not empty lies in the file
+pub within : (s : List ℕ) (m : BspData) (p : Part) → answer p ≡ entities_of s m → p.size ≤ length s - p.offset
 unfolding entities_of
-within s m p e some = by (leb (length s) m.entities.offset) (eqb m.entities.size 0) refl e
+within s m p e = by (leb (length s) m.entities.offset) (eqb m.entities.size 0) refl e
   where
     by : (a b : Bool) → leb (length s) m.entities.offset ≡ a
-        → cond a (cond b (answer (record { offset = m.entities.offset; size = 0 })) (refused 23))
-        (answer (record { offset = m.entities.offset; size = text_end s m.entities.offset - m.entities.offset })) ≡ answer p
-        → p.offset + p.size ≤ length s
-    by true true h e = let z : 0 ≡ p.size = cc in absurd (some (sym z))
-    by true false h e = let z : ◌≡◌ {A = ℕ} 0 1 = cc in absurd (omega arith)
+        → answer p ≡ cond a (cond b (answer (record { offset = m.entities.offset; size = 0 })) (refused 23))
+        (answer (record { offset = m.entities.offset; size = text_end s m.entities.offset - m.entities.offset }))
+        → p.size ≤ length s - p.offset
+    by true true h e = let z : p.size ≡ 0 = cc in omega arith
+    by true false h e = cc
     by false b h e =
-        let a : m.entities.offset ≡ p.offset = cc in
-        let n : text_end s m.entities.offset - m.entities.offset ≡ p.size = cc in
-        omega (arith, a, n, starts s m.entities.offset, stays s m.entities.offset (leb-false (length s) m.entities.offset h))
+        let a : p.offset ≡ m.entities.offset = cc in
+        let n : p.size ≡ text_end s m.entities.offset - m.entities.offset = cc in
+        omega (arith, starts s m.entities.offset, stays s m.entities.offset (leb-false (length s) m.entities.offset h))
 
-module _ (s : List ℕ) (m : BspData) (a n : ℕ) (e : entities_of s m ≡ answer (record { offset = a; size = n })) where
-  pub none_of : n ≡ 0 → [] ≡ entity_text s m
-  none_of z = rw (e, z) refl
+-- what `get` gives there
+module _ (s : List ℕ) (m : BspData) (p : Part) (e : answer p ≡ entities_of s m) where
+  pub text_found : (t : List ℕ) → t ≡ take (p.offset + p.size - p.offset) (drop p.offset s) → t ≡ entity_text s m
+  text_found t q = rw (← e, q, add-sub_cancel_left p.offset p.size)
 
-  pub part_of : take (a + n - a) (drop a s) ≡ entity_text s m
-  part_of = rw (e, add-sub_cancel_left a n)
+  pub text_none : length s < p.offset + p.size → [] ≡ entity_text s m
+  text_none h = let z : p.size ≡ 0 = omega (arith, within s m p e) in rw (← e, z)

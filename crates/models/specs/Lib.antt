@@ -1,4 +1,3 @@
 -- What the contracts of `models` cite.
 pub mod Model
 pub mod Text
-pub mod Answers

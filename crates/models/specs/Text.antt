@@ -2,6 +2,7 @@
 use Rattle.std.specs.Prelude.{ℕ, suc, ◌+◌, ◌-◌, cond, List, [], ◌∷◌, length, take, drop, ◌==◌, nat_le}
 use Rattle.format.specs.Answer.{Answer, answer, refused}
 use Rattle.format.specs.declared.section.BspData.{BspData}
+use Rattle.models.specs.declared.text.Part.{Part}
 
 -- how many bytes there are through the first zero, or in all (`read_until`)
 abbrev pub through : List ℕ → ℕ
@@ -11,11 +12,6 @@ through (b ∷ bs) = cond (b == 0) 1 (suc (through bs))
 -- the position after the first zero byte from a position on, or the file's end
 unfoldable pub text_end : List ℕ → ℕ → ℕ
 text_end s at = at + through (drop at s)
-
--- a part of the file: where it starts, and its length
-pub record Part : Type 0 where
-  pub offset : ℕ
-  pub size : ℕ
 
 -- Where the entity text lies: from its section's offset through the first zero byte, or to the file's end, whatever its length and the
 -- section's size. At or past the end of the bytes an empty section has an empty text, and any other is 23. (The Rust's MAX_ENTSTRING is

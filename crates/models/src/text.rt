@@ -1,57 +1,65 @@
 // The entity text, as a part of the lent file.
 ghost use Rattle.std.specs.Prelude.{◌≡◌};
-ghost use Rattle.models.specs.Text.{text_end, entities_of, entity_text};
-ghost use Rattle.models.specs.Answers.{entities_answer};
+ghost use Rattle.format.specs.Answers.{answer_of};
+ghost use Rattle.models.specs.Text.{through, text_end, entities_of, entity_text};
 
-use format::refusal::Refusal;
+use format::refusal::{Answer, Refusal};
 use format::section::BspData;
 
+// A part of the file: where it starts, and its length.
+#[derive(Clone, Copy)]
+pub struct Part {
+    pub offset: usize,
+    pub size: usize,
+}
+
+// How many bytes there are through the first zero, or in all.
+fn through(s: &[u8]) -> usize
+    ensures { result ≡ through s.now }
+{
+    match s.iter().position(|b| *b == 0) {
+        Some(k) => k + 1,
+        None => s.len(),
+    }
+}
+
 // The position after the first zero byte from a position on, or the file's end.
+#[tactic(auto, using(crate::proofs::Texts::through_le), unfolding(crate::specs::Text::text_end))]
 pub fn text_end(s: &[u8], at: usize) -> usize
     ensures { result ≡ text_end s.now at }
 {
-    let mut i = at;
-    while i < s.len() {
-        if s[i] == 0 {
-            return i + 1;
-        }
-        i = i + 1;
+    match s.get(at..) {
+        Some(rest) => at + through(rest),
+        None => at,
     }
-    i
 }
 
-// Where the entity text lies in the file, or why it can't be read.
-#[derive(Clone, Copy)]
-pub enum EntitiesAnswer {
-    Value(usize, usize),
-    Refused(Refusal),
-}
-
-// The offset and the length of the entity text.
-pub fn entities(s: &[u8], map: BspData) -> EntitiesAnswer
-    ensures { entities_answer result ≡ entities_of s.now map }
+// Where the entity text lies.
+#[tactic(auto, using(crate::proofs::Texts::starts), unfolding(crate::specs::Text::entities_of))]
+pub fn entities(s: &[u8], map: BspData) -> Answer<Part>
+    ensures { answer_of result ≡ entities_of s.now map }
 {
-    let at = map.entities.offset as usize;
-    if s.len() <= at {
-        if map.entities.size == 0 {
-            return EntitiesAnswer::Value(at, 0);
-        }
-        return EntitiesAnswer::Refused(Refusal::Unreadable);
+    let offset = map.entities.offset as usize;
+    if offset < s.len() {
+        let size = text_end(s, offset) - offset;
+        return Ok(Part { offset, size });
     }
-    EntitiesAnswer::Value(at, text_end(s, at) - at)
+    if map.entities.size == 0 {
+        return Ok(Part { offset, size: 0 });
+    }
+    Err(Refusal::Unreadable)
 }
 
 // The entity text; empty where `entities` refuses.
+#[tactic(auto, using(crate::proofs::Texts::text_found, crate::proofs::Texts::text_none))]
 pub fn entity_text(s: &[u8], map: BspData) -> &[u8]
     ensures { result.now ≡ entity_text s.now map }
 {
-    let found = entities(s, map);
-    let EntitiesAnswer::Value(at, length) = found else {
-        return &s[..0];
+    let Ok(part) = entities(s, map) else {
+        return &[];
     };
-    if length == 0 {
-        return &s[..0];
+    match s.get(part.offset..part.offset + part.size) {
+        Some(text) => text,
+        None => &[],
     }
-    let end = at + length;
-    &s[at..end]
 }

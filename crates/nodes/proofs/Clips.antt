@@ -1,13 +1,13 @@
 -- A clip node as its words: what the reader at a position makes of them.
 -- Assumes nothing.
+use Rattle.std.specs.Prelude.{Option, Some, None}
+use Rattle.format.specs.declared.contents.BspLeafContents.{BspLeafContents}
 use Rattle.std.proofs.Common.{◌≡◌, ℕ, zero, suc, ◌+◌, ◌-◌, ◌/◌, ◌%◌, ◌<◌, ◌≤◌, Bool, true, false, cond, ltb, List, length, sym, refl, ap, ◌∙◌, subst, arith, w16, ltb-false, ltb-true, le-ltb, lt-ltb, ne_eqb}
 use Rattle.format.specs.Answer as Ans
 use Rattle.format.specs.Answer.{answer}
 use Rattle.format.specs.Step.{ok, refused}
 use Rattle.format.specs.Code.{contents_of}
 use Rattle.format.proofs.Codes.{high}
-use Rattle.format.specs.declared.code.CodedContents.{CodedContents}
-use Rattle.format.specs.declared.code.CodedContents.TheVariants.{Contents, Invalid}
 use Rattle.records.specs.Node.{with_contents, collision_child_at, collision_node_at}
 use Rattle.records.specs.declared.node.BspCollisionNodeChild.{BspCollisionNodeChild}
 use Rattle.records.specs.declared.node.BspCollisionNodeChild.TheVariants as C
@@ -95,10 +95,10 @@ module _ (s : List ℕ) (at w : ℕ) (e : w ≡ u16 s at) (fits : w < 65536) (h 
   unfolding collision_child_at
   above_half l = rw (i16_is s at h, ← e) (simp (le-ltb w 32768 l) (ap (λ k. with_contents k (λ c. ok (C.Contents c) (at + 2))) (rw (le-ltb w 32768 l) at (high_code w16 (omega arith) w (65536 - w) l (omega arith) (omega arith)))))
 
-  bad_case : (b : Bool) → ltb w 32768 ≡ b → (k : CodedContents) → contents_of (65536 - w) ≡ k → cond b false (is_invalid k) ≡ true → collision_child_at s at ≡ refused 10
+  bad_case : (b : Bool) → ltb w 32768 ≡ b → (k : Option BspLeafContents) → contents_of (65536 - w) ≡ k → cond b false (is_invalid k) ≡ true → collision_child_at s at ≡ refused 10
   bad_case true q k r t = let z : ◌≡◌ {A = ℕ} 0 1 = cc in absurd (omega arith)
-  bad_case false q (Contents c) r t = let z : ◌≡◌ {A = ℕ} 0 1 = cc in absurd (omega arith)
-  bad_case false q Invalid r t = above_half (ltb-false w 32768 q) ∙ rw r
+  bad_case false q (Some c) r t = let z : ◌≡◌ {A = ℕ} 0 1 = cc in absurd (omega arith)
+  bad_case false q None r t = above_half (ltb-false w 32768 q) ∙ rw r
 
   pub bad_child : invalid w ≡ true → collision_child_at s at ≡ refused 10
   unfolding invalid
@@ -107,10 +107,10 @@ module _ (s : List ℕ) (at w : ℕ) (e : w ≡ u16 s at) (fits : w < 65536) (h 
   abbrev pub Child : Type 0
   Child = (ch : BspCollisionNodeChild) × (collision_child_at s at ≡ ok ch (at + 2)) × (clip_child ch ≡ child_of Clip w)
 
-  good_case : (b : Bool) → ltb w 32768 ≡ b → (k : CodedContents) → contents_of (65536 - w) ≡ k → cond b false (is_invalid k) ≡ false → Child
+  good_case : (b : Bool) → ltb w 32768 ≡ b → (k : Option BspLeafContents) → contents_of (65536 - w) ≡ k → cond b false (is_invalid k) ≡ false → Child
   good_case true q k r t = (C.Node w, below_half (ltb-true w 32768 q), simp q)
-  good_case false q (Contents c) r t = (C.Contents c, above_half (ltb-false w 32768 q) ∙ rw r, simp (q, r))
-  good_case false q Invalid r t = let z : ◌≡◌ {A = ℕ} 0 1 = cc in absurd (omega arith)
+  good_case false q (Some c) r t = (C.Contents c, above_half (ltb-false w 32768 q) ∙ rw r, simp (q, r))
+  good_case false q None r t = let z : ◌≡◌ {A = ℕ} 0 1 = cc in absurd (omega arith)
 
   pub good_child : invalid w ≡ false → Child
   unfolding invalid

@@ -1,5 +1,6 @@
 -- A leaf's contents as its bytes: what the reader at a position makes of them.
 -- Assumes nothing.
+use Rattle.std.specs.Prelude.{Option, Some, None}
 use Rattle.std.proofs.Common.{◌≡◌, ℕ, suc, ◌+◌, ◌-◌, ◌<◌, ◌≤◌, List, length, pos, negsuc, arith, w32, to_z, le-ltb, lt-ltb}
 use Rattle.format.specs.Answer as Ans
 use Rattle.format.specs.Answer.{answer, mapped}
@@ -7,18 +8,16 @@ use Rattle.format.specs.Step.{ok, refused}
 use Rattle.format.specs.Code.{contents_of, negated_contents}
 use Rattle.format.proofs.Codes.{above}
 use Rattle.format.specs.declared.contents.BspLeafContents.{BspLeafContents}
-use Rattle.format.specs.declared.code.CodedContents.TheVariants.{Contents, Invalid}
 use Rattle.records.specs.Number.{offset_of, offset_at}
 use Rattle.records.specs.Access.{reading}
 use Rattle.records.specs.Leaf.{contents_at, leaf_end_at, leaf_at}
-use Rattle.records.specs.declared.number.OptionalOffset.{OptionalOffset}
 use Rattle.nodes.specs.Tables.{leaf_contents}
 use Rattle.nodes.specs.Fast.{u32, leaf_contents_here}
 use Rattle.nodes.proofs.Numbers.{low, high, high_code, i32_is, u16_is}
 use Rattle.nodes.proofs.Renders.{point}
 
 -- the fields that are not tested
-module _ (c : BspLeafContents) (o : OptionalOffset) (s : List ℕ) (at : ℕ) (h : at + 16 ≤ length s) where
+module _ (c : BspLeafContents) (o : Option ℕ) (s : List ℕ) (at : ℕ) (h : at + 16 ≤ length s) where
   first_place : at + 6 + 6 ≡ at + 12
   first_place = omega arith
 
@@ -52,11 +51,11 @@ module _ (s : List ℕ) (at code v : ℕ) (h : at + 28 ≤ length s) (is_code : 
     code_is : negated_contents w32 (to_z w32 code) ≡ contents_of m
     code_is = high_code w32 (omega arith) code m l (omega arith) (omega arith)
 
-    pub bad_code : contents_of m ≡ Invalid → Ans.refused 23 ≡ leaf_contents_here s at
+    pub bad_code : contents_of m ≡ None → Ans.refused 23 ≡ leaf_contents_here s at
     unfolding leaf_contents_here leaf_at contents_at
     bad_code q = rw (i32_is s at (omega arith), ← is_code, code_is, q)
 
-    module _ (c : BspLeafContents) (q : contents_of m ≡ Contents c) (is-v : v ≡ u32 s (at + 4)) where
+    module _ (c : BspLeafContents) (q : contents_of m ≡ Some c) (is-v : v ≡ u32 s (at + 4)) where
       box_place : at + 4 + 4 ≡ at + 8
       box_place = omega arith
 

@@ -1,5 +1,6 @@
 -- The bytes of a table that is whole: its nodes are as many, its planes and its leaves are those of the file.
 -- Assumes nothing.
+use Rattle.std.specs.Prelude.{Option, Some, None}
 use Rattle.std.proofs.Common.{◌≡◌, ℕ, ◌+◌, ◌-◌, ◌*◌, ◌/◌, ◌<◌, ◌≤◌, Bool, true, false, cond, ltb, List, length, ℤ, negsuc, sym, refl, ap, ◌∙◌, arith, w32, to_z, ltb-false, ltb-true, le-ltb, lt-ltb}
 use lib.Signed.{lt_z}
 use Rattle.format.specs.Answer as Ans
@@ -7,8 +8,6 @@ use Rattle.format.specs.Answer.{Answer, answer, mapped, then_answer}
 use Rattle.format.specs.Step.{ok, refused, and_then}
 use Rattle.format.specs.Code.{contents_of, negated_contents}
 use Rattle.format.specs.declared.contents.BspLeafContents.{BspLeafContents}
-use Rattle.format.specs.declared.code.CodedContents.{CodedContents}
-use Rattle.format.specs.declared.code.CodedContents.TheVariants.{Contents, Invalid}
 use Rattle.math.specs.Plane as Pl
 use Rattle.math.specs.declared.vector.Vector3.{Vector3}
 use Rattle.math.specs.declared.plane.Hyperplane.{Hyperplane}
@@ -47,7 +46,7 @@ module _ (render : Bool) (l : List ℕ) (w : ℕ) where
   unfolding end_among
   among_leaf e h x q = rw e (q ∙ simp (lt-ltb (65535 - w) (length l / 28) h))
 
-  pub among_code : render ≡ false → (k : CodedContents) → contents_of (65536 - w) ≡ k → coded_answer k ≡ end_among render l w
+  pub among_code : render ≡ false → (k : Option BspLeafContents) → contents_of (65536 - w) ≡ k → coded_answer k ≡ end_among render l w
   unfolding end_among
   among_code e k q = rw e (ap coded_answer (sym q))
 
@@ -57,9 +56,9 @@ abbrev by_offset : BspLeafContents → Bool → Answer BspLeafContents
 by_offset c true = Ans.refused 23
 by_offset c false = answer c
 
-abbrev by_code : CodedContents → ℤ → Answer BspLeafContents
-by_code (Contents c) y = by_offset c (lt_z y (negsuc 0))
-by_code Invalid y = Ans.refused 23
+abbrev by_code : Option BspLeafContents → ℤ → Answer BspLeafContents
+by_code (Some c) y = by_offset c (lt_z y (negsuc 0))
+by_code None y = Ans.refused 23
 
 module _ (s : List ℕ) (at : ℕ) (h : at + 28 ≤ length s) where
   box_place : at + 4 + 4 ≡ at + 8
@@ -70,11 +69,11 @@ module _ (s : List ℕ) (at : ℕ) (h : at + 28 ≤ length s) where
   with_offset c y true e = refl
   with_offset c y false e = rw box_place (rest_is c (offset_of y) s (at + 8) (omega arith))
 
-  with_code : (k : CodedContents)
+  with_code : (k : Option BspLeafContents)
       → mapped leaf_contents (reading (and_then (with_contents k (λ c. ok c (at + 4))) (λ c p. and_then (offset_at s p) (λ o q. leaf_end_at c o s q)))) ≡ by_code k (to_z w32 (u32 s (at + 4)))
   unfolding offset_at
-  with_code (Contents c) = rw (i32_is s (at + 4) (omega arith)) (with_offset c (to_z w32 (u32 s (at + 4))) (lt_z (to_z w32 (u32 s (at + 4))) (negsuc 0)) refl)
-  with_code Invalid = refl
+  with_code (Some c) = rw (i32_is s (at + 4) (omega arith)) (with_offset c (to_z w32 (u32 s (at + 4))) (lt_z (to_z w32 (u32 s (at + 4))) (negsuc 0)) refl)
+  with_code None = refl
 
   by_numbers : leaf_contents_here s at ≡ by_code (negated_contents w32 (to_z w32 (u32 s at))) (to_z w32 (u32 s (at + 4)))
   unfolding leaf_contents_here leaf_at contents_at
@@ -135,10 +134,10 @@ module _ (s : List ℕ) (t : Tables) (render : Bool) (n m l : List ℕ) (own : O
   at_leaf w true q = leaf_there (65535 - w) (ltb-true (65535 - w) t.leaves.count q)
   at_leaf w false q = refl
 
-  by_coded : (k : CodedContents) → coded_answer k ≡ meet (Fast.table s t) (coded k)
+  by_coded : (k : Option BspLeafContents) → coded_answer k ≡ meet (Fast.table s t) (coded k)
   unfolding meet
-  by_coded (Contents c) = refl
-  by_coded Invalid = refl
+  by_coded (Some c) = refl
+  by_coded None = refl
 
   by_table : (w : ℕ) (tab : HullTable) → is_box tab ≡ false
       → cond (is_render tab) (cond (ltb (65535 - w) (length l / 28)) (leaf_contents_here l ((65535 - w) * 28)) (Ans.refused 30)) (coded_answer (contents_of (65536 - w)))

@@ -1,11 +1,11 @@
 -- Where a record lies, and that its bytes are there.
 -- Assumes nothing.
+use Rattle.std.specs.Prelude.{Result, Ok}
+use Rattle.format.specs.declared.refusal.Refusal.{Refusal}
 use Rattle.std.proofs.Common.{◌≡◌, ℕ, ◌+◌, ◌*◌, ◌<◌, ◌≤◌, Bool, true, false, cond, leb, sym, refl, ap, ◌∙◌, mul-le-mul, arith, le-leb, leb-true}
+use Rattle.format.specs.Answers.{answer_of}
 use borrow.Author.Tests.{lt-leb}
 use Rattle.format.specs.Answer.{answer, refused}
-use Rattle.format.specs.Answers.{place_answer}
-use Rattle.format.specs.declared.section.Place.{Place}
-use Rattle.format.specs.declared.section.Place.TheVariants.{At}
 use Rattle.nodes.specs.Fast.{place_in}
 use Rattle.nodes.specs.declared.table.Part.{Part}
 
@@ -37,9 +37,9 @@ module _ (p : Part) (size n i : ℕ) where
       rw (← z) (leb-true (p.at + i * size + size) n q)
 
   -- a place that was given lies within the bytes
-  pub within : (r : Place) (at : ℕ) → place_answer r ≡ place_in p size n i → r ≡ At at → at + size ≤ n
+  pub within : (r : Result ℕ Refusal) (at : ℕ) → answer_of r ≡ place_in p size n i → r ≡ Ok at → at + size ≤ n
   unfolding place_in
-  within r at e q = by_tests (leb p.count i) (leb p.readable i) (leb (p.at + i * size + size) n) at refl (sym e ∙ ap place_answer q)
+  within r at e q = by_tests (leb p.count i) (leb p.readable i) (leb (p.at + i * size + size) n) at refl (sym e ∙ ap answer_of q)
 
 -- no product of an index and a size wraps
 pub small : (i size : ℕ) → i < 4294967296 → size < 256 → i * size ≤ 4294967296 * 256

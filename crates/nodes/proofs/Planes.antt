@@ -1,6 +1,8 @@
 -- A plane as its bytes: what the reader at a position makes of them, and what a plane of a type says of a point.
 -- Assumes nothing.
+use Rattle.std.specs.Prelude.{Result, Ok, Err}
 use Rattle.std.proofs.Common.{◌≡◌, ℕ, zero, suc, ◌+◌, ◌<◌, ◌≤◌, Bool, true, false, ltb, List, length, get_or, sym, refl, ap, ◌∙◌, arith, w32, to_z, ltb-false, ltb-true, le-ltb, lt-ltb, ne_eqb}
+use Rattle.format.specs.Answers.{answer_of}
 use lib.Ieee as Ieee
 use lib.Ieee.{Float, binary32, nan}
 use Rattle.format.specs.Answer as Ans
@@ -12,10 +14,7 @@ use Rattle.math.specs.declared.plane.Hyperplane.{Hyperplane}
 use Rattle.records.specs.Triple.{vector_at}
 use Rattle.records.specs.Plane.{file_plane, plane_at}
 use Rattle.format.specs.Refusal.{number_of}
-use Rattle.format.specs.Answers.{place_answer}
 use Rattle.format.specs.declared.refusal.Refusal.{Refusal}
-use Rattle.format.specs.declared.section.Place.{Place}
-use Rattle.format.specs.declared.section.Place.TheVariants.{At, Refused}
 use Rattle.nodes.specs.Fast.{u32, f32, along, point_of, normal, place_in, plane_with, plane_here, plane_read, plane_for, plane_of_index, plane_in, box_plane, two_dists}
 use Rattle.nodes.specs.Tables.{is_box}
 use Rattle.nodes.specs.declared.table.HullTable.{HullTable}
@@ -144,15 +143,15 @@ module _ (s : List ℕ) (t : Tables) (i : ℕ) where
     unfolding plane_in plane_of_index
     file_plane_lem e = simp (lt-ltb i t.planes.count h) (of_file t.table (sym is_b ∙ e))
 
-    module _ (e : b ≡ false) (r : Place) (is-r : place_answer r ≡ place_in t.planes 20 (length s) i) where
-      there : (x : Place) → r ≡ x → plane_in s t i ≡ then_answer (place_answer x) (plane_read s)
-      there x q = file_plane_lem e ∙ ap (λ a. then_answer a (plane_read s)) (sym is-r ∙ ap place_answer q)
+    module _ (e : b ≡ false) (r : Result ℕ Refusal) (is-r : answer_of r ≡ place_in t.planes 20 (length s) i) where
+      there : (x : Result ℕ Refusal) → r ≡ x → plane_in s t i ≡ then_answer (answer_of x) (plane_read s)
+      there x q = file_plane_lem e ∙ ap (λ a. then_answer a (plane_read s)) (sym is-r ∙ ap answer_of q)
 
-      pub plane_at_lem : (at : ℕ) → r ≡ At at → plane_in s t i ≡ answer (plane_here s at)
-      plane_at_lem at q = there (At at) q ∙ plane_is s at (within t.planes 20 (length s) i r at is-r q)
+      pub plane_at_lem : (at : ℕ) → r ≡ Ok at → plane_in s t i ≡ answer (plane_here s at)
+      plane_at_lem at q = there (Ok at) q ∙ plane_is s at (within t.planes 20 (length s) i r at is-r q)
 
-      pub plane_not : (x : Refusal) → r ≡ Refused x → plane_in s t i ≡ Ans.refused (number_of x)
-      plane_not x q = there (Refused x) q
+      pub plane_not : (x : Refusal) → r ≡ Err x → plane_in s t i ≡ Ans.refused (number_of x)
+      plane_not x q = there (Err x) q
 
 -- two distances, one after the other
 pub with_two : (p q : Vector3) (h : Hyperplane) (x y : Float) → x ≡ Pl.point_dist h p → y ≡ Pl.point_dist h q → ◌≡◌ {A = Float × Float} (x, y) (two_dists p q h)

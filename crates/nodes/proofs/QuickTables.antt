@@ -1,12 +1,11 @@
 -- What a quick walk and the code of an end say of the tables of a map record.
 -- Assumes nothing.
+use Rattle.std.specs.Prelude.{Option, Some, None}
 use Rattle.std.proofs.Common.{◌≡◌, ℕ, ◌-◌, ◌/◌, ◌%◌, Bool, true, false, List, sym, refl, ap, ◌∙◌}
 use Rattle.format.specs.Answer as Ans
 use Rattle.format.specs.Answer.{Answer, answer}
 use Rattle.format.specs.Code.{contents_of}
 use Rattle.format.specs.Contents.{code_of}
-use Rattle.format.specs.declared.code.CodedContents.{CodedContents}
-use Rattle.format.specs.declared.code.CodedContents.TheVariants.{Contents, Invalid}
 use Rattle.format.specs.declared.contents.BspLeafContents.{BspLeafContents}
 use Rattle.format.specs.declared.section.BspData.{BspData}
 use Rattle.math.specs.declared.vector.Vector3.{Vector3}
@@ -38,10 +37,10 @@ module _ (s : List ℕ) (m : BspData) (a b : Vector3) where
   same_ends true = refl
   same_ends false = refl
 
-  same_coded : (x : CodedContents) → meet (table s (leaves_by false (of_map false).leaves.at (of_map false).leaves.count)) (Fast.coded x) ≡ meet (table s (of_map false)) (Fast.coded x)
+  same_coded : (x : Option BspLeafContents) → meet (table s (leaves_by false (of_map false).leaves.at (of_map false).leaves.count)) (Fast.coded x) ≡ meet (table s (of_map false)) (Fast.coded x)
   unfolding meet
-  same_coded (Contents c) = refl
-  same_coded Invalid = refl
+  same_coded (Some c) = refl
+  same_coded None = refl
 
   same_met : (k : Bool) (w : ℕ) → contents_met s (leaves_by k (of_map k).leaves.at (of_map k).leaves.count) w ≡ contents_met s (of_map k) w
   unfolding contents_met meet

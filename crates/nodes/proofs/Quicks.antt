@@ -1,16 +1,13 @@
 -- Each way through a walk by the bytes of whole sections, which says nothing where the walk is refused; and the code of the contents at an end.
 -- Assumes nothing.
+use Rattle.std.specs.Prelude.{Option, Some, None, Result, Ok, Err}
 use Rattle.std.proofs.Common.{◌≡◌, ℕ, ◌+◌, ◌-◌, ◌*◌, ◌/◌, ◌%◌, ◌<◌, ◌≤◌, Bool, true, false, cond, ltb, List, length, sym, refl, ap, ◌∙◌, arith, ltb-false, ltb-true, ne_eqb}
+use Rattle.format.specs.Answers.{answer_of}
 use Rattle.format.specs.Answer as Ans
 use Rattle.format.specs.Answer.{Answer, answer, then_answer}
-use Rattle.format.specs.Answers.{place_answer}
 use Rattle.format.specs.Code.{contents_of}
-use Rattle.format.specs.declared.code.CodedContents.{CodedContents}
-use Rattle.format.specs.declared.code.CodedContents.TheVariants.{Contents, Invalid}
 use Rattle.format.specs.declared.contents.BspLeafContents.{BspLeafContents}
 use Rattle.format.specs.declared.refusal.Refusal.{Refusal}
-use Rattle.format.specs.declared.section.Place.{Place}
-use Rattle.format.specs.declared.section.Place.TheVariants as P
 use Rattle.math.specs.declared.vector.Vector3.{Vector3}
 use Rattle.walk.specs.Walk.{with_visits, meet, walk}
 use Rattle.walk.specs.Private.{after}
@@ -145,10 +142,10 @@ module _ (s : List ℕ) (a n w : ℕ) where
   unfolding end_code contents_met meet
   by_leaf = by_count (ltb (65535 - w) n) refl
 
-  by_coded : (x : CodedContents) → said x ≡ meet (table s (leaves_by false a n)) (coded x)
+  by_coded : (x : Option BspLeafContents) → said x ≡ meet (table s (leaves_by false a n)) (coded x)
   unfolding meet
-  by_coded (Contents c) = refl
-  by_coded Invalid = refl
+  by_coded (Some c) = refl
+  by_coded None = refl
 
   by_said : code_or (word_contents w) ≡ end_code s false a n w
   unfolding end_code contents_met
@@ -158,12 +155,12 @@ module _ (s : List ℕ) (a n w : ℕ) where
     pub code_word : k ≡ false → (c : ℕ) → c ≡ code_or (word_contents w) → c ≡ end_code s k a n w
     code_word e c q = rw e (q ∙ by_said)
 
-    module _ (e : k ≡ true) (r : Place) (is-r : place_answer r ≡ place_in (part_with a n 32767) 28 (length s) (65535 - w)) where
-      at_place : code_or (then_answer (place_answer r) (leaf_contents_here s)) ≡ end_code s k a n w
+    module _ (e : k ≡ true) (r : Result ℕ Refusal) (is-r : answer_of r ≡ place_in (part_with a n 32767) 28 (length s) (65535 - w)) where
+      at_place : code_or (then_answer (answer_of r) (leaf_contents_here s)) ≡ end_code s k a n w
       at_place = rw e (ap (λ (x : Answer ℕ). code_or (then_answer x (leaf_contents_here s))) is-r ∙ by_leaf)
 
-      pub code_none : (x : Refusal) → r ≡ P.Refused x → 0 ≡ end_code s k a n w
-      code_none x q = ap (λ y. code_or (then_answer (place_answer y) (leaf_contents_here s))) (sym q) ∙ at_place
+      pub code_none : (x : Refusal) → r ≡ Err x → 0 ≡ end_code s k a n w
+      code_none x q = ap (λ y. code_or (then_answer (answer_of y) (leaf_contents_here s))) (sym q) ∙ at_place
 
-      pub code_leaf : (at : ℕ) → r ≡ P.At at → (c : ℕ) → c ≡ code_or (leaf_contents_here s at) → c ≡ end_code s k a n w
-      code_leaf at q c is_c = is_c ∙ ap (λ y. code_or (then_answer (place_answer y) (leaf_contents_here s))) (sym q) ∙ at_place
+      pub code_leaf : (at : ℕ) → r ≡ Ok at → (c : ℕ) → c ≡ code_or (leaf_contents_here s at) → c ≡ end_code s k a n w
+      code_leaf at q c is_c = is_c ∙ ap (λ y. code_or (then_answer (answer_of y) (leaf_contents_here s))) (sym q) ∙ at_place

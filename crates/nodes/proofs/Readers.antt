@@ -1,16 +1,14 @@
 -- A node and an end, by which table it is of.
 -- Assumes nothing.
+use Rattle.std.specs.Prelude.{Option, Result, Ok, Err}
 use Rattle.std.proofs.Common.{◌≡◌, ℕ, zero, suc, ◌-◌, ◌<◌, ◌≤◌, Bool, true, false, List, [], ◌∷◌, length, sym, refl, ap, ◌∙◌, arith, le-ltb, lt-ltb}
+use Rattle.format.specs.Answers.{answer_of}
 use Rattle.format.specs.Answer as Ans
 use Rattle.format.specs.Answer.{Answer, then_answer}
 use Rattle.format.specs.Refusal.{number_of}
 use Rattle.format.specs.Code.{contents_of}
-use Rattle.format.specs.Answers.{place_answer}
 use Rattle.format.specs.declared.contents.BspLeafContents.{BspLeafContents}
-use Rattle.format.specs.declared.code.CodedContents.{CodedContents}
 use Rattle.format.specs.declared.refusal.Refusal.{Refusal}
-use Rattle.format.specs.declared.section.Place.{Place}
-use Rattle.format.specs.declared.section.Place.TheVariants.{At, Refused}
 use Rattle.walk.specs.Walk.{meet}
 use Rattle.nodes.specs.Tables.{nth, is_box, file_table}
 use Rattle.nodes.specs.Fast.{is_render, place_in, coded, words_answer, render_node_here, clip_node_here, box_node, node_in, node_at, leaf_contents_here, end_of, table, contents_met}
@@ -44,19 +42,19 @@ module _ (s : List ℕ) (p : Part) (i : ℕ) (b : Bool) where
       by true = ap (λ x. then_answer x (render_node_here s)) (none p 24 (length s) i h)
       by false = ap (λ x. then_answer x (clip_node_here s)) (none p 8 (length s) i h)
 
-  module _ (e : b ≡ true) (r : Place) (is-r : place_answer r ≡ place_in p 24 (length s) i) where
-    pub render_at : (w : ReadWords) (at : ℕ) → r ≡ At at → words_answer Render w ≡ render_node_here s at → words_answer (file_table b) w ≡ node_in (file_table b) s p i
-    render_at w at q a = rw e (a ∙ sym (ap (λ x. then_answer x (render_node_here s)) (sym is-r ∙ ap place_answer q)))
+  module _ (e : b ≡ true) (r : Result ℕ Refusal) (is-r : answer_of r ≡ place_in p 24 (length s) i) where
+    pub render_at : (w : ReadWords) (at : ℕ) → r ≡ Ok at → words_answer Render w ≡ render_node_here s at → words_answer (file_table b) w ≡ node_in (file_table b) s p i
+    render_at w at q a = rw e (a ∙ sym (ap (λ x. then_answer x (render_node_here s)) (sym is-r ∙ ap answer_of q)))
 
-    pub render_not : (x : Refusal) → r ≡ Refused x → Ans.refused (number_of x) ≡ node_in (file_table b) s p i
-    render_not x q = rw e (sym (ap (λ y. then_answer y (render_node_here s)) (sym is-r ∙ ap place_answer q)))
+    pub render_not : (x : Refusal) → r ≡ Err x → Ans.refused (number_of x) ≡ node_in (file_table b) s p i
+    render_not x q = rw e (sym (ap (λ y. then_answer y (render_node_here s)) (sym is-r ∙ ap answer_of q)))
 
-  module _ (e : b ≡ false) (r : Place) (is-r : place_answer r ≡ place_in p 8 (length s) i) where
-    pub clip_at : (w : ReadWords) (at : ℕ) → r ≡ At at → words_answer Clip w ≡ clip_node_here s at → words_answer (file_table b) w ≡ node_in (file_table b) s p i
-    clip_at w at q a = rw e (a ∙ sym (ap (λ x. then_answer x (clip_node_here s)) (sym is-r ∙ ap place_answer q)))
+  module _ (e : b ≡ false) (r : Result ℕ Refusal) (is-r : answer_of r ≡ place_in p 8 (length s) i) where
+    pub clip_at : (w : ReadWords) (at : ℕ) → r ≡ Ok at → words_answer Clip w ≡ clip_node_here s at → words_answer (file_table b) w ≡ node_in (file_table b) s p i
+    clip_at w at q a = rw e (a ∙ sym (ap (λ x. then_answer x (clip_node_here s)) (sym is-r ∙ ap answer_of q)))
 
-    pub clip_not : (x : Refusal) → r ≡ Refused x → Ans.refused (number_of x) ≡ node_in (file_table b) s p i
-    clip_not x q = rw e (sym (ap (λ y. then_answer y (clip_node_here s)) (sym is-r ∙ ap place_answer q)))
+    pub clip_not : (x : Refusal) → r ≡ Err x → Ans.refused (number_of x) ≡ node_in (file_table b) s p i
+    clip_not x q = rw e (sym (ap (λ y. then_answer y (clip_node_here s)) (sym is-r ∙ ap answer_of q)))
 
 -- of a box or of the file
 module _ (s : List ℕ) (t : Tables) (i : ℕ) (w : ReadWords) (b : Bool) (is_b : b ≡ is_box t.table) where
@@ -89,22 +87,22 @@ module _ (s : List ℕ) (t : Tables) (w : ℕ) (b : Bool) (is_b : b ≡ is_rende
     unfolding contents_met meet
     no_leaf h = rw is_render_lem (simp (le-ltb (65535 - w) t.leaves.count h))
 
-    module _ (h : 65535 - w < t.leaves.count) (r : Place) (is-r : place_answer r ≡ place_in t.leaves 28 (length s) (65535 - w)) where
-      at_place : then_answer (place_answer r) (leaf_contents_here s) ≡ contents_met s t w
+    module _ (h : 65535 - w < t.leaves.count) (r : Result ℕ Refusal) (is-r : answer_of r ≡ place_in t.leaves 28 (length s) (65535 - w)) where
+      at_place : then_answer (answer_of r) (leaf_contents_here s) ≡ contents_met s t w
       unfolding contents_met meet
       at_place = rw (is_render_lem, is-r) (simp (lt-ltb (65535 - w) t.leaves.count h))
 
-      pub leaf_at_lem : (at : ℕ) (x : Answer BspLeafContents) → r ≡ At at → x ≡ leaf_contents_here s at → x ≡ contents_met s t w
-      leaf_at_lem at x q a = a ∙ sym (ap (λ y. then_answer (place_answer y) (leaf_contents_here s)) q) ∙ at_place
+      pub leaf_at_lem : (at : ℕ) (x : Answer BspLeafContents) → r ≡ Ok at → x ≡ leaf_contents_here s at → x ≡ contents_met s t w
+      leaf_at_lem at x q a = a ∙ sym (ap (λ y. then_answer (answer_of y) (leaf_contents_here s)) q) ∙ at_place
 
-      pub leaf_not : (x : Refusal) → r ≡ Refused x → Ans.refused (number_of x) ≡ contents_met s t w
-      leaf_not x q = sym (ap (λ y. then_answer (place_answer y) (leaf_contents_here s)) q) ∙ at_place
+      pub leaf_not : (x : Refusal) → r ≡ Err x → Ans.refused (number_of x) ≡ contents_met s t w
+      leaf_not x q = sym (ap (λ y. then_answer (answer_of y) (leaf_contents_here s)) q) ∙ at_place
 
   by_code : (tab : HullTable) → is_render tab ≡ false → coded (contents_of (65536 - w)) ≡ end_of tab w
   by_code Render e = let z : ◌≡◌ {A = ℕ} 0 1 = cc in absurd (omega arith)
   by_code Clip e = refl
   by_code Box e = refl
 
-  pub code_met : b ≡ false → (k l : CodedContents) → k ≡ contents_of (65536 - w) → k ≡ l → meet (table s t) (coded l) ≡ contents_met s t w
+  pub code_met : b ≡ false → (k l : Option BspLeafContents) → k ≡ contents_of (65536 - w) → k ≡ l → meet (table s t) (coded l) ≡ contents_met s t w
   unfolding contents_met
   code_met e k l is-k q = ap (λ x. meet (table s t) (coded x)) (sym q ∙ is-k) ∙ ap (meet (table s t)) (by_code t.table (sym is_b ∙ e))

@@ -1,7 +1,7 @@
 -- For the contracts of functions below the calls; a reader of the calls may leave this file out.
 -- The node tables as the readers of this crate go by them: fields at a place, the parts of the file and where a record lies in one, nodes as words,
 -- planes, what an end says; and of these `table`, which is `table_of` of Tables.antt (proofs/Equal.antt).
-use Rattle.std.specs.Prelude.{◌≡◌, ℕ, ◌+◌, ◌-◌, ◌*◌, ◌/◌, ◌%◌, ◌<◌, ◌≤◌, Bool, true, false, cond, List, length, ◌==◌, from_bits, nat_le, nat_lt, slice_index, slice_index_or, Float}
+use Rattle.std.specs.Prelude.{Option, Some, None, ◌≡◌, ℕ, ◌+◌, ◌-◌, ◌*◌, ◌/◌, ◌%◌, ◌<◌, ◌≤◌, Bool, true, false, cond, List, length, ◌==◌, from_bits, nat_le, nat_lt, slice_index, slice_index_or, Float}
 use Rattle.std.specs.Float.{binary32, nan}
 use Rattle.math.specs.Vector as Vec
 use Rattle.math.specs.Plane as Pl
@@ -12,8 +12,6 @@ use Rattle.format.specs.Answer.{Answer, answer, refused, mapped, then_answer}
 use Rattle.format.specs.Refusal.{number_of}
 use Rattle.format.specs.Code.{contents_of}
 use Rattle.format.specs.declared.contents.BspLeafContents.{BspLeafContents}
-use Rattle.format.specs.declared.code.CodedContents.{CodedContents}
-use Rattle.format.specs.declared.code.CodedContents.TheVariants.{Contents, Invalid}
 use Rattle.format.specs.declared.section.BspData.{BspData}
 use Rattle.format.specs.declared.section.BspFileSection.{BspFileSection}
 use Rattle.records.specs.Access.{reading}
@@ -112,9 +110,9 @@ place_in p size n i =
 -- ---- nodes as words
 
 -- the end that a code stands for
-abbrev pub coded : CodedContents → End
-coded (Contents c) = contents c
-coded Invalid = nothing
+abbrev pub coded : Option BspLeafContents → End
+coded (Some c) = contents c
+coded None = nothing
 
 -- the end that a word from 2^15 on stands for: a leaf's number or a contents code, in two's complement
 abbrev pub end_of : HullTable → ℕ → End
@@ -139,9 +137,9 @@ abbrev pub word_on : Words → Bool → ℕ
 word_on w true = front_of w
 word_on w false = back_of w
 
-abbrev pub is_invalid : CodedContents → Bool
-is_invalid (Contents c) = false
-is_invalid Invalid = true
+abbrev pub is_invalid : Option BspLeafContents → Bool
+is_invalid (Some c) = false
+is_invalid None = true
 
 -- neither a node nor contents
 unfoldable pub invalid : ℕ → Bool

@@ -1,12 +1,10 @@
 -- For the contracts of functions below the calls; a reader of the calls may leave this file out.
 -- What a trace reads from the bytes of planes and leaves (`sides_in`, `end_in`), and the bytes of a table that is whole, leaves too.
-use Rattle.std.specs.Prelude.{◌≡◌, ℕ, ◌-◌, ◌*◌, ◌/◌, Bool, true, false, cond, List, length, nat_lt}
+use Rattle.std.specs.Prelude.{Option, Some, None, ◌≡◌, ℕ, ◌-◌, ◌*◌, ◌/◌, Bool, true, false, cond, List, length, nat_lt}
 use Rattle.format.specs.Answer.{Answer, answer, refused}
 use Rattle.format.specs.Refusal.{number_of}
 use Rattle.format.specs.Code.{contents_of}
 use Rattle.format.specs.declared.contents.BspLeafContents.{BspLeafContents}
-use Rattle.format.specs.declared.code.CodedContents.{CodedContents}
-use Rattle.format.specs.declared.code.CodedContents.TheVariants.{Contents, Invalid}
 use Rattle.math.specs.Plane as Pl
 use Rattle.math.specs.declared.vector.Vector3.{Vector3}
 use Rattle.math.specs.declared.plane.Hyperplane.{Hyperplane}
@@ -31,9 +29,9 @@ abbrev pub plane_of : List ℕ → ℕ → Answer Hyperplane
 plane_of m i = plane_numbered m (length m / 20) i
 
 -- the contents of the end that a word stands for, by the bytes of the leaves
-abbrev pub coded_answer : CodedContents → Answer BspLeafContents
-coded_answer (Contents c) = answer c
-coded_answer Invalid = refused 23
+abbrev pub coded_answer : Option BspLeafContents → Answer BspLeafContents
+coded_answer (Some c) = answer c
+coded_answer None = refused 23
 
 unfoldable pub end_among : Bool → List ℕ → ℕ → Answer BspLeafContents
 end_among render l w =

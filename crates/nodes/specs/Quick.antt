@@ -1,12 +1,10 @@
 -- For the contracts of functions below the calls; a reader of the calls may leave this file out.
 -- The walk of a point where the file has all nodes and planes (`walk_quick`), and the code of the contents at an end (`end_code`), both as one
 -- number, which is 0 where nothing is said.
-use Rattle.std.specs.Prelude.{◌≡◌, ℕ, ◌-◌, ◌/◌, ◌%◌, Bool, true, cond, List, length, ◌==◌, nat_lt}
+use Rattle.std.specs.Prelude.{Option, Some, None, ◌≡◌, ℕ, ◌-◌, ◌/◌, ◌%◌, Bool, true, cond, List, length, ◌==◌, nat_lt}
 use Rattle.format.specs.Answer.{Answer, answer, refused}
 use Rattle.format.specs.Code.{contents_of}
 use Rattle.format.specs.Contents.{code_of}
-use Rattle.format.specs.declared.code.CodedContents.{CodedContents}
-use Rattle.format.specs.declared.code.CodedContents.TheVariants.{Contents, Invalid}
 use Rattle.format.specs.declared.contents.BspLeafContents.{BspLeafContents}
 use Rattle.math.specs.Vector as Vec
 use Rattle.math.specs.declared.vector.Vector3.{Vector3}
@@ -81,9 +79,9 @@ code_or (answer c) = code_of c
 code_or (refused n) = 0
 
 -- what a word of a clip node says
-abbrev pub said : CodedContents → Answer BspLeafContents
-said (Contents c) = answer c
-said Invalid = refused 23
+abbrev pub said : Option BspLeafContents → Answer BspLeafContents
+said (Some c) = answer c
+said None = refused 23
 
 abbrev pub word_contents : ℕ → Answer BspLeafContents
 word_contents w = said (contents_of (65536 - w))

@@ -10,8 +10,8 @@ use crate::here::{along, leaf_contents, normal_at};
 use crate::read::{EndContents, is_front};
 use crate::table::Tables;
 use crate::whole::{are_whole, bytes_of, is_whole};
-use format::code::{CodedContents, contents_of};
-use format::refusal::Refusal;
+use format::code::contents_of;
+use format::refusal::{Answer, Refusal};
 use math::{Hyperplane, Vector3};
 
 // Whether two points are on the positive side of a plane.
@@ -58,8 +58,8 @@ pub fn end_in(leaves: &[u8], render: bool, word: u16) -> EndContents
         return leaf_contents(leaves, leaf * 28);
     }
     match contents_of(65536 - (word as u32)) {
-        CodedContents::Contents(c) => EndContents::Contents(c),
-        CodedContents::Invalid => EndContents::Refused(Refusal::Unreadable),
+        Some(c) => EndContents::Contents(c),
+        None => EndContents::Refused(Refusal::Unreadable),
     }
 }
 

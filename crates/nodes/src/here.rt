@@ -6,8 +6,8 @@ ghost use Rattle.nodes.specs.Fast as Fast;
 use crate::bytes::{f32_at, pair_at, u16_at, u32_at};
 use crate::lines::point_of;
 use crate::read::{Dists, EndContents, ReadWords, Words};
-use format::code::{CodedContents, contents_of};
-use format::refusal::Refusal;
+use format::code::contents_of;
+use format::refusal::{Answer, Refusal};
 use math::{Hyperplane, Vector3};
 
 // Whether the word of a clip node's child is neither a node nor contents: the codes are 65536 less it, 1 to 6 and 9 to 14. With 14 added
@@ -133,8 +133,8 @@ pub fn leaf_contents(s: &[u8], at: usize) -> EndContents
         return EndContents::Refused(Refusal::Unreadable);
     }
     match contents_of(4294967295 - code + 1) {
-        CodedContents::Invalid => EndContents::Refused(Refusal::Unreadable),
-        CodedContents::Contents(c) => {
+        None => EndContents::Refused(Refusal::Unreadable),
+        Some(c) => {
             if 2147483648 <= offset {
                 if offset < 4294967295 {
                     return EndContents::Refused(Refusal::Unreadable);

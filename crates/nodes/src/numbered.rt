@@ -1,17 +1,16 @@
 // Planes of the file by their number, from the bytes of those that can be read: for a node table that a caller lends, whose planes are the
 // file's. One test of the number (30) and one of the bytes (23) a plane.
 ghost use Rattle.std.specs.Prelude.{◌≡◌, ◌/◌, min, if◌then◌else◌};
-ghost use Rattle.records.specs.Answers.{plane_answer};
+ghost use Rattle.format.specs.Answers.{answer_of};
 ghost use Rattle.nodes.specs.Fast as Fast;
 ghost use Rattle.nodes.specs.Numbered as Numbered;
 
 use crate::bytes::{f32_at, u32_at};
 use crate::here::{along, normal_at};
 use crate::read::{Dists, is_front};
-use format::refusal::Refusal;
+use format::refusal::{Answer, Refusal};
 use format::section::BspFileSection;
 use math::{Hyperplane, Vector3};
-use records::plane::PlaneAnswer;
 
 // One of two numbers, or why the plane that decides cannot be read.
 #[derive(Clone, Copy)]
@@ -114,18 +113,18 @@ pub fn dists_by_number(planes: &[u8], count: u32, number: u32, p: Vector3, q: Ve
 }
 
 // The plane of a number.
-pub fn plane_by_number(planes: &[u8], count: u32, number: u32) -> PlaneAnswer
-    ensures { plane_answer result ≡ Numbered.plane_numbered planes.now count number }
+pub fn plane_by_number(planes: &[u8], count: u32, number: u32) -> Answer<Hyperplane>
+    ensures { answer_of result ≡ Numbered.plane_numbered planes.now count number }
 {
     if count <= number {
-        return PlaneAnswer::Refused(Refusal::IndexOutsideTable);
+        return Err(Refusal::IndexOutsideTable);
     }
     let at = (number as usize) * 20;
     if planes.len() < at + 20 {
-        return PlaneAnswer::Refused(Refusal::Unreadable);
+        return Err(Refusal::Unreadable);
     }
     let dist = f32_at(planes, at + 12);
-    PlaneAnswer::Value(match u32_at(planes, at + 16) {
+    Ok(match u32_at(planes, at + 16) {
         0 => Hyperplane::axis_x(dist),
         1 => Hyperplane::axis_y(dist),
         2 => Hyperplane::axis_z(dist),

@@ -14,9 +14,8 @@ use crate::read::{EndContents, ReadWords, Words, is_front};
 use crate::table::{HullTable, Part, Tables};
 use crate::walking::Onward;
 use crate::whole::{are_whole, node_bytes, node_count, plane_bytes, words_in};
-use format::code::{CodedContents, contents_of};
+use format::code::contents_of;
 use format::refusal::Refusal;
-use format::section::Place;
 use math::{Hyperplane, Vector3};
 
 // The child's word on the point's side of the plane at a place. The side is a branch, and another one for each axis: where the points move
@@ -177,8 +176,8 @@ fn word_code(word: u16) -> u32
     ensures { result ≡ Quick.code_or (Quick.word_contents word) }
 {
     match contents_of(65536 - (word as u32)) {
-        CodedContents::Invalid => 0,
-        CodedContents::Contents(contents) => contents.code(),
+        None => 0,
+        Some(contents) => contents.code(),
     }
 }
 
@@ -189,8 +188,8 @@ pub fn end_code(s: &[u8], at: u32, count: u32, render: bool, word: u16) -> u32
     if render {
         let leaves = part_with(at, count, 32767);
         return match leaves.place(28, s.len(), (65535 - word) as usize) {
-            Place::Refused(_) => 0,
-            Place::At(from) => leaf_code(s, from),
+            Err(_) => 0,
+            Ok(from) => leaf_code(s, from),
         };
     }
     word_code(word)

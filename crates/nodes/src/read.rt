@@ -1,18 +1,16 @@
 // What a walk or a trace reads of a node, of its plane and of an end.
 ghost use Rattle.std.specs.Prelude.{◌≡◌};
+ghost use Rattle.format.specs.Answers.{answer_of};
 ghost use Rattle.math.specs.Plane as Pl;
-ghost use Rattle.records.specs.Answers.{plane_answer};
 ghost use Rattle.nodes.specs.Fast as Fast;
 ghost use Rattle.nodes.specs.Tables as Spec;
 
 use crate::here::{clip_words, leaf_contents, plane_here, render_words};
 use crate::table::{HullTable, Part, Tables};
-use format::code::{CodedContents, contents_of};
+use format::code::contents_of;
 use format::contents::BspLeafContents;
-use format::refusal::Refusal;
-use format::section::Place;
+use format::refusal::{Answer, Refusal};
 use math::{Hyperplane, HyperplaneSide, Vector3};
-use records::plane::PlaneAnswer;
 
 // A node's plane, and its children's words as one number: the front one's and 65536 times the back one's. A word below 2^15 is a node, any
 // other an end.
@@ -103,13 +101,13 @@ fn file_words(s: &[u8], nodes: Part, render: bool, index: usize) -> ReadWords
     }
     if render {
         return match nodes.place(24, s.len(), index) {
-            Place::At(at) => render_words(s, at),
-            Place::Refused(e) => ReadWords::Refused(e),
+            Ok(at) => render_words(s, at),
+            Err(e) => ReadWords::Refused(e),
         };
     }
     match nodes.place(8, s.len(), index) {
-        Place::At(at) => clip_words(s, at),
-        Place::Refused(e) => ReadWords::Refused(e),
+        Ok(at) => clip_words(s, at),
+        Err(e) => ReadWords::Refused(e),
     }
 }
 
@@ -135,36 +133,34 @@ pub fn is_front(side: HyperplaneSide) -> bool
 }
 
 // The planes of a box, in the order of `for_bounds`.
-fn box_plane(mins: Vector3, maxs: Vector3, index: usize) -> PlaneAnswer
-    ensures { plane_answer result ≡ Fast.box_plane mins maxs index }
+fn box_plane(mins: Vector3, maxs: Vector3, index: usize) -> Answer<Hyperplane>
+    ensures { answer_of result ≡ Fast.box_plane mins maxs index }
 {
     match index {
-        0 => PlaneAnswer::Value(Hyperplane::axis_x(maxs.x)),
-        1 => PlaneAnswer::Value(Hyperplane::axis_x(mins.x)),
-        2 => PlaneAnswer::Value(Hyperplane::axis_y(maxs.y)),
-        3 => PlaneAnswer::Value(Hyperplane::axis_y(mins.y)),
-        4 => PlaneAnswer::Value(Hyperplane::axis_z(maxs.z)),
-        5 => PlaneAnswer::Value(Hyperplane::axis_z(mins.z)),
-        _ => PlaneAnswer::Refused(Refusal::NoSuchRecord),
+        0 => Ok(Hyperplane::axis_x(maxs.x)),
+        1 => Ok(Hyperplane::axis_x(mins.x)),
+        2 => Ok(Hyperplane::axis_y(maxs.y)),
+        3 => Ok(Hyperplane::axis_y(mins.y)),
+        4 => Ok(Hyperplane::axis_z(maxs.z)),
+        5 => Ok(Hyperplane::axis_z(mins.z)),
+        _ => Err(Refusal::NoSuchRecord),
     }
 }
 
 // The plane of an index.
-pub fn plane_at(s: &[u8], t: Tables, index: usize) -> PlaneAnswer
-    ensures { plane_answer result ≡ Fast.plane_in s.now t index }
+pub fn plane_at(s: &[u8], t: Tables, index: usize) -> Answer<Hyperplane>
+    ensures { answer_of result ≡ Fast.plane_in s.now t index }
 {
     let table = t.table;
     let planes = t.planes;
     if (planes.count as usize) <= index {
-        return PlaneAnswer::Refused(Refusal::IndexOutsideTable);
+        return Err(Refusal::IndexOutsideTable);
     }
     if table.is_box() {
         return box_plane(t.mins, t.maxs, index);
     }
-    match planes.place(20, s.len(), index) {
-        Place::At(at) => PlaneAnswer::Value(plane_here(s, at)),
-        Place::Refused(e) => PlaneAnswer::Refused(e),
-    }
+    let at = planes.place(20, s.len(), index)?;
+    Ok(plane_here(s, at))
 }
 
 // How far two points are from the plane of an index.
@@ -172,8 +168,8 @@ pub fn dists_at(s: &[u8], t: Tables, index: usize, p: Vector3, q: Vector3) -> Di
     ensures { Fast.dists_answer result ≡ Fast.dists_from p q (Fast.plane_in s.now t index) }
 {
     match plane_at(s, t, index) {
-        PlaneAnswer::Value(h) => Dists::Two(h.point_dist(p), h.point_dist(q)),
-        PlaneAnswer::Refused(e) => Dists::Refused(e),
+        Ok(h) => Dists::Two(h.point_dist(p), h.point_dist(q)),
+        Err(e) => Dists::Refused(e),
     }
 }
 
@@ -182,8 +178,8 @@ pub fn side_at(s: &[u8], t: Tables, index: usize, p: Vector3) -> Sided
     ensures { Fast.sided_answer result ≡ Fast.side_from p (Fast.plane_in s.now t index) }
 {
     match plane_at(s, t, index) {
-        PlaneAnswer::Value(h) => Sided::Front(is_front(h.point_side(p))),
-        PlaneAnswer::Refused(e) => Sided::Refused(e),
+        Ok(h) => Sided::Front(is_front(h.point_side(p))),
+        Err(e) => Sided::Refused(e),
     }
 }
 
@@ -199,12 +195,12 @@ pub fn end_contents(s: &[u8], t: Tables, word: u16) -> EndContents
             return EndContents::Refused(Refusal::IndexOutsideTable);
         }
         return match leaves.place(28, s.len(), leaf) {
-            Place::At(at) => leaf_contents(s, at),
-            Place::Refused(e) => EndContents::Refused(e),
+            Ok(at) => leaf_contents(s, at),
+            Err(e) => EndContents::Refused(e),
         };
     }
     match contents_of(65536 - (word as u32)) {
-        CodedContents::Contents(c) => EndContents::Contents(c),
-        CodedContents::Invalid => EndContents::Refused(Refusal::Unreadable),
+        Some(c) => EndContents::Contents(c),
+        None => EndContents::Refused(Refusal::Unreadable),
     }
 }

@@ -1,11 +1,11 @@
 // Which nodes a hull goes by, and where they lie in the file.
 ghost use Rattle.std.specs.Prelude.{◌≡◌};
+ghost use Rattle.format.specs.Answers.{answer_of};
 ghost use Rattle.nodes.specs.Fast as Fast;
 ghost use Rattle.nodes.specs.Tables as Spec;
-ghost use Rattle.format.specs.Answers.{place_answer};
 
-use format::refusal::Refusal;
-use format::section::{BspData, BspFileSection, Place};
+use format::refusal::{Answer, Refusal};
+use format::section::{BspData, BspFileSection};
 use math::Vector3;
 
 // Hull 0 goes by the render nodes and the leaves' contents, hulls 1 and 2 by the clip nodes. A box has six nodes of its own.
@@ -123,19 +123,19 @@ pub fn tables_of(map: BspData, table: HullTable, mins: Vector3, maxs: Vector3) -
 
 impl Part {
     // Where the record of an index lies in a file of `len` bytes.
-    pub fn place(self, size: u8, len: usize, index: usize) -> Place
-        ensures { place_answer result ≡ Fast.place_in self size len index }
+    pub fn place(self, size: u8, len: usize, index: usize) -> Answer<usize>
+        ensures { answer_of result ≡ Fast.place_in self size len index }
     {
         if (self.count as usize) <= index {
-            return Place::Refused(Refusal::NoSuchRecord);
+            return Err(Refusal::NoSuchRecord);
         }
         if (self.readable as usize) <= index {
-            return Place::Refused(Refusal::Unreadable);
+            return Err(Refusal::Unreadable);
         }
         let at = (self.at as usize) + index * (size as usize);
         if at + (size as usize) <= len {
-            return Place::At(at);
+            return Ok(at);
         }
-        Place::Refused(Refusal::Unreadable)
+        Err(Refusal::Unreadable)
     }
 }

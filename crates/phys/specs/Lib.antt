@@ -1,3 +1,2 @@
 -- What the contracts of `phys` cite.
 pub mod Trace
-pub mod Answers

@@ -3,11 +3,11 @@
 #![tactic(auto)]
 
 ghost use Rattle.std.specs.Prelude.{◌≡◌};
+ghost use Rattle.format.specs.Answers.{answer_of};
 ghost use Rattle.phys.specs.Trace as Tr;
-ghost use Rattle.phys.specs.Answers as Answers;
 
 use format::contents::BspLeafContents;
-use format::refusal::Refusal;
+use format::refusal::{Answer, Refusal};
 use math::{Hyperplane, Vector3};
 
 // The start of a trace, and the ratio along the original trace at which this part begins.
@@ -75,81 +75,52 @@ pub struct Trace {
     pub start_solid: bool,
 }
 
-// What `join` answers.
-#[derive(Clone, Copy)]
-pub enum Joined {
-    Trace(Trace),
-    Refused(Refusal),
-}
-
 impl Trace {
     pub fn new(start: TraceStart, end: TraceEnd, contents: BspLeafContents) -> Trace
         ensures { result ≡ Tr.new_trace start end contents }
     {
-        let start_solid = contents.equals(BspLeafContents::Solid);
         Trace {
             start,
             end,
             contents,
-            start_solid,
+            start_solid: contents == BspLeafContents::Solid,
         }
     }
 
     // This trace with another that starts at its end. Refused (19) after a terminal trace, and where the points differ; a
     // NaN always differs.
-    pub fn join(self, other: Trace) -> Joined
-        ensures { Answers.joined_of result ≡ Tr.join self other }
+    pub fn join(self, other: Trace) -> Answer<Trace>
+        ensures { answer_of result ≡ Tr.join self other }
     {
-        let end = self.end;
-        let kind = end.kind;
-        let TraceEndKind::Boundary(_) = kind else {
-            return Joined::Refused(Refusal::CannotJoin);
-        };
-        let next = other.start;
-        if !end.point.equals(next.point) {
-            return Joined::Refused(Refusal::CannotJoin);
+        if self.is_terminal() || self.end.point != other.start.point {
+            return Err(Refusal::CannotJoin);
         }
-        let contents = self.contents;
-        let other_contents = other.contents;
-        let start = self.start;
         let end = other.end;
-        if contents.equals(other_contents) {
-            return Joined::Trace(Trace {
-                start,
+        if self.contents == other.contents {
+            return Ok(Trace { end, ..self });
+        }
+        if self.contents == BspLeafContents::Solid {
+            return Ok(Trace {
                 end,
-                contents,
-                start_solid: self.start_solid,
+                contents: other.contents,
+                start_solid: true,
+                ..self
             });
         }
-        if contents.equals(BspLeafContents::Solid) {
-            if !other_contents.equals(BspLeafContents::Solid) {
-                return Joined::Trace(Trace {
-                    start,
-                    end,
-                    contents: other_contents,
-                    start_solid: true,
-                });
-            }
-        }
-        Joined::Trace(self)
+        Ok(self)
     }
 
     // The trace with its start and end moved by an offset.
     pub fn adjust(self, offset: Vector3) -> Trace
         ensures { result ≡ Tr.adjust self offset }
     {
-        let start = self.start;
-        let end = self.end;
-        let kind = end.kind;
-        let contents = self.contents;
         Trace {
-            start: TraceStart::new(start.point.add(offset), start.ratio),
+            start: TraceStart::new(self.start.point.add(offset), self.start.ratio),
             end: TraceEnd {
-                point: end.point.add(offset),
-                kind,
+                point: self.end.point.add(offset),
+                ..self.end
             },
-            contents,
-            start_solid: self.start_solid,
+            ..self
         }
     }
 
@@ -171,8 +142,7 @@ impl Trace {
     pub fn all_solid(self) -> bool
         ensures { result ≡ Tr.all_solid self }
     {
-        let contents = self.contents;
-        contents.equals(BspLeafContents::Solid)
+        self.contents == BspLeafContents::Solid
     }
 
     // Whether the trace began in a solid leaf.
@@ -185,42 +155,29 @@ impl Trace {
     pub fn in_open(self) -> bool
         ensures { result ≡ Tr.in_open self }
     {
-        let contents = self.contents;
-        contents.equals(BspLeafContents::Empty)
+        self.contents == BspLeafContents::Empty
     }
 
     pub fn in_water(self) -> bool
         ensures { result ≡ Tr.in_water self }
     {
-        let contents = self.contents;
-        if contents.equals(BspLeafContents::Empty) {
-            return false;
-        }
-        !contents.equals(BspLeafContents::Solid)
+        self.contents != BspLeafContents::Empty && self.contents != BspLeafContents::Solid
     }
 
     // Whether the trace ended without a collision.
     pub fn is_terminal(self) -> bool
         ensures { result ≡ Tr.is_terminal self }
     {
-        let end = self.end;
-        let kind = end.kind;
-        if let TraceEndKind::Terminal = kind {
-            true
-        } else {
-            false
-        }
+        matches!(self.end.kind, TraceEndKind::Terminal)
     }
 
     // The part of the intended distance that was travelled: 1 for a terminal trace.
     pub fn ratio(self) -> f32
         ensures { result ≡ Tr.ratio self }
     {
-        let end = self.end;
-        let kind = end.kind;
-        let TraceEndKind::Boundary(boundary) = kind else {
-            return 1.0;
-        };
-        boundary.ratio
+        match self.end.kind {
+            TraceEndKind::Terminal => 1.0,
+            TraceEndKind::Boundary(boundary) => boundary.ratio,
+        }
     }
 }

@@ -2,7 +2,7 @@
 -- The steps are those of loading, in its order (load/specs/Load.antt); sections are named by their numbers in the directory, 15 is the header.
 -- The byte is the first of the record whose reader refuses. A section of records that does not end where it should (7) stops after its last
 -- one; the entity text, visibility data and lightmaps are named by their start, and the textures, once all are read, by their section's end.
-use Rattle.std.specs.Prelude.{ℕ, ◌+◌, cond, List, ltb, ℤ, length}
+use Rattle.std.specs.Prelude.{Option, Some, None, ℕ, ◌+◌, cond, List, ltb, ℤ, length}
 use Rattle.format.specs.Field.{u16_at, i32_at}
 use Rattle.format.specs.Step.{Step, ok, refused}
 use Rattle.format.specs.declared.section.BspData.{BspData}
@@ -13,8 +13,6 @@ use Rattle.records.specs.Node.{render_node_at, collision_node_at}
 use Rattle.records.specs.Number.{number_at, offset_at}
 use Rattle.records.specs.Plane.{plane_at}
 use Rattle.records.specs.Triple.{vector_at}
-use Rattle.records.specs.declared.number.OptionalOffset.{OptionalOffset}
-use Rattle.records.specs.declared.number.OptionalOffset.TheVariants.{None, Some}
 use Rattle.models.specs.Model.{file_model_at}
 use Rattle.sections.specs.Records.{section, blob}
 use Rattle.sections.specs.Table.{header_at, limits, is_version}
@@ -68,7 +66,7 @@ unfoldable pub header_stop : List ℕ → Stop
 header_stop s = version_stop (i32_at s 0) (stop_in Part.Directory s no_map)
 
 -- where the header of a texture starts whose offset stands at a position of the list; an offset that leads past the file stands there itself
-abbrev pub start_of : List ℕ → ℕ → ℕ → Step OptionalOffset → ℕ
+abbrev pub start_of : List ℕ → ℕ → ℕ → Step (Option ℕ) → ℕ
 start_of s base at (ok (Some offset) p) = cond (ltb (base + offset) (length s)) (base + offset) at
 start_of s base at (ok None p) = at
 start_of s base at (refused n) = at

@@ -1,10 +1,10 @@
 // Where loading refuses a file: the section, the record and the byte at which the reader stands that refuses.
 #![tactic(auto)]
 
-ghost use Rattle.std.specs.Prelude.{◌≡◌};
+ghost use Rattle.std.specs.Prelude.{◌≡◌, Ok, Err, IfOk, IfErr};
 ghost use Rattle.place.specs.Place as Spec;
 ghost use Rattle.place.specs.Private as Parts;
-ghost use Rattle.place.specs.Answers.{place_answer};
+ghost use Rattle.place.specs.Answers.{place_answer, section_number};
 
 pub mod part;
 mod read;
@@ -12,9 +12,8 @@ mod starts;
 
 use crate::part::{Part, Stop, stop_in};
 use crate::starts::{header_stop, textures_stop};
-use format::field::ReadIndex;
-use format::refusal::Refusal;
-use format::section::BspData;
+use format::refusal::{Answer, Refusal};
+use format::section::{BspData, BspFileSectionId as Id};
 use load::extents::check_extents;
 use load::section::{
     check_edgelist, check_edges, check_entities, check_facelist, check_planes, check_vertices,
@@ -24,158 +23,119 @@ use load::tested::{
     check_render_nodes, check_texinfo,
 };
 use load::with_texture_count;
-use sections::position::Position;
 use sections::row::check_blob;
-use sections::table::{ReadTable, check_limits, read_header};
+use sections::table::{check_limits, read_header};
 use textures::load::read_texture_section;
 
-// The file loads, or a refusal with the number of its section in the directory (15: the header), and where it stands.
+// Why and where loading refuses a file. No section: the header, or the limits that it breaks.
 #[derive(Clone, Copy)]
-pub enum LoadPlace {
-    Loads,
-    Refused(Refusal, u32, Stop),
+pub struct RefusedAt {
+    pub refusal: Refusal,
+    pub section: Option<Id>,
+    pub stop: Stop,
+}
+
+impl RefusedAt {
+    // The section's number in the directory; 15 for the header.
+    pub fn section_number(self) -> u32
+        ensures { result ≡ section_number self.section }
+    {
+        match self.section {
+            Some(id) => id as u32,
+            None => 15,
+        }
+    }
+}
+
+// A step of loading that reads the records of a part, with the record where reading stops if it is refused.
+fn in_part<T>(step: Answer<T>, file: &[u8], part: Part, map: BspData) -> Result<T, RefusedAt>
+    ensures ok { IfOk result (λ v. step ≡ Ok v) }
+    ensures err { IfErr result (λ d. (step ≡ Err d.refusal) × (d ≡ Parts.in_part d.refusal file.now part map)) }
+{
+    step.map_err(|refusal| RefusedAt {
+        refusal,
+        section: part.section(),
+        stop: stop_in(file, part, map),
+    })
+}
+
+// A step of loading about bytes that are no records, with the section's start if it is refused.
+fn at_start<T>(step: Answer<T>, id: Id, map: BspData) -> Result<T, RefusedAt>
+    ensures ok { IfOk result (λ v. step ≡ Ok v) }
+    ensures err { IfErr result (λ d. (step ≡ Err d.refusal) × (d ≡ Parts.at_start d.refusal id map)) }
+{
+    step.map_err(|refusal| RefusedAt {
+        refusal,
+        section: Some(id),
+        stop: Stop {
+            index: 0,
+            byte: map.section(id).offset as usize,
+        },
+    })
 }
 
 // Where loading refuses a file.
-pub fn load_place(file: &[u8]) -> LoadPlace
+#[tactic(auto, unfolding(crate::specs::Place::place_of))]
+pub fn load_place(file: &[u8]) -> Result<(), RefusedAt>
     ensures { place_answer result ≡ Spec.place_of file.now }
 {
-    match read_header(file) {
-        ReadTable::Refused(e) => LoadPlace::Refused(e, 15, header_stop(file)),
-        ReadTable::Value(map, _) => match check_limits(map) {
-            Position::Refused(e) => LoadPlace::Refused(e, 15, stop_in(file, Part::Limits, map)),
-            Position::At(_) => match check_entities(file, map.entities) {
-                Position::Refused(e) => {
-                    let byte = map.entities.offset as usize;
-                    LoadPlace::Refused(
-                        e,
-                        0,
-                        Stop {
-                            index: 0,
-                            byte: byte,
-                        },
-                    )
-                }
-                Position::At(_) => from_planes(file, map),
-            },
-        },
-    }
-}
-
-// The planes and the textures, and what follows.
-fn from_planes(file: &[u8], map: BspData) -> LoadPlace
-    ensures { place_answer result ≡ Parts.from_planes file.now map }
-{
-    match check_planes(file, map.planes) {
-        Position::Refused(e) => LoadPlace::Refused(e, 1, stop_in(file, Part::Planes, map)),
-        Position::At(_) => match read_texture_section(file, map.textures) {
-            ReadIndex::Refused(e) => LoadPlace::Refused(e, 2, textures_stop(file, map)),
-            ReadIndex::Value(n, _) => from_vertices(file, with_texture_count(map, n)),
-        },
-    }
-}
-
-// The vertices, the visibility data and the render nodes, and what follows.
-fn from_vertices(file: &[u8], map: BspData) -> LoadPlace
-    ensures { place_answer result ≡ Parts.from_vertices file.now map }
-{
-    match check_vertices(file, map.vertices) {
-        Position::Refused(e) => LoadPlace::Refused(e, 3, stop_in(file, Part::Vertices, map)),
-        Position::At(_) => match check_blob(file, map.visibility) {
-            Position::Refused(e) => {
-                let byte = map.visibility.offset as usize;
-                LoadPlace::Refused(
-                    e,
-                    4,
-                    Stop {
-                        index: 0,
-                        byte: byte,
-                    },
-                )
-            }
-            Position::At(_) => match check_render_nodes(file, map.render_nodes) {
-                Position::Refused(e) => LoadPlace::Refused(
-                    e,
-                    5,
-                    stop_in(file, Part::RenderNodes, map),
-                ),
-                Position::At(_) => from_texinfo(file, map),
-            },
-        },
-    }
-}
-
-// The texture infos, the faces and the lightmaps, and what follows.
-fn from_texinfo(file: &[u8], map: BspData) -> LoadPlace
-    ensures { place_answer result ≡ Parts.from_texinfo file.now map }
-{
-    match check_texinfo(file, map) {
-        Position::Refused(e) => LoadPlace::Refused(e, 6, stop_in(file, Part::TextureInfo, map)),
-        Position::At(_) => match check_faces(file, map) {
-            Position::Refused(e) => LoadPlace::Refused(e, 7, stop_in(file, Part::Faces, map)),
-            Position::At(_) => match check_blob(file, map.lightmaps) {
-                Position::Refused(e) => {
-                    let byte = map.lightmaps.offset as usize;
-                    LoadPlace::Refused(
-                        e,
-                        8,
-                        Stop {
-                            index: 0,
-                            byte: byte,
-                        },
-                    )
-                }
-                Position::At(_) => from_collision_nodes(file, map),
-            },
-        },
-    }
-}
-
-// The collision nodes, the leaves and the face list, and what follows.
-fn from_collision_nodes(file: &[u8], map: BspData) -> LoadPlace
-    ensures { place_answer result ≡ Parts.from_collision_nodes file.now map }
-{
-    match check_collision_nodes(file, map.collision_nodes) {
-        Position::Refused(e) => LoadPlace::Refused(e, 9, stop_in(file, Part::CollisionNodes, map)),
-        Position::At(_) => match check_leaves(file, map.leaves) {
-            Position::Refused(e) => LoadPlace::Refused(e, 10, stop_in(file, Part::Leaves, map)),
-            Position::At(_) => match check_facelist(file, map.facelist) {
-                Position::Refused(e) => LoadPlace::Refused(
-                    e,
-                    11,
-                    stop_in(file, Part::FaceList, map),
-                ),
-                Position::At(_) => from_edges(file, map),
-            },
-        },
-    }
-}
-
-// The edges and the edge list, and what follows.
-fn from_edges(file: &[u8], map: BspData) -> LoadPlace
-    ensures { place_answer result ≡ Parts.from_edges file.now map }
-{
-    match check_edges(file, map.edges) {
-        Position::Refused(e) => LoadPlace::Refused(e, 12, stop_in(file, Part::Edges, map)),
-        Position::At(_) => match check_edgelist(file, map.edgelist) {
-            Position::Refused(e) => LoadPlace::Refused(e, 13, stop_in(file, Part::EdgeList, map)),
-            Position::At(_) => from_extents(file, map),
-        },
-    }
-}
-
-// The extents of the faces, the leaves that render nodes name, and the models.
-fn from_extents(file: &[u8], map: BspData) -> LoadPlace
-    ensures { place_answer result ≡ Parts.from_extents file.now map }
-{
-    match check_extents(file, map) {
-        Position::Refused(e) => LoadPlace::Refused(e, 7, stop_in(file, Part::Extents, map)),
-        Position::At(_) => match check_leaf_references(file, map) {
-            Position::Refused(e) => LoadPlace::Refused(e, 5, stop_in(file, Part::References, map)),
-            Position::At(_) => match check_models(file, map.models) {
-                Position::Refused(e) => LoadPlace::Refused(e, 14, stop_in(file, Part::Models, map)),
-                Position::At(_) => LoadPlace::Loads,
-            },
-        },
-    }
+    let (map, _) = read_header(file).map_err(|refusal| RefusedAt {
+        refusal,
+        section: None,
+        stop: header_stop(file),
+    })?;
+    in_part(check_limits(map), file, Part::Limits, map)?;
+    at_start(check_entities(file, map.entities), Id::Entities, map)?;
+    in_part(check_planes(file, map.planes), file, Part::Planes, map)?;
+    let (count, _) = read_texture_section(file, map.textures).map_err(|refusal| RefusedAt {
+        refusal,
+        section: Some(Id::Textures),
+        stop: textures_stop(file, map),
+    })?;
+    let map = with_texture_count(map, count);
+    in_part(
+        check_vertices(file, map.vertices),
+        file,
+        Part::Vertices,
+        map,
+    )?;
+    at_start(check_blob(file, map.visibility), Id::Visibility, map)?;
+    in_part(
+        check_render_nodes(file, map.render_nodes),
+        file,
+        Part::RenderNodes,
+        map,
+    )?;
+    in_part(check_texinfo(file, map), file, Part::TextureInfo, map)?;
+    in_part(check_faces(file, map), file, Part::Faces, map)?;
+    at_start(check_blob(file, map.lightmaps), Id::Lightmaps, map)?;
+    in_part(
+        check_collision_nodes(file, map.collision_nodes),
+        file,
+        Part::CollisionNodes,
+        map,
+    )?;
+    in_part(check_leaves(file, map.leaves), file, Part::Leaves, map)?;
+    in_part(
+        check_facelist(file, map.facelist),
+        file,
+        Part::FaceList,
+        map,
+    )?;
+    in_part(check_edges(file, map.edges), file, Part::Edges, map)?;
+    in_part(
+        check_edgelist(file, map.edgelist),
+        file,
+        Part::EdgeList,
+        map,
+    )?;
+    in_part(check_extents(file, map), file, Part::Extents, map)?;
+    in_part(
+        check_leaf_references(file, map),
+        file,
+        Part::References,
+        map,
+    )?;
+    in_part(check_models(file, map.models), file, Part::Models, map)?;
+    Ok(())
 }

@@ -1,18 +1,24 @@
 // Where reading the records of a part of loading stops.
 ghost use Rattle.std.specs.Prelude.{◌≡◌};
+ghost use Rattle.format.specs.Answers.{step_of};
 ghost use Rattle.sections.specs.Answers.{position_step};
 ghost use Rattle.place.specs.Part as Spec;
+ghost use Rattle.place.specs.Private.{section_of_part};
 
 use crate::read::{
-    limit_of, past_clip_node, past_entry, past_extents, past_file_face, past_header, past_leaf,
-    past_model, past_offset, past_references, past_render_node, past_texinfo,
+    limit_of, past, past_entry, past_extents, past_face, past_header, past_references,
 };
+use format::refusal::Answer;
 use format::section::{BspData, BspFileSectionId};
-use sections::position::Position;
+use load::tested::read_textured;
+use models::model::read_file_model;
+use records::leaf::read_leaf;
+use records::node::{read_collision_node, read_render_node};
+use records::number::read_offset;
 use sections::row::read_plain;
 
 // A record by its index, at a position of the file.
-#[derive(Clone, Copy)]
+#[derive(Clone, Copy, Debug, PartialEq, Eq)]
 pub struct Stop {
     pub index: u32,
     pub byte: usize,
@@ -47,74 +53,75 @@ pub enum Part {
     Models,
 }
 
+impl Part {
+    // The section whose records a part reads; none for the header's entries.
+    pub fn section(self) -> Option<BspFileSectionId>
+        ensures { result ≡ section_of_part self }
+    {
+        match self {
+            Part::Directory | Part::Limits => None,
+            Part::Planes => Some(BspFileSectionId::Planes),
+            Part::Offsets | Part::Textures => Some(BspFileSectionId::Textures),
+            Part::Vertices => Some(BspFileSectionId::Vertices),
+            Part::RenderNodes | Part::References => Some(BspFileSectionId::RenderNodes),
+            Part::TextureInfo => Some(BspFileSectionId::TextureInfo),
+            Part::Faces | Part::Extents => Some(BspFileSectionId::Faces),
+            Part::CollisionNodes => Some(BspFileSectionId::CollisionNodes),
+            Part::Leaves => Some(BspFileSectionId::Leaves),
+            Part::FaceList => Some(BspFileSectionId::FaceList),
+            Part::Edges => Some(BspFileSectionId::Edges),
+            Part::EdgeList => Some(BspFileSectionId::EdgeList),
+            Part::Models => Some(BspFileSectionId::Models),
+        }
+    }
+
+    // The records of a part.
+    #[tactic(auto, unfolding(crate::specs::Part::span_of, crate::specs::Part::section_span))]
+    fn span(self, map: BspData) -> Span
+        ensures { result ≡ Spec.span_of self map }
+    {
+        match self.section() {
+            None => Span {
+                count: 15,
+                start: 4,
+            },
+            Some(BspFileSectionId::Textures) => Span {
+                count: map.texture_count,
+                start: map.textures.offset as usize + 4,
+            },
+            Some(id) => {
+                let section = map.section(id);
+                Span {
+                    count: section.record_count(id),
+                    start: section.offset as usize,
+                }
+            }
+        }
+    }
+}
+
 // Record i of a part, at a position: the position after it, or the refusal.
-fn read_record(s: &[u8], part: Part, map: BspData, i: u32, at: usize) -> Position
+#[tactic(auto, unfolding(crate::specs::Part::record_at))]
+fn read_record(s: &[u8], part: Part, map: BspData, i: u32, at: usize) -> Answer<usize>
     ensures { position_step result ≡ Spec.record_at part s.now map i at }
 {
     match part {
         Part::Directory => past_entry(s, i, at),
         Part::Limits => limit_of(map, i),
         Part::Planes => read_plain(s, at, 20),
-        Part::Offsets => past_offset(s, at),
+        Part::Offsets => past(read_offset(s, at)),
         Part::Textures => past_header(s, map, i, at),
         Part::Vertices => read_plain(s, at, 12),
-        Part::RenderNodes => past_render_node(s, at),
-        Part::TextureInfo => past_texinfo(s, at, map.texture_count),
-        Part::Faces => past_file_face(s, map, at),
-        Part::CollisionNodes => past_clip_node(s, at),
-        Part::Leaves => past_leaf(s, at),
+        Part::RenderNodes => past(read_render_node(s, at)),
+        Part::TextureInfo => past(read_textured(s, at, map.texture_count)),
+        Part::Faces => past_face(s, map, at),
+        Part::CollisionNodes => past(read_collision_node(s, at)),
+        Part::Leaves => past(read_leaf(s, at)),
         Part::FaceList => read_plain(s, at, 2),
-        Part::Edges => read_plain(s, at, 4),
-        Part::EdgeList => read_plain(s, at, 4),
+        Part::Edges | Part::EdgeList => read_plain(s, at, 4),
         Part::Extents => past_extents(s, map, at),
         Part::References => past_references(s, map, at),
-        Part::Models => past_model(s, at),
-    }
-}
-
-// The records of a section.
-fn section_span(map: BspData, id: BspFileSectionId) -> Span
-    ensures { result ≡ Spec.section_span id map }
-{
-    let section = map.section(id);
-    Span {
-        count: section.record_count(id),
-        start: section.offset as usize,
-    }
-}
-
-// The records of a part.
-fn span_of(part: Part, map: BspData) -> Span
-    ensures { result ≡ Spec.span_of part map }
-{
-    let textures = Span {
-        count: map.texture_count,
-        start: (map.textures.offset as usize) + 4,
-    };
-    match part {
-        Part::Directory => Span {
-            count: 15,
-            start: 4,
-        },
-        Part::Limits => Span {
-            count: 15,
-            start: 4,
-        },
-        Part::Planes => section_span(map, BspFileSectionId::Planes),
-        Part::Offsets => textures,
-        Part::Textures => textures,
-        Part::Vertices => section_span(map, BspFileSectionId::Vertices),
-        Part::RenderNodes => section_span(map, BspFileSectionId::RenderNodes),
-        Part::TextureInfo => section_span(map, BspFileSectionId::TextureInfo),
-        Part::Faces => section_span(map, BspFileSectionId::Faces),
-        Part::CollisionNodes => section_span(map, BspFileSectionId::CollisionNodes),
-        Part::Leaves => section_span(map, BspFileSectionId::Leaves),
-        Part::FaceList => section_span(map, BspFileSectionId::FaceList),
-        Part::Edges => section_span(map, BspFileSectionId::Edges),
-        Part::EdgeList => section_span(map, BspFileSectionId::EdgeList),
-        Part::Extents => section_span(map, BspFileSectionId::Faces),
-        Part::References => section_span(map, BspFileSectionId::RenderNodes),
-        Part::Models => section_span(map, BspFileSectionId::Models),
+        Part::Models => past(read_file_model(s, at)),
     }
 }
 
@@ -122,20 +129,16 @@ fn span_of(part: Part, map: BspData) -> Span
 pub fn stop_in(s: &[u8], part: Part, map: BspData) -> Stop
     ensures { result ≡ Spec.stop_in part s.now map }
 {
-    let span = span_of(part, map);
-    let count = span.count;
-    let mut p = span.start;
-    let mut i: u32 = 0;
-    while i < count {
-        match read_record(s, part, map, i, p) {
-            Position::Refused(_) => {
-                return Stop { index: i, byte: p };
-            }
-            Position::At(next) => {
-                p = next;
-            }
-        }
-        i = i + 1;
+    let span = part.span(map);
+    let mut byte = span.start;
+    for index in 0..span.count {
+        let Ok(next) = read_record(s, part, map, index, byte) else {
+            return Stop { index, byte };
+        };
+        byte = next;
     }
-    Stop { index: i, byte: p }
+    Stop {
+        index: span.count,
+        byte,
+    }
 }

@@ -1,5 +1,7 @@
 -- What a group meets at a child.
+use Rattle.std.specs.Prelude.{Result, Ok, Err}
 use Prim.Native.Nat.{ℕ, zero, suc, ◌<◌, ◌≤◌}
+use Rattle.format.specs.Answers.{answer_of}
 use native.Mathlib.Omega.{arith}
 use mathlib.Core.Bool.{Bool, true, false, cond}
 use mathlib.Core.List.{List}
@@ -17,9 +19,6 @@ use Rattle.math.specs.declared.plane.Hyperplane.{Hyperplane}
 use Rattle.math.specs.declared.plane.HyperplaneSide.{HyperplaneSide}
 use Rattle.walk.specs.Table.{node, end}
 use Rattle.walk.specs.Walk.{enter}
-use Rattle.records.specs.Answers.{plane_answer}
-use Rattle.records.specs.declared.plane.PlaneAnswer.{PlaneAnswer}
-use Rattle.records.specs.declared.plane.PlaneAnswer.TheVariants as PA
 use Rattle.nodes.specs.Tables.{End}
 use Rattle.nodes.specs.Fast.{table, end_of, child_of, node_of, words_answer, contents_met, plane_in, end_answer}
 use Rattle.nodes.specs.Fast as Fast
@@ -131,9 +130,9 @@ module _ (s : List ℕ) (t : Tables) where
         pub not_read : (x : Refusal) → r ≡ RW.Refused x → settled 0 ≡ met s t k c
         not_read x e = sym (entered_at ∙ ap (entering (table s t) code_of) (enter_not s t (table s t) refl refl refl i r is-r x e))
 
-        module _ (w : WordsT) (e : r ≡ RW.Words w) (a : PlaneAnswer) (is-a : plane_answer a ≡ plane_in s t w.plane) where
-          pub no_plane : (x : Refusal) → a ≡ PA.Refused x → settled 0 ≡ met s t k c
-          no_plane x y = sym (entered_at ∙ ap (entering (table s t) code_of) (enter_no_plane s t (table s t) refl refl refl i r is-r w e (number_of x) (sym is-a ∙ ap plane_answer y)))
+        module _ (w : WordsT) (e : r ≡ RW.Words w) (a : Result Hyperplane Refusal) (is-a : answer_of a ≡ plane_in s t w.plane) where
+          pub no_plane : (x : Refusal) → a ≡ Err x → settled 0 ≡ met s t k c
+          no_plane x y = sym (entered_at ∙ ap (entering (table s t) code_of) (enter_no_plane s t (table s t) refl refl refl i r is-r w e (number_of x) (sym is-a ∙ ap answer_of y)))
 
-          pub is_node : (h : Hyperplane) → a ≡ PA.Value h → onward (record { nd = node_of t.table w; plane = h }) ≡ met s t k c
-          is_node h y = sym (entered_at ∙ ap (entering (table s t) code_of) (enter_is s t (table s t) refl refl refl i r is-r w e h (sym is-a ∙ ap plane_answer y)))
+          pub is_node : (h : Hyperplane) → a ≡ Ok h → onward (record { nd = node_of t.table w; plane = h }) ≡ met s t k c
+          is_node h y = sym (entered_at ∙ ap (entering (table s t) code_of) (enter_is s t (table s t) refl refl refl i r is-r w e h (sym is-a ∙ ap answer_of y)))

@@ -8,7 +8,6 @@ use crate::one::{settle_one, settle_two};
 use math::Hyperplane;
 use nodes::read::{EndContents, ReadWords, Words, end_contents, plane_at, read_words};
 use nodes::table::Tables;
-use records::plane::PlaneAnswer;
 
 // The child that a group stands before: a node by its index, or an end by its word.
 #[derive(Clone, Copy)]
@@ -69,8 +68,8 @@ fn meet_child(s: &[u8], t: Tables, child: Onto, left: u32) -> Meeting
             match read_words(s, t, node) {
                 ReadWords::Refused(_) => Meeting::Settled(0),
                 ReadWords::Words(words) => match plane_at(s, t, words.plane as usize) {
-                    PlaneAnswer::Refused(_) => Meeting::Settled(0),
-                    PlaneAnswer::Value(plane) => Meeting::Node(words, plane),
+                    Err(_) => Meeting::Settled(0),
+                    Ok(plane) => Meeting::Node(words, plane),
                 },
             }
         }

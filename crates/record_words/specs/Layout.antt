@@ -1,13 +1,11 @@
 -- The words of each record, in the order of its fields in the Rust: a number is its own word, a float its 32 bits, a signed number its two's
 -- complement in 64 bits.
-use Rattle.std.specs.Prelude.{ℕ, List, [], ◌∷◌, ◌++◌}
+use Rattle.std.specs.Prelude.{Option, Some, None, ℕ, List, [], ◌∷◌, ◌++◌}
 use Rattle.words.specs.Words.{flag_word, float_word, signed_word}
 pub use Rattle.words.specs.Words.{number_words, vector_words, plane_words}
 use Rattle.format.specs.Contents.{code_of}
 use Rattle.models.specs.Model.{leaf_range}
 use Rattle.records.specs.declared.triple.Point.{Point}
-use Rattle.records.specs.declared.number.OptionalOffset.{OptionalOffset}
-use Rattle.records.specs.declared.number.OptionalOffset.TheVariants.{None, Some}
 use Rattle.records.specs.declared.node.BspRenderNodeChild.{BspRenderNodeChild}
 use Rattle.records.specs.declared.node.BspRenderNodeChild.TheVariants as RenderChild
 use Rattle.records.specs.declared.node.BspRenderNode.{BspRenderNode}
@@ -33,7 +31,7 @@ abbrev pub point_words : Point → List ℕ
 point_words p = signed_word p.x ∷ signed_word p.y ∷ signed_word p.z ∷ []
 
 -- 2^64 - 1 for none
-abbrev pub offset_word : OptionalOffset → ℕ
+abbrev pub offset_word : Option ℕ → ℕ
 offset_word None = 18446744073709551615
 offset_word (Some n) = n
 

@@ -10,14 +10,20 @@ use models::model::BspModel;
 use records::edge::{BspEdge, BspEdgeDirection, BspEdgeIndex};
 use records::leaf::BspLeaf;
 use records::node::{BspCollisionNode, BspCollisionNodeChild, BspRenderNode, BspRenderNodeChild};
-use records::number::OptionalOffset;
 use records::texinfo::BspTexInfo;
+use records::triple::Point;
 use words::{flag_word, float_word, signed_word};
 
 pub fn vector_words(v: Vector3) -> [u64; 3]
     ensures { result ≡ Layout.vector_words v }
 {
     [float_word(v.x), float_word(v.y), float_word(v.z)]
+}
+
+fn point_words(p: Point) -> [u64; 3]
+    ensures { result ≡ Layout.point_words p }
+{
+    [signed_word(p.x), signed_word(p.y), signed_word(p.z)]
 }
 
 // 0 for a node, 1 for a leaf.
@@ -33,31 +39,27 @@ fn render_child_tag(child: BspRenderNodeChild) -> u64
 fn render_child_number(child: BspRenderNodeChild) -> u64
     ensures { result ≡ Layout.render_child_number child }
 {
-    match child {
-        BspRenderNodeChild::Node(n) => n as u64,
-        BspRenderNodeChild::Leaf(n) => n as u64,
-    }
+    let (BspRenderNodeChild::Node(n) | BspRenderNodeChild::Leaf(n)) = child;
+    n as u64
 }
 
 pub fn render_node_words(node: BspRenderNode) -> [u64; 13]
     ensures { result ≡ Layout.render_node_words node }
 {
-    let front = node.front;
-    let back = node.back;
-    let min = node.min;
-    let max = node.max;
+    let [min_x, min_y, min_z] = point_words(node.min);
+    let [max_x, max_y, max_z] = point_words(node.max);
     [
         node.plane_id as u64,
-        render_child_tag(front),
-        render_child_number(front),
-        render_child_tag(back),
-        render_child_number(back),
-        signed_word(min.x),
-        signed_word(min.y),
-        signed_word(min.z),
-        signed_word(max.x),
-        signed_word(max.y),
-        signed_word(max.z),
+        render_child_tag(node.front),
+        render_child_number(node.front),
+        render_child_tag(node.back),
+        render_child_number(node.back),
+        min_x,
+        min_y,
+        min_z,
+        max_x,
+        max_y,
+        max_z,
         node.face_id as u64,
         node.face_count as u64,
     ]
@@ -66,16 +68,14 @@ pub fn render_node_words(node: BspRenderNode) -> [u64; 13]
 pub fn texinfo_words(info: BspTexInfo) -> [u64; 10]
     ensures { result ≡ Layout.texinfo_words info }
 {
-    let s = info.s_vector;
-    let t = info.t_vector;
     [
-        float_word(s.x),
-        float_word(s.y),
-        float_word(s.z),
+        float_word(info.s_vector.x),
+        float_word(info.s_vector.y),
+        float_word(info.s_vector.z),
         float_word(info.s_offset),
-        float_word(t.x),
-        float_word(t.y),
-        float_word(t.z),
+        float_word(info.t_vector.x),
+        float_word(info.t_vector.y),
+        float_word(info.t_vector.z),
         float_word(info.t_offset),
         info.tex_id as u64,
         flag_word(info.special),
@@ -104,50 +104,42 @@ fn collision_child_number(child: BspCollisionNodeChild) -> u64
 pub fn collision_node_words(node: BspCollisionNode) -> [u64; 5]
     ensures { result ≡ Layout.collision_node_words node }
 {
-    let front = node.front;
-    let back = node.back;
     [
         node.plane_id as u64,
-        collision_child_tag(front),
-        collision_child_number(front),
-        collision_child_tag(back),
-        collision_child_number(back),
+        collision_child_tag(node.front),
+        collision_child_number(node.front),
+        collision_child_tag(node.back),
+        collision_child_number(node.back),
     ]
 }
 
 // 2^64 - 1 for none.
-fn offset_word(offset: OptionalOffset) -> u64
+fn offset_word(offset: Option<usize>) -> u64
     ensures { result ≡ Layout.offset_word offset }
 {
-    match offset {
-        OptionalOffset::None => 18446744073709551615,
-        OptionalOffset::Some(at) => at as u64,
-    }
+    offset.map_or(u64::MAX, |at| at as u64)
 }
 
 pub fn leaf_words(leaf: BspLeaf) -> [u64; 14]
     ensures { result ≡ Layout.leaf_words leaf }
 {
-    let contents = leaf.contents;
-    let offset = leaf.vis_offset;
-    let min = leaf.min;
-    let max = leaf.max;
-    let sounds = leaf.sounds;
+    let [min_x, min_y, min_z] = point_words(leaf.min);
+    let [max_x, max_y, max_z] = point_words(leaf.max);
     [
-        contents.code() as u64,
-        offset_word(offset),
-        signed_word(min.x),
-        signed_word(min.y),
-        signed_word(min.z),
-        signed_word(max.x),
-        signed_word(max.y),
-        signed_word(max.z),
+        leaf.contents.code() as u64,
+        offset_word(leaf.vis_offset),
+        min_x,
+        min_y,
+        min_z,
+        max_x,
+        max_y,
+        max_z,
         leaf.facelist_id as u64,
         leaf.facelist_count as u64,
-        sounds.water as u64,
-        sounds.sky as u64,
-        sounds.slime as u64,
-        sounds.lava as u64,
+        leaf.sounds.water as u64,
+        leaf.sounds.sky as u64,
+        leaf.sounds.slime as u64,
+        leaf.sounds.lava as u64,
     ]
 }
 
@@ -155,35 +147,27 @@ pub fn leaf_words(leaf: BspLeaf) -> [u64; 14]
 fn side_word(side: BspFaceSide) -> u64
     ensures { result ≡ Layout.side_word side }
 {
-    match side {
-        BspFaceSide::Front => 0,
-        BspFaceSide::Back => 1,
-    }
+    side as u64
 }
 
 pub fn face_words(face: BspFace) -> [u64; 14]
     ensures { result ≡ Layout.face_words face }
 {
-    let side = face.side;
-    let styles = face.light_styles;
-    let lightmap = face.lightmap_id;
-    let mins = face.texture_mins;
-    let extents = face.extents;
     [
         face.plane_id as u64,
-        side_word(side),
+        side_word(face.side),
         face.edge_id as u64,
         face.edge_count as u64,
         face.texinfo_id as u64,
-        styles.style_0 as u64,
-        styles.style_1 as u64,
-        styles.style_2 as u64,
-        styles.style_3 as u64,
-        offset_word(lightmap),
-        signed_word(mins.s),
-        signed_word(mins.t),
-        signed_word(extents.s),
-        signed_word(extents.t),
+        face.light_styles.style_0 as u64,
+        face.light_styles.style_1 as u64,
+        face.light_styles.style_2 as u64,
+        face.light_styles.style_3 as u64,
+        offset_word(face.lightmap_id),
+        signed_word(face.texture_mins.s),
+        signed_word(face.texture_mins.t),
+        signed_word(face.extents.s),
+        signed_word(face.extents.t),
     ]
 }
 
@@ -197,48 +181,38 @@ pub fn edge_words(edge: BspEdge) -> [u64; 2]
 fn direction_word(direction: BspEdgeDirection) -> u64
     ensures { result ≡ Layout.direction_word direction }
 {
-    match direction {
-        BspEdgeDirection::Forward => 0,
-        BspEdgeDirection::Backward => 1,
-    }
+    direction as u64
 }
 
 pub fn edge_index_words(entry: BspEdgeIndex) -> [u64; 2]
     ensures { result ≡ Layout.edge_index_words entry }
 {
-    let direction = entry.direction;
-    [direction_word(direction), entry.index as u64]
+    [direction_word(entry.direction), entry.index as u64]
 }
 
 pub fn model_words(model: BspModel) -> [u64; 20]
     ensures { result ≡ Layout.model_words model }
 {
-    let min = model.min;
-    let max = model.max;
-    let origin = model.origin;
-    let roots = model.collision_node_ids;
-    let counts = model.collision_node_counts;
-    let leaves = model.leaves();
     [
-        float_word(min.x),
-        float_word(min.y),
-        float_word(min.z),
-        float_word(max.x),
-        float_word(max.y),
-        float_word(max.z),
-        float_word(origin.x),
-        float_word(origin.y),
-        float_word(origin.z),
-        roots.hull_0 as u64,
-        roots.hull_1 as u64,
-        roots.hull_2 as u64,
-        counts.hull_0 as u64,
-        counts.hull_1 as u64,
-        counts.hull_2 as u64,
+        float_word(model.min.x),
+        float_word(model.min.y),
+        float_word(model.min.z),
+        float_word(model.max.x),
+        float_word(model.max.y),
+        float_word(model.max.z),
+        float_word(model.origin.x),
+        float_word(model.origin.y),
+        float_word(model.origin.z),
+        model.collision_node_ids.hull_0 as u64,
+        model.collision_node_ids.hull_1 as u64,
+        model.collision_node_ids.hull_2 as u64,
+        model.collision_node_counts.hull_0 as u64,
+        model.collision_node_counts.hull_1 as u64,
+        model.collision_node_counts.hull_2 as u64,
         model.leaf_id as u64,
         model.leaf_count as u64,
         model.face_id as u64,
         model.face_count as u64,
-        leaves.last as u64,
+        model.leaves().last as u64,
     ]
 }

@@ -1,6 +1,4 @@
 -- Laws about the definitions of `records`, and what its proofs share.
-pub mod Chain
-pub mod Signs
 pub mod Readable
 pub mod Agree
 pub mod RecordLayouts

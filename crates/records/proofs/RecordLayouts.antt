@@ -2,6 +2,7 @@
 -- Quake Specifications' tables, and nothing else of the file is looked at. Where the Rust reads an unsigned field as signed, the bits
 -- are read as `to_z` does; `negative_from` of `format` says which those are that it takes for negative.
 -- Assumes nothing.
+use Rattle.std.specs.Prelude.{Option, Some, None}
 use Prim.Native.Nat.{ℕ, zero, suc, ◌+◌, ◌-◌, ◌^◌, ◌≤◌, ◌<◌, min, zero-le}
 use mathlib.Core.Path.{◌≡◌, refl, sym, ap, ◌∙◌}
 use mathlib.Core.Bool.{Bool, true, false, cond}
@@ -20,8 +21,6 @@ use Rattle.format.specs.Field.{u16_at, index_at, not_negative}
 use Rattle.format.specs.Layout as Layout
 use Rattle.format.specs.Layout.{bits, int, float}
 use Rattle.format.specs.declared.contents.BspLeafContents.{BspLeafContents}
-use Rattle.format.specs.declared.code.CodedContents.{CodedContents}
-use Rattle.format.specs.declared.code.CodedContents.TheVariants as Coded
 use Rattle.format.proofs.Layouts.{u16_at_lem, i16_at_lem, i32_at_lem, f32_at_lem, either, both, negative_from, byte, next_byte}
 use Rattle.records.specs.Number.{index16_at, number_at, at_most, offset, offset_at}
 use Rattle.records.specs.Triple.{vector_at, point_at}
@@ -37,9 +36,9 @@ complement zero = refl
 complement (suc k) = simp (le-ltb (suc (suc k)) 1 (omega arith)) (omega arith)
 
 -- what a with_contents gives goes on to what follows
-coded_then : {A B : Type 0} (c : CodedContents) (f : BspLeafContents → Step A) (k : A → ℕ → Step B) → and_then (with_contents c f) k ≡ with_contents c (λ v. and_then (f v) k)
-coded_then (Coded.Contents c) f k = refl
-coded_then Coded.Invalid f k = refl
+coded_then : {A B : Type 0} (c : Option BspLeafContents) (f : BspLeafContents → Step A) (k : A → ℕ → Step B) → and_then (with_contents c f) k ≡ with_contents c (λ v. and_then (f v) k)
+coded_then (Some c) f k = refl
+coded_then None f k = refl
 
 module _ (s : List ℕ) (at : ℕ) where
   start : at ≡ at + 0

@@ -1,5 +1,5 @@
 -- Leaves: contents code, visibility offset, box, faces, and four sound bytes, of which the file may lack some.
-use Rattle.std.specs.Prelude.{ℕ, ◌+◌, ◌-◌, min, List, ℤ, length, get_or}
+use Rattle.std.specs.Prelude.{Option, ℕ, ◌+◌, ◌-◌, min, List, ℤ, length, get_or}
 use Rattle.std.specs.Int.{w32}
 use Rattle.format.specs.Step.{Step, ok, and_then}
 use Rattle.format.specs.Answer.{Answer}
@@ -12,7 +12,6 @@ use Rattle.records.specs.Access.{record_of}
 use Rattle.records.specs.Node.{with_contents}
 use Rattle.records.specs.Number.{offset_at}
 use Rattle.records.specs.Triple.{point_at}
-use Rattle.records.specs.declared.number.OptionalOffset.{OptionalOffset}
 use Rattle.records.specs.declared.leaf.Sounds.{Sounds}
 use Rattle.records.specs.declared.leaf.BspLeaf.{BspLeaf}
 
@@ -32,7 +31,7 @@ abbrev pub up_to : ℕ → List ℕ → ℕ → ℕ
 up_to n s at = at + min n (length s - at)
 
 -- the fields that are not tested
-unfoldable pub leaf_end_at : BspLeafContents → OptionalOffset → List ℕ → ℕ → Step BspLeaf
+unfoldable pub leaf_end_at : BspLeafContents → Option ℕ → List ℕ → ℕ → Step BspLeaf
 leaf_end_at contents offset s at =
     and_then (point_at s at) (λ low p.
     and_then (point_at s p) (λ high q.

@@ -7,4 +7,3 @@ pub mod Node
 pub mod Texinfo
 pub mod Leaf
 pub mod Edge
-pub mod Answers

@@ -1,5 +1,5 @@
 -- Render nodes (`load_render_node`) and collision nodes.
-use Rattle.std.specs.Prelude.{ℕ, cond, List, ℤ, pos, negsuc, nat_abs, ◌-ℤ◌}
+use Rattle.std.specs.Prelude.{Option, Some, None, ℕ, cond, List, ℤ, pos, negsuc, nat_abs, ◌-ℤ◌}
 use Rattle.std.specs.Int.Signed.{lt_z}
 use Rattle.std.specs.Int.{w16}
 use Rattle.format.specs.Step.{Step, ok, refused, and_then}
@@ -7,8 +7,6 @@ use Rattle.format.specs.Answer.{Answer}
 use Rattle.format.specs.Field.{i16_at, u16_at, index_at}
 use Rattle.format.specs.Code.{negated_contents}
 use Rattle.format.specs.declared.contents.BspLeafContents.{BspLeafContents}
-use Rattle.format.specs.declared.code.CodedContents.{CodedContents}
-use Rattle.format.specs.declared.code.CodedContents.TheVariants as Coded
 use Rattle.format.specs.declared.section.BspData.{BspData}
 use Rattle.format.specs.declared.section.BspFileSectionId.TheVariants.{RenderNodes, CollisionNodes}
 use Rattle.records.specs.Access.{record_of}
@@ -53,9 +51,9 @@ render_node_at s at =
     render_node_end_at plane front back s t)))
 
 -- contents, or 10
-abbrev pub with_contents : {A : Type 0} → CodedContents → (BspLeafContents → Step A) → Step A
-with_contents (Coded.Contents c) k = k c
-with_contents Coded.Invalid k = refused 10
+abbrev pub with_contents : {A : Type 0} → Option BspLeafContents → (BspLeafContents → Step A) → Step A
+with_contents (Some c) k = k c
+with_contents None k = refused 10
 
 -- a child x: a node, or if it is negative the contents of the code -x
 abbrev pub collision_child : ℤ → ℕ → Step BspCollisionNodeChild

@@ -1,10 +1,8 @@
 -- Fields that are numbers and are tested as they are read (10).
-use Rattle.std.specs.Prelude.{ℕ, cond, List, ltb, ℤ, pos, negsuc, nat_abs}
+use Rattle.std.specs.Prelude.{Option, Some, None, ℕ, cond, List, ltb, ℤ, pos, negsuc, nat_abs}
 use Rattle.std.specs.Int.Signed.{lt_z}
 use Rattle.format.specs.Step.{Step, ok, refused, and_then}
 use Rattle.format.specs.Field.{i16_at, i32_at, index_at, not_negative}
-use Rattle.records.specs.declared.number.OptionalOffset.{OptionalOffset}
-use Rattle.records.specs.declared.number.OptionalOffset.TheVariants.{None, Some}
 
 -- an i16 that is not negative
 unfoldable pub index16_at : List ℕ → ℕ → Step ℕ
@@ -31,12 +29,12 @@ unfoldable pub count_at : ℕ → List ℕ → ℕ → Step ℕ
 count_at least s at = and_then (index16_at s at) (λ n p. at_least least n p)
 
 -- the offset x; -1 stands for none
-unfoldable pub offset_of : ℤ → OptionalOffset
+unfoldable pub offset_of : ℤ → Option ℕ
 offset_of x = cond (lt_z x (pos 0)) None (Some (nat_abs x))
 
 -- a number that is an offset, or -1 for none
-abbrev pub offset : ℤ → ℕ → Step OptionalOffset
+abbrev pub offset : ℤ → ℕ → Step (Option ℕ)
 offset x p = cond (lt_z x (negsuc 0)) (refused 10) (ok (offset_of x) p)
 
-unfoldable pub offset_at : List ℕ → ℕ → Step OptionalOffset
+unfoldable pub offset_at : List ℕ → ℕ → Step (Option ℕ)
 offset_at s at = and_then (i32_at s at) (λ x p. offset x p)

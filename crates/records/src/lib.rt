@@ -2,6 +2,7 @@
 // Faces and models are in crates of their own.
 #![tactic(auto)]
 
+pub mod access;
 pub mod edge;
 pub mod leaf;
 pub mod node;

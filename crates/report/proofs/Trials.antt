@@ -15,7 +15,7 @@ use Rattle.models.specs.Model.{bounds_at, roots_at, file_model_end_at, file_mode
 use Rattle.models.specs.Text.{text_end}
 use Rattle.sections.specs.Records.{records, section, blob}
 use Rattle.sections.specs.Table.{is_multiple, section_at, three_sections_at, table_end_at, table_at, is_version, header_at, exceeds, limits, limits_from_leaves}
-use Rattle.utf8.specs.Unicode.{lead, next, run, whole, is_utf8}
+use Rattle.utf8.specs.Unicode.{lead, next_of, run, whole, is_utf8}
 use Rattle.textures.specs.Count.{any}
 use Rattle.textures.specs.Group.{sequenced}
 use Rattle.textures.specs.Section as Textures
@@ -37,7 +37,7 @@ smallest version =
     word version ++ (word 124 ++ (word 1 ++ (replicate 8 0 ++ (word 125 ++ (word 4 ++ (replicate 88 0 ++ (word 129 ++ (word 64 ++ replicate 69 0))))))))
 
 pub small : report_text (smallest 29) ≡ ascii "planes 0\nnodes 0\nclipnodes 0\nleaves 0\nfaces 0\nmodels 1\nentities 1\n"
-unfolding report_text told count_lines count_line line decimal digits load_at header_at i32_at u32_at f32_at is_version table_at three_sections_at section_at is_multiple index_at table_end_at limits limits_from_leaves exceeds record_count entities text_end is_utf8 run next lead whole Textures.textures textures_at listed sequenced any section records number_at blob texinfos faces face_extents leaf_references file_model_at file_model_end_at bounds_at roots_at vector_at padded_bounds of_bits
+unfolding report_text told count_lines count_line line decimal digits load_at header_at i32_at u32_at f32_at is_version table_at three_sections_at section_at is_multiple index_at table_end_at limits limits_from_leaves exceeds record_count entities text_end is_utf8 run next_of lead whole Textures.textures textures_at listed sequenced any section records number_at blob texinfos faces face_extents leaf_references file_model_at file_model_end_at bounds_at roots_at vector_at padded_bounds of_bits
 small = refl
 
 pub other_version : report_text (smallest 28) ≡ ascii "refused 2\n"

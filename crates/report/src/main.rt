@@ -10,7 +10,7 @@ mod text;
 
 use crate::text::{put_line, put_text};
 use format::section::{BspData, BspFileSectionId};
-use load::{Loaded, load};
+use load::load;
 use std::io;
 use std::io::{Read, Write};
 
@@ -45,8 +45,8 @@ pub fn report(input: &[u8], out: &mut [u8; 129]) -> usize
         return put_text(b"too long\n", 0, out);
     }
     match load(input) {
-        Loaded::Refused(refusal) => put_line(b"refused ", refusal.number(), 0, out),
-        Loaded::Map(map) => put_counts(map, out),
+        Err(refusal) => put_line(b"refused ", refusal.number(), 0, out),
+        Ok(map) => put_counts(map, out),
     }
 }
 

@@ -1,4 +1,5 @@
 -- A row that is whole for a number of leaves is whole for fewer. Assumes nothing.
+use Rattle.std.specs.Prelude.{Option, Some, None}
 use Prim.Native.Nat.{ℕ, zero, suc, ◌+◌, ◌*◌, ◌<◌, ◌≤◌}
 use mathlib.Core.Path.{◌≡◌, refl, ap}
 use mathlib.Core.Bool.{Bool, true, false, cond}
@@ -12,8 +13,6 @@ use Rattle.format.specs.declared.section.BspData.{BspData}
 use Rattle.format.proofs.Answers.{mapped_answer}
 use Rattle.records.specs.Leaf.{leaf_of}
 use Rattle.records.specs.declared.leaf.BspLeaf.{BspLeaf}
-use Rattle.records.specs.declared.number.OptionalOffset.{OptionalOffset}
-use Rattle.records.specs.declared.number.OptionalOffset.TheVariants.{None, Some}
 use Rattle.vis.specs.Row.{bits, before, in_byte, row_bits, visible, row_at}
 use Rattle.vis.specs.Pvs.{visibility_of, section_row, row_of, pvs_of}
 
@@ -78,7 +77,7 @@ module _ (c n : ℕ) (fewer : c ≤ n) where
         by (answer visibility) w = row_at_fewer visibility offset w
         by (refused r) w = none r w.0 w.1
 
-    offset_fewer : (o : OptionalOffset) → Whole (row_of s m n o) → Whole (row_of s m c o)
+    offset_fewer : (o : Option ℕ) → Whole (row_of s m n o) → Whole (row_of s m c o)
     offset_fewer None w = ([], refl)
     offset_fewer (Some offset) w = section_fewer offset w
 

@@ -22,8 +22,7 @@ use Rattle.format.specs.declared.section.BspData.{BspData}
 use Rattle.format.specs.declared.section.BspFileSectionId.{BspFileSectionId}
 use Rattle.format.specs.declared.section.BspFileSectionId.TheVariants.{Entities, Planes, Textures, Vertices, Visibility, RenderNodes, TextureInfo, Faces, Lightmaps, CollisionNodes, Leaves, FaceList, Edges, EdgeList, Models}
 use Rattle.format.proofs.Layouts.{i32_at_lem}
-use Rattle.sections.specs.Table.{is_multiple, section_at, three_sections_at, table_end_at, table_at, is_version, header_at, table_of}
-use Rattle.sections.specs.declared.table.Three.{Three}
+use Rattle.sections.specs.Table.{Three, is_multiple, section_at, three_sections_at, table_end_at, table_at, is_version, header_at, table_of}
 use Rattle.sections.proofs.Bounded.{not_ok, at_position}
 
 abbrev value_or : {A : Type 0} → A → Step A → A

@@ -8,7 +8,6 @@ use Rattle.format.specs.declared.section.BspFileSection.{BspFileSection}
 use Rattle.format.specs.declared.section.BspData.{BspData}
 use Rattle.format.specs.declared.section.BspFileSectionId.{BspFileSectionId}
 use Rattle.format.specs.declared.section.BspFileSectionId.TheVariants.{Entities, Planes, Textures, Vertices, Visibility, RenderNodes, TextureInfo, Faces, Lightmaps, CollisionNodes, Leaves, FaceList, Edges, EdgeList, Models}
-use Rattle.sections.specs.declared.table.Three.{Three}
 
 -- a size of whole elements only
 unfoldable pub is_multiple : BspFileSectionId → ℕ → Bool
@@ -20,6 +19,12 @@ section_at id s at =
     and_then (index_at 3 s at) (λ offset p.
     and_then (index_at 4 s p) (λ size next.
     cond (is_multiple id size) (ok (record { offset = offset; size = size }) next) (refused 5)))
+
+-- three sections in a row
+pub record Three : Type 0 where
+  pub a : BspFileSection
+  pub b : BspFileSection
+  pub c : BspFileSection
 
 -- three sections of the table
 unfoldable pub three_sections_at : BspFileSectionId → BspFileSectionId → BspFileSectionId → List ℕ → ℕ → Step Three

@@ -1,48 +1,77 @@
 // Sections whose fields are not tested as they are read: rows of records, and bytes that are kept as they are.
-ghost use Rattle.std.specs.Prelude.{◌≡◌};
+ghost use Rattle.std.specs.Prelude.{◌≡◌, ℕ, List};
+ghost use Rattle.format.specs.Step.{Step};
 ghost use Rattle.sections.specs.Answers.{position_step};
+ghost use Rattle.sections.specs.Reads.{ReadsAs};
+ghost use Rattle.sections.specs.Records as Row;
 ghost use Rattle.sections.specs.Records.{plain, plain_section, blob};
 
-use crate::position::{Position, check_end_position};
-use format::refusal::Refusal;
+use crate::position::check_end_position;
+use format::field::Read;
+use format::refusal::{Answer, Refusal};
 use format::section::{BspFileSection, BspFileSectionId};
 
 // So many bytes whose fields are not tested. None are there everywhere.
-pub fn read_plain(s: &[u8], at: usize, bytes: usize) -> Position
+pub fn read_plain(s: &[u8], at: usize, bytes: usize) -> Answer<usize>
     ensures { position_step result ≡ plain s.now at bytes }
 {
     if bytes == 0 {
-        return Position::At(at);
+        return Ok(at);
     }
-    if s.len() < bytes {
-        return Position::Refused(Refusal::EndOfFile);
+    match at.checked_add(bytes) {
+        Some(end) if end <= s.len() => Ok(end),
+        _ => Err(Refusal::EndOfFile),
     }
-    if s.len() - bytes < at {
-        return Position::Refused(Refusal::EndOfFile);
+}
+
+// So many records in a row from a position on, each read by `read`: the position after the last, or the first refusal.
+pub fn read_records<T: Copy, F: Fn(&[u8], usize) -> Read<T>>(
+    s: &[u8],
+    at: usize,
+    count: u32,
+    read: F,
+) -> Answer<usize>
+    requires { F.IsAlwaysCallable read }
+    ensures { (one : List ℕ → ℕ → Step T) → ReadsAs (F.post read) one → position_step result ≡ Row.records one s.now count at }
+{
+    let mut p = at;
+    for _ in 0..count {
+        (_, p) = read(s, p)?;
     }
-    Position::At(at + bytes)
+    Ok(p)
+}
+
+// A section of records, each read by `read`, and the section's end.
+#[tactic(auto, unfolding(crate::specs::Records::section))]
+pub fn check_records<T: Copy, F: Fn(&[u8], usize) -> Read<T>>(
+    s: &[u8],
+    section: BspFileSection,
+    id: BspFileSectionId,
+    read: F,
+) -> Answer<usize>
+    requires { F.IsAlwaysCallable read }
+    ensures { (one : List ℕ → ℕ → Step T) → ReadsAs (F.post read) one → position_step result ≡ Row.section one id s.now section }
+{
+    let end = read_records(s, section.offset as usize, section.record_count(id), read)?;
+    check_end_position(section, end)
 }
 
 // A section of records whose fields are not tested: one test of the file's length, and the section's end.
-pub fn check_plain(s: &[u8], section: BspFileSection, id: BspFileSectionId) -> Position
+#[tactic(auto, unfolding(crate::specs::Records::plain_section))]
+pub fn check_plain(s: &[u8], section: BspFileSection, id: BspFileSectionId) -> Answer<usize>
     ensures { position_step result ≡ plain_section id s.now section }
 {
     let bytes = (section.record_count(id) as usize) * (id.element_size() as usize);
-    let read = read_plain(s, section.offset as usize, bytes);
-    check_end_position(section, read)
+    let end = read_plain(s, section.offset as usize, bytes)?;
+    check_end_position(section, end)
 }
 
 // Visibility or lightmap bytes: what there is of them is read, and the end is tested.
-pub fn check_blob(s: &[u8], section: BspFileSection) -> Position
+#[tactic(auto, unfolding(crate::specs::Records::blob))]
+pub fn check_blob(s: &[u8], section: BspFileSection) -> Answer<usize>
     ensures { position_step result ≡ blob s.now section }
 {
     let at = section.offset as usize;
-    let size = section.size as usize;
-    if s.len() <= at {
-        return check_end_position(section, Position::At(at));
-    }
-    if s.len() - at < size {
-        return check_end_position(section, Position::At(s.len()));
-    }
-    check_end_position(section, Position::At(at + size))
+    let there = s.len().saturating_sub(at);
+    check_end_position(section, at + there.min(section.size as usize))
 }

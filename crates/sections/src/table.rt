@@ -1,165 +1,48 @@
 // The version, the table of sections and the limits.
 ghost use Rattle.std.specs.Prelude.{◌≡◌};
-ghost use Rattle.sections.specs.Answers.{position_step};
+ghost use Rattle.std.specs.List.{list_any};
+ghost use Rattle.format.specs.Answers.{step_of};
+ghost use Rattle.sections.specs.Answers.{checked_step};
 ghost use Rattle.sections.specs.Table as Table;
-ghost use Rattle.sections.specs.Answers as Answers;
 
-use crate::position::Position;
-use format::field::{ReadI32, ReadIndex};
-use format::refusal::Refusal;
+use format::field::{Read, read_i32, read_index};
+use format::refusal::{Answer, Refusal};
 use format::section::{BspData, BspFileSection, BspFileSectionId};
 
-#[derive(Clone, Copy)]
-pub enum ReadSection {
-    Value(BspFileSection, usize),
-    Refused(Refusal),
-}
-
-// Three sections in a row.
-#[derive(Clone, Copy)]
-pub struct Three {
-    pub a: BspFileSection,
-    pub b: BspFileSection,
-    pub c: BspFileSection,
-}
-
-#[derive(Clone, Copy)]
-pub enum ReadThreeSections {
-    Value(Three, usize),
-    Refused(Refusal),
-}
-
-// The sections of the file, in the map record; its texture count is not known yet.
-#[derive(Clone, Copy)]
-pub enum ReadTable {
-    Value(BspData, usize),
-    Refused(Refusal),
-}
-
-pub fn read_section(s: &[u8], at: usize, id: BspFileSectionId) -> ReadSection
-    ensures { Answers.section_step result ≡ Table.section_at id s.now at }
+// One section of the table, whose size is that of whole elements.
+#[tactic(auto, unfolding(crate::specs::Table::section_at, crate::specs::Table::is_multiple))]
+pub fn read_section(s: &[u8], at: usize, id: BspFileSectionId) -> Read<BspFileSection>
+    ensures { step_of result ≡ Table.section_at id s.now at }
 {
-    match format::field::read_index(s, at, Refusal::NegativeSectionOffset) {
-        ReadIndex::Refused(e) => ReadSection::Refused(e),
-        ReadIndex::Value(offset, p) => {
-            match format::field::read_index(s, p, Refusal::NegativeSectionSize) {
-                ReadIndex::Refused(e) => ReadSection::Refused(e),
-                ReadIndex::Value(size, next) => {
-                    if is_multiple(size, id) {
-                        return ReadSection::Value(BspFileSection { offset, size }, next);
-                    }
-                    ReadSection::Refused(Refusal::InvalidSectionSize)
-                }
-            }
-        }
+    let (offset, p) = read_index(s, at, Refusal::NegativeSectionOffset)?;
+    let (size, next) = read_index(s, p, Refusal::NegativeSectionSize)?;
+    if size.is_multiple_of(id.element_size()) {
+        return Ok((BspFileSection { offset, size }, next));
     }
+    Err(Refusal::InvalidSectionSize)
 }
 
-// Whether a section of this size has whole elements only.
-fn is_multiple(size: u32, id: BspFileSectionId) -> bool
-    ensures { result ≡ Table.is_multiple id size }
+// The fifteen sections, in the order of the table. The texture count is not known yet.
+#[tactic(auto, unfolding(crate::specs::Table::table_at, crate::specs::Table::table_end_at, crate::specs::Table::three_sections_at))]
+fn read_table(s: &[u8], at: usize) -> Read<BspData>
+    ensures { step_of result ≡ Table.table_at s.now at }
 {
-    size % id.element_size() == 0
-}
-
-fn read_three_sections(
-    s: &[u8],
-    at: usize,
-    i: BspFileSectionId,
-    j: BspFileSectionId,
-    k: BspFileSectionId,
-) -> ReadThreeSections
-    ensures { Answers.three_sections_step result ≡ Table.three_sections_at i j k s.now at }
-{
-    match read_section(s, at, i) {
-        ReadSection::Refused(e) => ReadThreeSections::Refused(e),
-        ReadSection::Value(a, p) => match read_section(s, p, j) {
-            ReadSection::Refused(e) => ReadThreeSections::Refused(e),
-            ReadSection::Value(b, q) => match read_section(s, q, k) {
-                ReadSection::Refused(e) => ReadThreeSections::Refused(e),
-                ReadSection::Value(c, next) => ReadThreeSections::Value(Three { a, b, c }, next),
-            },
-        },
-    }
-}
-
-fn read_table(s: &[u8], at: usize) -> ReadTable
-    ensures { Answers.table_step result ≡ Table.table_at s.now at }
-{
-    match read_three_sections(
-        s,
-        at,
-        BspFileSectionId::Entities,
-        BspFileSectionId::Planes,
-        BspFileSectionId::Textures,
-    ) {
-        ReadThreeSections::Refused(e) => ReadTable::Refused(e),
-        ReadThreeSections::Value(a, p) => match read_three_sections(
-            s,
-            p,
-            BspFileSectionId::Vertices,
-            BspFileSectionId::Visibility,
-            BspFileSectionId::RenderNodes,
-        ) {
-            ReadThreeSections::Refused(e) => ReadTable::Refused(e),
-            ReadThreeSections::Value(b, q) => match read_three_sections(
-                s,
-                q,
-                BspFileSectionId::TextureInfo,
-                BspFileSectionId::Faces,
-                BspFileSectionId::Lightmaps,
-            ) {
-                ReadThreeSections::Refused(e) => ReadTable::Refused(e),
-                ReadThreeSections::Value(c, t) => read_table_end(s, t, a, b, c),
-            },
-        },
-    }
-}
-
-// The table from the collision nodes on.
-fn read_table_end(s: &[u8], at: usize, a: Three, b: Three, c: Three) -> ReadTable
-    ensures { Answers.table_step result ≡ Table.table_end_at a b c s.now at }
-{
-    match read_three_sections(
-        s,
-        at,
-        BspFileSectionId::CollisionNodes,
-        BspFileSectionId::Leaves,
-        BspFileSectionId::FaceList,
-    ) {
-        ReadThreeSections::Refused(e) => ReadTable::Refused(e),
-        ReadThreeSections::Value(d, p) => match read_three_sections(
-            s,
-            p,
-            BspFileSectionId::Edges,
-            BspFileSectionId::EdgeList,
-            BspFileSectionId::Models,
-        ) {
-            ReadThreeSections::Refused(e) => ReadTable::Refused(e),
-            ReadThreeSections::Value(f, next) => ReadTable::Value(table_of(a, b, c, d, f), next),
-        },
-    }
-}
-
-fn table_of(a: Three, b: Three, c: Three, d: Three, e: Three) -> BspData
-    ensures { result ≡ Table.table_of a b c d e }
-{
-    let entities = a.a;
-    let planes = a.b;
-    let textures = a.c;
-    let vertices = b.a;
-    let visibility = b.b;
-    let render_nodes = b.c;
-    let texinfo = c.a;
-    let faces = c.b;
-    let lightmaps = c.c;
-    let collision_nodes = d.a;
-    let leaves = d.b;
-    let facelist = d.c;
-    let edges = e.a;
-    let edgelist = e.b;
-    let models = e.c;
-    BspData {
+    let (entities, p) = read_section(s, at, BspFileSectionId::Entities)?;
+    let (planes, p) = read_section(s, p, BspFileSectionId::Planes)?;
+    let (textures, p) = read_section(s, p, BspFileSectionId::Textures)?;
+    let (vertices, p) = read_section(s, p, BspFileSectionId::Vertices)?;
+    let (visibility, p) = read_section(s, p, BspFileSectionId::Visibility)?;
+    let (render_nodes, p) = read_section(s, p, BspFileSectionId::RenderNodes)?;
+    let (texinfo, p) = read_section(s, p, BspFileSectionId::TextureInfo)?;
+    let (faces, p) = read_section(s, p, BspFileSectionId::Faces)?;
+    let (lightmaps, p) = read_section(s, p, BspFileSectionId::Lightmaps)?;
+    let (collision_nodes, p) = read_section(s, p, BspFileSectionId::CollisionNodes)?;
+    let (leaves, p) = read_section(s, p, BspFileSectionId::Leaves)?;
+    let (facelist, p) = read_section(s, p, BspFileSectionId::FaceList)?;
+    let (edges, p) = read_section(s, p, BspFileSectionId::Edges)?;
+    let (edgelist, p) = read_section(s, p, BspFileSectionId::EdgeList)?;
+    let (models, end) = read_section(s, p, BspFileSectionId::Models)?;
+    let map = BspData {
         entities,
         planes,
         textures,
@@ -176,71 +59,57 @@ fn table_of(a: Three, b: Three, c: Three, d: Three, e: Three) -> BspData
         edgelist,
         models,
         texture_count: 0,
-    }
+    };
+    Ok((map, end))
 }
 
+// The sections that have a limit, which is tested before they are read.
+const LIMITED: [BspFileSectionId; 9] = [
+    BspFileSectionId::Planes,
+    BspFileSectionId::Vertices,
+    BspFileSectionId::Visibility,
+    BspFileSectionId::RenderNodes,
+    BspFileSectionId::CollisionNodes,
+    BspFileSectionId::Leaves,
+    BspFileSectionId::Edges,
+    BspFileSectionId::EdgeList,
+    BspFileSectionId::Models,
+];
+
 // The version, and then the table.
-pub fn read_header(s: &[u8]) -> ReadTable
-    ensures { Answers.table_step result ≡ Table.header_at s.now }
+#[tactic(auto, using(crate::proofs::Version::yes_29, crate::proofs::Version::no_29), unfolding(crate::specs::Table::header_at))]
+pub fn read_header(s: &[u8]) -> Read<BspData>
+    ensures { step_of result ≡ Table.header_at s.now }
 {
-    match format::field::read_i32(s, 0) {
-        ReadI32::EndOfFile => ReadTable::Refused(Refusal::EndOfFile),
-        ReadI32::Value(version, p) => {
-            if version == 29 {
-                return read_table(s, p);
-            }
-            ReadTable::Refused(Refusal::UnsupportedVersion)
-        }
+    let (version, p) = read_i32(s, 0)?;
+    if version == 29 {
+        return read_table(s, p);
     }
+    Err(Refusal::UnsupportedVersion)
 }
 
 // Whether a section has more elements than its limit.
+#[tactic(auto, unfolding(crate::specs::Table::exceeds))]
 pub fn exceeds(m: BspData, id: BspFileSectionId) -> bool
     ensures { result ≡ Table.exceeds id m }
 {
-    let section = m.section(id);
-    !id.within_limit(section.record_count(id))
+    !id.within_limit(m.section(id).record_count(id))
 }
 
-pub fn check_limits(m: BspData) -> Position
-    ensures { position_step result ≡ Table.limits m }
+// Whether a section that has a limit has more elements than that.
+fn exceeds_any(m: BspData) -> bool
+    ensures { result ≡ list_any (λ id. Table.exceeds id m) LIMITED }
 {
-    if exceeds(m, BspFileSectionId::Planes) {
-        return Position::Refused(Refusal::LimitExceeded);
-    }
-    if exceeds(m, BspFileSectionId::Vertices) {
-        return Position::Refused(Refusal::LimitExceeded);
-    }
-    if exceeds(m, BspFileSectionId::Visibility) {
-        return Position::Refused(Refusal::LimitExceeded);
-    }
-    if exceeds(m, BspFileSectionId::RenderNodes) {
-        return Position::Refused(Refusal::LimitExceeded);
-    }
-    if exceeds(m, BspFileSectionId::CollisionNodes) {
-        return Position::Refused(Refusal::LimitExceeded);
-    }
-    check_limits_from_leaves(m)
+    LIMITED.iter().any(|id| exceeds(m, *id))
 }
 
-// The limits from the leaves on.
-fn check_limits_from_leaves(m: BspData) -> Position
-    ensures { position_step result ≡ Table.limits_from_leaves m }
+// Every section is within its limit, and there is a model.
+#[tactic(auto, unfolding(crate::specs::Table::limits, crate::specs::Table::limits_from_leaves))]
+pub fn check_limits(m: BspData) -> Answer<()>
+    ensures { checked_step result ≡ Table.limits m }
 {
-    if exceeds(m, BspFileSectionId::Leaves) {
-        return Position::Refused(Refusal::LimitExceeded);
+    if exceeds_any(m) || m.models.record_count(BspFileSectionId::Models) == 0 {
+        return Err(Refusal::LimitExceeded);
     }
-    if exceeds(m, BspFileSectionId::Edges) {
-        return Position::Refused(Refusal::LimitExceeded);
-    }
-    if exceeds(m, BspFileSectionId::EdgeList) {
-        return Position::Refused(Refusal::LimitExceeded);
-    }
-    if m.models.record_count(BspFileSectionId::Models) == 0 {
-        return Position::Refused(Refusal::LimitExceeded);
-    }
-    if exceeds(m, BspFileSectionId::Models) {
-        return Position::Refused(Refusal::LimitExceeded);
-    }
-    Position::At(0)
+    Ok(())
 }

@@ -1,5 +1,7 @@
 -- Demand 3 at the calls that a server makes (specs/EveryCall.antt says it): what bsp_load wrote is read back as the map record of a file that loads, what
 -- bsp_tree_check passed is a root that passed the tree check, and `every_table` of loaded/proofs/EveryFile.antt does the rest. Assumes nothing.
+
+use Rattle.std.specs.Prelude as Std
 use Prim.Native.Nat.{ℕ, ◌≤◌}
 use native.Mathlib.Omega.{arith}
 use mathlib.Core.Bool.{Bool, true, false, cond}
@@ -35,7 +37,7 @@ use Rattle.loaded.specs.Refusals.{RefusedOnly}
 use Rattle.loaded.proofs.EveryFile.{every_table}
 use Rattle.loaded.proofs.Loading.{loading_refuses}
 use Rattle.words.specs.Words.{Written, written, given, put, Left, left, enough, listed_in, number_words, map_words, map_of}
-use Rattle.served.specs.Cited.{bsp_load, bsp_tree_check, bsp_contents, bsp_find_leaf, bsp_trace, bsp_contents_nodes, bsp_find_leaf_nodes, bsp_trace_nodes, point_at, table_numbered, check_of, TableNumbered, Table, NoTable, hull_from, vector_at, hull_in, table_word, contents_words, leaf_words, trace_words}
+use Rattle.served.specs.Cited.{bsp_load, bsp_tree_check, bsp_contents, bsp_find_leaf, bsp_trace, bsp_contents_nodes, bsp_find_leaf_nodes, bsp_trace_nodes, point_at, table_numbered, check_of, hull_from, vector_at, hull_in, table_word, contents_words, leaf_words, trace_words}
 use Rattle.served.specs.NamedWords.{map_length, hull_asked, contents_length, leaf_length, trace_length, hull_table, hull_root, contents_visits, leaf_visits, trace_visits, tree_height, render_table}
 use Rattle.served.specs.EveryCall.{nodes_in, Lists, Served, Calls, map_written, EveryCall}
 use Rattle.served.proofs.Refusals.{of_check}
@@ -68,20 +70,20 @@ pub record Checked (s map : List ℕ) (table root height : ℕ) : Type 0 where
   pub marks : List ℕ
   pub passed : (tree_check (nodes_of s (map_of map) t) marks root).answer ≡ answer height
 
-is_word : (n : ℕ) (t : HullTable) → table_numbered n ≡ Table t → n ≡ table_word t
+is_word : (n : ℕ) (t : HullTable) → table_numbered n ≡ Std.Some t → n ≡ table_word t
 unfolding table_numbered
 is_word n t e = by (eqb n 0) (eqb n 1) (eqb n 2) refl refl refl t e
   where
-    by : (a b c : Bool) → eqb n 0 ≡ a → eqb n 1 ≡ b → eqb n 2 ≡ c → (t : HullTable) → cond a (Table Render) (cond b (Table Clip) (cond c (Table Box) NoTable)) ≡ Table t → n ≡ table_word t
+    by : (a b c : Bool) → eqb n 0 ≡ a → eqb n 1 ≡ b → eqb n 2 ≡ c → (t : HullTable) → cond a (Std.Some Render) (cond b (Std.Some Clip) (cond c (Std.Some Box) Std.None)) ≡ Std.Some t → n ≡ table_word t
     by true b c p q r t e = let z : t ≡ Render = cc in rw z (eqb-true n 0 p)
     by false true c p q r t e = let z : t ≡ Clip = cc in rw z (eqb-true n 1 q)
     by false false true p q r t e = let z : t ≡ Box = cc in rw z (eqb-true n 2 r)
     by false false false p q r t e = let z : ◌≡◌ {A = ℕ} 0 1 = cc in absurd (omega arith)
 
 module _ (s map : List ℕ) (table root : ℕ) (marks out : List ℕ) where
-  at_table : (x : TableNumbered) → table_numbered table ≡ x → (check_of x s map root marks out).status ≡ 0 → Checked s map table root (tree_height (check_of x s map root marks out).out)
-  at_table NoTable q e = absurd (omega (arith, e))
-  at_table (Table t) q e = by (tree_check (nodes_of s (map_of map) t) marks root).answer refl e
+  at_table : (x : Std.Option HullTable) → table_numbered table ≡ x → (check_of x s map root marks out).status ≡ 0 → Checked s map table root (tree_height (check_of x s map root marks out).out)
+  at_table Std.None q e = absurd (omega (arith, e))
+  at_table (Std.Some t) q e = by (tree_check (nodes_of s (map_of map) t) marks root).answer refl e
     where
       by : (x : Answer ℕ) → (tree_check (nodes_of s (map_of map) t) marks root).answer ≡ x → (given (mapped number_words x) out).status ≡ 0
           → Checked s map table root (tree_height (given (mapped number_words x) out).list)

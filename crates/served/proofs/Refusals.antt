@@ -1,5 +1,6 @@
 -- What the calls are refused with (specs/Refusals.antt says it): loaded/proofs/Refusals.antt and loaded/proofs/Loading.antt, and 22 and 20 for lists and tables.
 -- Assumes nothing.
+use Rattle.std.specs.Prelude.{Option, Some, None}
 use Prim.Native.Nat.{ℕ, zero, suc, ◌<◌}
 use mathlib.Core.Bool.{Bool, true, false}
 use mathlib.Core.List.{List, [], ◌∷◌}
@@ -32,7 +33,7 @@ use Rattle.loaded.proofs.Loading.{loading_refuses}
 use Rattle.loaded.proofs.Refusals as Core
 use Rattle.loaded.proofs.Refusals.{answers, refuses, of_mapped, of_record}
 use Rattle.words.specs.Words.{number_words, map_words, map_of}
-use Rattle.served.specs.Cited.{bsp_load, bsp_tree_check, bsp_contents, bsp_find_leaf, bsp_trace, bsp_contents_nodes, bsp_find_leaf_nodes, bsp_trace_nodes, point_at, table_numbered, check_of, TableNumbered, Table, NoTable, hull_from, hull_in, contents_words, leaf_words, trace_words}
+use Rattle.served.specs.Cited.{bsp_load, bsp_tree_check, bsp_contents, bsp_find_leaf, bsp_trace, bsp_contents_nodes, bsp_find_leaf_nodes, bsp_trace_nodes, point_at, table_numbered, check_of, hull_from, hull_in, contents_words, leaf_words, trace_words}
 use Rattle.served.specs.Refusals.{ZeroOr, OfLoad, of_contents, of_find_leaf, of_trace, of_tree_check, EveryRefusal}
 use Rattle.served.proofs.Statuses.{of_given, at_least_lem, both, of_listed, OfWords, of_table, of_none, of_words}
 
@@ -109,9 +110,9 @@ module _ (s map : List ℕ) where
   of_tree_check_lem table root marks out =
       both K (inl refl) (inr (inl refl)) 31 map marks out _ (both K (inl refl) (inr (inl refl)) 1 out marks out _ (by (table_numbered table)))
     where
-      by : (x : TableNumbered) → K (check_of x s map root marks out).status
-      by NoTable = inr (inr (inl refl))
-      by (Table t) =
+      by : (x : Option HullTable) → K (check_of x s map root marks out).status
+      by None = inr (inr (inl refl))
+      by (Some t) =
           of_given K (inl refl) number_words (tree_check (nodes_of s m t) marks root).answer out
           (of_check K (inr (inr (inl refl))) (inr (inl refl)) (inr (inr (inr (inl refl)))) (inr (inr (inr (inr (inl refl))))) (inr (inr (inr (inr (inr (inr (inl refl)))))))
           (inr (inr (inr (inr (inr (inl refl)))))) s m t marks root)

@@ -1,5 +1,7 @@
 -- The promise of acceptance about the calls for C (specs/Rota.antt says it): what bsp_accept passed is a map that `accept` passed, of which rota/proofs/Promise.antt
 -- says it, and demand 3 at the calls (proofs/EveryCall.antt) does the rest. Assumes nothing.
+
+use Rattle.std.specs.Prelude as Std
 use Prim.Native.Nat.{ℕ, zero, suc, ◌-◌, ◌<◌, ◌≤◌}
 use mathlib.Core.Path.{◌≡◌, refl, sym, ap, subst, ◌∙◌}
 use mathlib.Core.Bool.{Bool, true, false, cond}
@@ -33,7 +35,7 @@ use Rattle.rota.specs.Promise as Promise
 use Rattle.rota.specs.Promise.{Queries, Walks}
 use Rattle.rota.proofs.Promise as Promised
 use Rattle.words.specs.Words.{Written, written, given, put, at_least, Left, listed_in, number_words, map_of}
-use Rattle.served.specs.Cited.{bsp_hull, bsp_tree_check, bsp_contents, bsp_find_leaf, bsp_trace, bsp_pvs, bsp_accept, point_at, table_numbered, check_of, TableNumbered, Table, hull_from, hull_in, hull_words, table_word, contents_words, leaf_words, trace_words, status_of, judged_in}
+use Rattle.served.specs.Cited.{bsp_hull, bsp_tree_check, bsp_contents, bsp_find_leaf, bsp_trace, bsp_pvs, bsp_accept, point_at, table_numbered, check_of, hull_from, hull_in, hull_words, table_word, contents_words, leaf_words, trace_words, status_of, judged_in}
 use Rattle.served.specs.NamedWords.{hull_table, hull_root, tree_height, render_table}
 use Rattle.served.specs.EveryCall.{nodes_in, map_written}
 use Rattle.served.specs.Rota.{NotByShape, Roots, Passed, EveryMap, EveryFile}
@@ -74,7 +76,7 @@ accept_passed s map marks e =
 
 -- ---- bsp_tree_check, from the tree check
 
-numbered : (t : HullTable) → table_numbered (table_word t) ≡ Table t
+numbered : (t : HullTable) → table_numbered (table_word t) ≡ Std.Some t
 unfolding table_numbered
 numbered Render = refl
 numbered Clip = refl
@@ -90,7 +92,7 @@ module _ (s map : List ℕ) (room : 31 ≤ length map) where
       → (bsp_tree_check s map (table_word t) root marks out).status ≡ 0
   unfolding bsp_tree_check
   check_answers t root marks out height h e =
-      ap (λ (l : Left). l.status) (long_both 31 map marks out _ room ∙ long_both 1 out marks out _ h ∙ ap (λ (x : TableNumbered). check_of x s map root marks out) (numbered t))
+      ap (λ (l : Left). l.status) (long_both 31 map marks out _ room ∙ long_both 1 out marks out _ h ∙ ap (λ (x : Std.Option HullTable). check_of x s map root marks out) (numbered t))
       ∙ ap (λ (x : Answer ℕ). (given (mapped number_words x) out).status) e
 
   -- ---- bsp_hull

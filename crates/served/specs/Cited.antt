@@ -14,8 +14,6 @@ pub use Rattle.ffi_hull.specs.Layout.{point_at}
 -- and, for the proofs, the parts of which these are made
 unfoldable pub use Rattle.ffi_tree.specs.Calls.{table_numbered}
 pub use Rattle.ffi_tree.specs.Calls.{check_of}
-pub use Rattle.ffi_tree.specs.declared.TableNumbered.{TableNumbered}
-pub use Rattle.ffi_tree.specs.declared.TableNumbered.TheVariants.{Table, NoTable}
 unfoldable pub use Rattle.ffi_hull.specs.Layout.{hull_from}
 pub use Rattle.ffi_hull.specs.Layout.{vector_at, hull_in, table_word, hull_words}
 pub use Rattle.ffi_walks.specs.Calls.{contents_words, leaf_words}

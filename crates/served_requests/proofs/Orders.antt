@@ -1,5 +1,6 @@
 -- What writing the rows of a root's tree is refused with, and what walks and traces by rows are: what the file's own records refuse, and the numbers of a
 -- list that is too short and of the tree check. None of them is 0. Assumes nothing.
+use Rattle.std.specs.Prelude.{Option, Some, None}
 use Prim.Native.Nat.{ℕ, zero, suc, ◌+◌, ◌*◌}
 use mathlib.Core.Bool.{Bool, true, false, cond}
 use mathlib.Core.List.{List, [], ◌++◌}
@@ -11,8 +12,6 @@ use lib.ListN.{length, get_or, drop}
 use Rattle.format.specs.Answer as Ans
 use Rattle.format.specs.Answer.{Answer, answer, mapped, then_answer}
 use Rattle.format.specs.Code.{contents_of}
-use Rattle.format.specs.declared.code.CodedContents.{CodedContents}
-use Rattle.format.specs.declared.code.CodedContents.TheVariants.{Contents, Invalid}
 use Rattle.format.specs.declared.contents.BspLeafContents.{BspLeafContents}
 use Rattle.format.specs.declared.section.BspData.{BspData}
 use Rattle.format.specs.declared.section.BspFileSectionId.TheVariants.{Planes, RenderNodes, CollisionNodes, Leaves}
@@ -91,9 +90,9 @@ module _ (P : ℕ → Type 0) where
 
     -- ---- rows that a caller lends
 
-    of_coded : (c : CodedContents) → RefusedOnly P (coded c)
-    of_coded (Contents c) = answers P {A = Child BspLeafContents} (end c)
-    of_coded Invalid = refuses P {A = Child BspLeafContents} 23 p23
+    of_coded : (c : Option BspLeafContents) → RefusedOnly P (coded c)
+    of_coded (Some c) = answers P {A = Child BspLeafContents} (end c)
+    of_coded None = refuses P {A = Child BspLeafContents} 23 p23
 
     of_child : (w : ℤ) → RefusedOnly P (child_of w)
     of_child (pos n) = answers P {A = Child BspLeafContents} (node n)

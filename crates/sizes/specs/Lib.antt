@@ -1,4 +1,3 @@
 -- What the contracts of `sizes` cite, and Note 10 in both directions.
 pub mod Sizes
 pub mod Files
-pub mod Answers

@@ -2,10 +2,10 @@
 #![tactic(auto)]
 
 ghost use Rattle.std.specs.Prelude.{◌≡◌, ◌+◌, ◌*◌, ◌≤◌, length};
+ghost use Rattle.format.specs.Answers.{answer_of};
 ghost use Rattle.sizes.specs.Sizes as Sizes;
-ghost use Rattle.sizes.specs.Answers as Answers;
 
-use format::refusal::Refusal;
+use format::refusal::{Answer, Refusal};
 use math::Vector3;
 
 // How far a body reaches from its middle.
@@ -20,13 +20,6 @@ pub struct Bounds {
 pub struct BodySizes {
     pub hull_1: Bounds,
     pub hull_2: Bounds,
-}
-
-// What `parse` answers.
-#[derive(Clone, Copy)]
-pub enum SizesAnswer {
-    Sizes(BodySizes),
-    Refused(Refusal),
 }
 
 // Whether a field with this tag and a length of 24 starts at a place.
@@ -103,21 +96,21 @@ fn is_body(bounds: Bounds) -> bool
 }
 
 // The sizes, if both are bodies.
-fn judge(sizes: BodySizes) -> SizesAnswer
-    ensures { Answers.sizes_answer result ≡ Sizes.judged sizes }
+fn judge(sizes: BodySizes) -> Answer<BodySizes>
+    ensures { answer_of result ≡ Sizes.judged sizes }
 {
     if is_body(sizes.hull_1) {
         if is_body(sizes.hull_2) {
-            return SizesAnswer::Sizes(sizes);
+            return Ok(sizes);
         }
     }
-    SizesAnswer::Refused(Refusal::NotABody)
+    Err(Refusal::NotABody)
 }
 
 // The sizes with hull 1's value at one place and hull 2's at another.
-fn sizes_in(s: &[u8], one: usize, two: usize) -> SizesAnswer
+fn sizes_in(s: &[u8], one: usize, two: usize) -> Answer<BodySizes>
     requires { (one + 24 ≤ length s.now) × (two + 24 ≤ length s.now) }
-    ensures { Answers.sizes_answer result ≡ Sizes.judged (Sizes.sizes_in s.now one two) }
+    ensures { answer_of result ≡ Sizes.judged (Sizes.sizes_in s.now one two) }
 {
     judge(BodySizes {
         hull_1: bounds_in(s, one),
@@ -127,23 +120,23 @@ fn sizes_in(s: &[u8], one: usize, two: usize) -> SizesAnswer
 
 // The sizes of a file. 26: a field cut short, a wrong length, an unknown, missing or repeated tag; then 27: a bound not finite or a
 // minimum at or above its maximum. Only two layouts of 54 bytes have no 26.
-pub fn parse(s: &[u8]) -> SizesAnswer
-    ensures { Answers.sizes_answer result ≡ Sizes.sizes_of s.now }
+pub fn parse(s: &[u8]) -> Answer<BodySizes>
+    ensures { answer_of result ≡ Sizes.sizes_of s.now }
 {
     if s.len() != 54 {
-        return SizesAnswer::Refused(Refusal::InvalidSizesFile);
+        return Err(Refusal::InvalidSizesFile);
     }
     if starts_field(s, 0, 1) {
         if starts_field(s, 27, 2) {
             return sizes_in(s, 3, 30);
         }
-        return SizesAnswer::Refused(Refusal::InvalidSizesFile);
+        return Err(Refusal::InvalidSizesFile);
     }
     if starts_field(s, 0, 2) {
         if starts_field(s, 27, 1) {
             return sizes_in(s, 30, 3);
         }
-        return SizesAnswer::Refused(Refusal::InvalidSizesFile);
+        return Err(Refusal::InvalidSizesFile);
     }
-    SizesAnswer::Refused(Refusal::InvalidSizesFile)
+    Err(Refusal::InvalidSizesFile)
 }

@@ -1,4 +1,5 @@
 -- Whether the players' lists are answered: what a list that finds no room tells, and the players one after another. Assumes nothing.
+use Rattle.std.specs.Prelude.{Option, Some, None}
 use mathlib.Core.Path.{◌≡◌, refl, sym, ap, ◌∙◌}
 use mathlib.Core.Bool.{Bool, true, false, cond}
 use mathlib.Core.List.{List, [], ◌∷◌, ◌++◌}
@@ -18,8 +19,6 @@ use Rattle.format.specs.declared.section.BspFileSectionId.TheVariants.{Leaves, V
 use Rattle.records.specs.Access.{reading, read_at, record_of}
 use Rattle.records.specs.Leaf.{leaf_at, leaf_of}
 use Rattle.records.specs.declared.leaf.BspLeaf.{BspLeaf}
-use Rattle.records.specs.declared.number.OptionalOffset.{OptionalOffset}
-use Rattle.records.specs.declared.number.OptionalOffset.TheVariants.{None, Some}
 use Rattle.vis.specs.Row.{row_from, row_at}
 use Rattle.vis.specs.Pvs.{visibility_of, section_row, row_of, pvs_of}
 use Rattle.team.specs.Team.{lists_of}
@@ -74,7 +73,7 @@ pvs_not22 file map leaf count = go (eqb leaf 0) (leaf_of file map leaf) (leaf_no
     in_section (answer v) o h = at_offset (ltb (length v) o) (drop o v)
     in_section (refused n) o h = h
 
-    row : (o : OptionalOffset) → not22 (row_of file map count o)
+    row : (o : Option ℕ) → not22 (row_of file map count o)
     row None = tt
     row (Some o) = in_section (visibility_of file map.visibility) o (data_not22 file map.visibility)
 

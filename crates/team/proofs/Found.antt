@@ -1,4 +1,5 @@
 -- Where the players' rows start: the starts one after another, and the players' lists as the rows at them. Assumes nothing.
+use Rattle.std.specs.Prelude.{Option, Some, None}
 use borrow.Author.Tests.{eq-eqb, ne_eqb, lt-ltb, le-ltb, ltb-false, leb-true}
 use mathlib.Core.Path.{◌≡◌, refl, sym, ap, ◌∙◌}
 use mathlib.Core.Bool.{Bool, true, false, cond}
@@ -19,8 +20,6 @@ use Rattle.format.specs.declared.section.BspFileSection.{BspFileSection}
 use Rattle.format.specs.declared.section.BspFileSectionId.TheVariants.{Visibility}
 use Rattle.records.specs.Leaf.{leaf_of}
 use Rattle.records.specs.declared.leaf.BspLeaf.{BspLeaf}
-use Rattle.records.specs.declared.number.OptionalOffset.{OptionalOffset}
-use Rattle.records.specs.declared.number.OptionalOffset.TheVariants.{None, Some}
 use Rattle.vis.specs.Row.{row_from, row_at}
 use Rattle.vis.specs.Pvs.{visibility_of, section_row, row_of, pvs_of}
 use Rattle.team.specs.Team.{holds, seen, pooled, lists_of, team_of}
@@ -128,7 +127,7 @@ module _ (file : List ℕ) (map : BspData) (count : ℕ) where
       in_section o (answer v) q e = at_offset o v q (ltb (length v) o) refl e
       in_section o (refused n) q e = let z : ◌≡◌ {A = ℕ} 0 1 = cc in absurd (omega arith)
 
-      row : (o : OptionalOffset) → answer l ≡ row_of file map count o → RowAt (offset_in o) l
+      row : (o : Option ℕ) → answer l ≡ row_of file map count o → RowAt (offset_in o) l
       row None e = let z : l ≡ [] = cc in none refl z
       row (Some o) e = in_section o (visibility_of file map.visibility) refl e
 

@@ -1,4 +1,5 @@
 -- In which range the leaves of a row lie: from its first leaf on, below the count. Assumes nothing.
+use Rattle.std.specs.Prelude.{Option, Some, None}
 use borrow.Author.Tests.{eqb-true, ltb-true, ltb-false}
 use mathlib.Core.Path.{◌≡◌, refl, sym, ◌∙◌}
 use mathlib.Core.Bool.{Bool, true, false, cond}
@@ -12,8 +13,6 @@ use Rattle.format.specs.Answer.{Answer, answer, refused, then_answer}
 use Rattle.format.specs.declared.section.BspData.{BspData}
 use Rattle.records.specs.Leaf.{leaf_of}
 use Rattle.records.specs.declared.leaf.BspLeaf.{BspLeaf}
-use Rattle.records.specs.declared.number.OptionalOffset.{OptionalOffset}
-use Rattle.records.specs.declared.number.OptionalOffset.TheVariants.{None, Some}
 use Rattle.vis.specs.Row.{bits, before, in_byte, visible, row_from, row_at}
 use Rattle.vis.specs.Private.{byte_leaves}
 use Rattle.vis.specs.Pvs.{visibility_of, section_row, row_of, pvs_of}
@@ -119,7 +118,7 @@ pvs_range file map leaf count = go (eqb leaf 0) (leaf_of file map leaf)
     in_section (answer v) o = at_offset (ltb (length v) o) (drop o v)
     in_section (refused n) o = tt
 
-    row : (o : OptionalOffset) → in_range 1 count (row_of file map count o)
+    row : (o : Option ℕ) → in_range 1 count (row_of file map count o)
     row None = nothing 1 count
     row (Some o) = in_section (visibility_of file map.visibility) o
 

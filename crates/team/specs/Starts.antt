@@ -1,13 +1,11 @@
 -- For the contracts of functions that no other crate can name; a reader of the calls may leave this file out.
 -- Where the players' rows start, and whether all their lists are answered.
-use Rattle.std.specs.Prelude.{ℕ, cond, List, [], ◌∷◌, ◌++◌, eqb}
+use Rattle.std.specs.Prelude.{Option, Some, None, ℕ, cond, List, [], ◌∷◌, ◌++◌, eqb}
 use Rattle.format.specs.Answer.{Answer, answer, refused}
 use Rattle.format.specs.declared.section.BspData.{BspData}
 use Rattle.format.specs.declared.section.BspFileSection.{BspFileSection}
 use Rattle.records.specs.Leaf.{leaf_of}
 use Rattle.records.specs.declared.leaf.BspLeaf.{BspLeaf}
-use Rattle.records.specs.declared.number.OptionalOffset.{OptionalOffset}
-use Rattle.records.specs.declared.number.OptionalOffset.TheVariants.{None, Some}
 use Rattle.vis.specs.Pvs.{visibility_of}
 
 -- whether there is an answer, or with what it is refused
@@ -25,7 +23,7 @@ abbrev pub data_of : List ℕ → BspFileSection → List ℕ
 data_of file z = or_none (visibility_of file z)
 
 -- the offset of a leaf's row, where it has one
-abbrev pub offset_in : OptionalOffset → List ℕ
+abbrev pub offset_in : Option ℕ → List ℕ
 offset_in None = []
 offset_in (Some offset) = offset ∷ []
 

@@ -2,13 +2,12 @@
 #![tactic(auto)]
 
 ghost use Rattle.std.specs.Prelude.{◌≡◌};
+ghost use Rattle.format.specs.Answers.{answer_of};
 ghost use Rattle.format.specs.Listed.{listed, into};
-ghost use Rattle.vis.specs.Answers.{length_of};
 ghost use Rattle.team.specs.Team.{team_of};
 
-use format::refusal::Refusal;
+use format::refusal::{Answer, Refusal};
 use format::section::BspData;
-use vis::Pvs;
 
 mod players;
 mod pool;
@@ -21,20 +20,20 @@ pub fn pvs_team(
     leaves: &[u64],
     leaf_count: usize,
     list: &mut [u32],
-) -> Pvs
-    ensures { listed (length_of result) list.new ≡ into (team_of file.now map leaves.now leaf_count) list.old }
+) -> Answer<usize>
+    ensures { listed (answer_of result) list.new ≡ into (team_of file.now map leaves.now leaf_count) list.old }
 {
     if 16 < leaves.len() {
-        return Pvs::Refused(Refusal::TooManyPlayers);
+        return Err(Refusal::TooManyPlayers);
     }
     let told = players::ask_all(file, map, leaves, leaf_count);
-    let Pvs::Length(_) = told else {
+    let Ok(_) = told else {
         return told;
     };
     let mut starts = [0usize; 16];
     let rows = players::find_rows(file, map, leaves, &mut starts);
     if rows == 0 {
-        return Pvs::Length(0);
+        return Ok(0);
     }
     pool::list_rows(file, map.visibility, starts, rows, leaf_count, list)
 }

@@ -1,43 +1,42 @@
 // The players of a team: whether the list of each is answered, and where their rows start.
 ghost use Rattle.std.specs.Prelude.{◌≡◌, ◌≤◌, [], ◌∷◌, length, take};
+ghost use Rattle.format.specs.Answers.{answer_of};
 ghost use Rattle.vis.specs.Pvs.{pvs_of};
-ghost use Rattle.vis.specs.Answers.{length_of};
 ghost use Rattle.team.specs.Team.{lists_of};
 ghost use Rattle.team.specs.Starts.{whether, start_of, starts_of};
 
+use format::refusal::Answer;
 use format::section::BspData;
-use records::leaf::LeafAnswer;
-use records::number::OptionalOffset;
-use vis::{Pvs, get_pvs};
+use vis::get_pvs;
 
 // Whether a player's list is answered, or with what it is refused. The list itself is not asked for: one that finds no room is answered.
-fn ask(file: &[u8], map: BspData, leaf: usize, leaf_count: usize) -> Pvs
-    ensures { length_of result ≡ whether (pvs_of file.now map leaf leaf_count) }
+fn ask(file: &[u8], map: BspData, leaf: usize, leaf_count: usize) -> Answer<usize>
+    ensures { answer_of result ≡ whether (pvs_of file.now map leaf leaf_count) }
 {
     let mut room = [0u32; 1];
     let told = get_pvs(file, map, leaf, leaf_count, &mut room);
-    let Pvs::Refused(e) = told else {
-        return Pvs::Length(0);
+    let Err(e) = told else {
+        return Ok(0);
     };
     if e.number() == 22 {
-        return Pvs::Length(0);
+        return Ok(0);
     }
-    Pvs::Refused(e)
+    Err(e)
 }
 
 // The same for all players, in their order: the first refusal.
-pub fn ask_all(file: &[u8], map: BspData, leaves: &[u64], leaf_count: usize) -> Pvs
-    ensures { length_of result ≡ whether (lists_of file.now map leaf_count leaves.now) }
+pub fn ask_all(file: &[u8], map: BspData, leaves: &[u64], leaf_count: usize) -> Answer<usize>
+    ensures { answer_of result ≡ whether (lists_of file.now map leaf_count leaves.now) }
 {
     let mut i = 0;
     while i < leaves.len() {
         let told = ask(file, map, leaves[i] as usize, leaf_count);
-        let Pvs::Length(_) = told else {
+        let Ok(_) = told else {
             return told;
         };
         i += 1;
     }
-    Pvs::Length(0)
+    Ok(0)
 }
 
 // How many rows a leaf has, none or one, and where it starts.
@@ -55,12 +54,12 @@ fn start_of(file: &[u8], map: BspData, leaf: usize) -> Start
         return Start { rows: 0, at: 0 };
     }
     match records::leaf::leaf(file, map, leaf) {
-        LeafAnswer::Refused(_) => Start { rows: 0, at: 0 },
-        LeafAnswer::Value(record) => {
+        Err(_) => Start { rows: 0, at: 0 },
+        Ok(record) => {
             let vis_offset = record.vis_offset;
             match vis_offset {
-                OptionalOffset::None => Start { rows: 0, at: 0 },
-                OptionalOffset::Some(offset) => Start {
+                None => Start { rows: 0, at: 0 },
+                Some(offset) => Start {
                     rows: 1,
                     at: offset,
                 },

@@ -2,20 +2,19 @@
 // byte's group, the leaves from 1 + 8 * group on. A byte of the pool is the union of the rows' bytes for one group, and the next group is the
 // least that a cursor is at: groups that no row has a byte for are not looked at.
 ghost use Rattle.std.specs.Prelude.{◌≡◌, ◌+◌, ◌-◌, ◌*◌, ◌≤◌, ◌<◌, min, ◌++◌, length, take, drop};
+ghost use Rattle.format.specs.Answers.{answer_of};
 ghost use Rattle.std.specs.Int.Count.{ones};
 ghost use Rattle.format.specs.Answer.{answer, refused};
 ghost use Rattle.format.specs.Listed.{listed, into};
 ghost use Rattle.vis.specs.Row.{before, row_from};
 ghost use Rattle.vis.specs.Private.{byte_leaves};
 ghost use Rattle.vis.specs.Pvs.{visibility_of};
-ghost use Rattle.vis.specs.Answers.{length_of};
 ghost use Rattle.team.specs.Team.{pooled};
 ghost use Rattle.team.specs.Starts.{data_of};
 ghost use Rattle.team.specs.SideBySide.{kept_bits, rests_of, rows_at, Cursors, Starts, Together};
 
-use format::refusal::Refusal;
+use format::refusal::{Answer, Refusal};
 use format::section::BspFileSection;
-use vis::Pvs;
 use vis::row::kept_bits;
 
 // The byte of a row for a group, and the cursor after it.
@@ -174,9 +173,9 @@ fn list_pool(
     rows: usize,
     leaf_count: usize,
     list: &mut [u32],
-) -> Pvs
+) -> Answer<usize>
     requires { (length visibility.now ≤ 1048576) × (0 < rows) × (rows ≤ 16) × Starts visibility.now leaf_count (take rows starts) }
-    ensures { listed (length_of result) list.new ≡ into (answer (pooled (rows_at visibility.now leaf_count (take rows starts)) 1 (leaf_count - 1))) list.old }
+    ensures { listed (answer_of result) list.new ≡ into (answer (pooled (rows_at visibility.now leaf_count (take rows starts)) 1 (leaf_count - 1))) list.old }
 {
     let mut ats = starts;
     let mut groups = [0usize; 16];
@@ -187,7 +186,7 @@ fn list_pool(
         leaf_count,
     );
     if list.len() < count {
-        return Pvs::Refused(Refusal::ListTooShort);
+        return Err(Refusal::ListTooShort);
     }
     ats = starts;
     groups = [0usize; 16];
@@ -198,7 +197,7 @@ fn list_pool(
         leaf_count,
         &mut list[..count],
     );
-    Pvs::Length(count)
+    Ok(count)
 }
 
 // The same for rows of the visibility section, which lies in the file.
@@ -209,9 +208,9 @@ pub fn list_rows(
     rows: usize,
     leaf_count: usize,
     list: &mut [u32],
-) -> Pvs
+) -> Answer<usize>
     requires { (visibility_of file.now section ≡ answer (data_of file.now section)) × (0 < rows) × (rows ≤ 16) × Starts (data_of file.now section) leaf_count (take rows starts) }
-    ensures { listed (length_of result) list.new ≡ into (answer (pooled (rows_at (data_of file.now section) leaf_count (take rows starts)) 1 (leaf_count - 1))) list.old }
+    ensures { listed (answer_of result) list.new ≡ into (answer (pooled (rows_at (data_of file.now section) leaf_count (take rows starts)) 1 (leaf_count - 1))) list.old }
 {
     let size = section.size;
     if size == 0 {

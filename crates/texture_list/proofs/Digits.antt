@@ -1,22 +1,21 @@
--- Two runs of seven bytes are the same exactly if the numbers that they make are equal.
+-- Two runs of bytes of one length are the same exactly if the numbers that they make are equal.
 -- Assumes nothing.
-use Prim.Native.Nat.{ℕ, ◌+◌, ◌*◌, ◌<◌}
-use mathlib.Core.Path.{◌≡◌, refl, sym, ◌∙◌}
-use mathlib.Core.Bool.{Bool, true, false, ◌&&◌}
-use mathlib.Core.List.{List, [], ◌∷◌, ◌++◌}
-use native.Mathlib.Omega.{arith}
+use Rattle.std.specs.Prelude.{ℕ, suc, ◌+◌, ◌*◌, ◌<◌, ◌≡◌, Bool, true, false, ◌&&◌, List, [], ◌∷◌, ◌++◌, eqb, length, take, drop}
+use Rattle.std.specs.List.{All}
+use Rattle.std.proofs.Common.{refl, sym, arith}
+use Rattle.std.proofs.lemmas.List.{take-append-drop, length-take, length-drop}
+use Rattle.std.proofs.lemmas.List.Elements.{All-take, All-drop}
 use borrow.Author.Tests.{eqb-true, eqb-false, eq-eqb, ne_eqb}
-use lib.Dec.{eqb}
-use lib.ListN.{length}
-use Rattle.texture_list.specs.Name.{same}
+use Rattle.texture_list.specs.Name.{same, little_endian}
 
-abbrev pub value : List ℕ → ℕ
-value [] = 0
-value (x ∷ xs) = x + 256 * value xs
+abbrev pub Bytes : List ℕ → Type 0
+Bytes xs = All (λ b. b < 256) xs
 
-abbrev pub Small : List ℕ → Type 0
-Small [] = Unit {0}
-Small (x ∷ xs) = (x < 256) × Small xs
+head : (x : ℕ) (xs : List ℕ) → Bytes (x ∷ xs) → x < 256
+head x xs h = h 0 0 (omega arith)
+
+tail : (x : ℕ) (xs : List ℕ) → Bytes (x ∷ xs) → Bytes xs
+tail x xs h k d l = h (suc k) d (omega arith)
 
 digit : (x y v w : ℕ) → x < 256 → y < 256 → (eqb x y && eqb v w) ≡ eqb (x + 256 * v) (y + 256 * w)
 digit x y v w h k = by (eqb x y) (eqb v w) refl refl
@@ -27,12 +26,12 @@ digit x y v w h k = by (eqb x y) (eqb v w) refl refl
     by false true e f = sym (ne_eqb (x + 256 * v) (y + 256 * w) (λ q. eqb-false x y e (omega (arith, q, h, k))))
     by false false e f = sym (ne_eqb (x + 256 * v) (y + 256 * w) (λ q. eqb-false x y e (omega (arith, q, h, k))))
 
-same_value : (xs ys : List ℕ) → length xs ≡ length ys → Small xs → Small ys → same xs ys ≡ eqb (value xs) (value ys)
-unfolding same
+same_value : (xs ys : List ℕ) → length xs ≡ length ys → Bytes xs → Bytes ys → same xs ys ≡ eqb (little_endian xs) (little_endian ys)
+unfolding same little_endian
 same_value [] [] e a b = refl
 same_value [] (y ∷ ys) e a b = absurd (omega (arith, e))
 same_value (x ∷ xs) [] e a b = absurd (omega (arith, e))
-same_value (x ∷ xs) (y ∷ ys) e a b = rw (same_value xs ys (omega (arith, e)) a.1 b.1) (digit x y (value xs) (value ys) a.0 b.0)
+same_value (x ∷ xs) (y ∷ ys) e a b = rw (same_value xs ys (omega (arith, e)) (tail x xs a) (tail y ys b)) (digit x y (little_endian xs) (little_endian ys) (head x xs a) (head y ys b))
 
 and_assoc : (a b c : Bool) → ((a && b) && c) ≡ (a && (b && c))
 and_assoc true b c = refl
@@ -45,28 +44,16 @@ same_append [] (y ∷ ys) us vs e = absurd (omega (arith, e))
 same_append (x ∷ xs) [] us vs e = absurd (omega (arith, e))
 same_append (x ∷ xs) (y ∷ ys) us vs e = rw (same_append xs ys us vs (omega (arith, e))) (sym (and_assoc (eqb x y) (same xs ys) (same us vs)))
 
--- 14 bytes that make two numbers, seven each
-pub record Stem (xs : List ℕ) (a b : ℕ) : Type 0 where
-  pub front : List ℕ
-  pub back : List ℕ
-  pub whole : xs ≡ front ++ back
-  pub sevens : length front ≡ 7
-  pub rest : length back ≡ 7
-  pub small_front : Small front
-  pub small_back : Small back
-  pub is_front : value front ≡ a
-  pub is_back : value back ≡ b
-
-pub same_stems : (xs ys : List ℕ) (a b c d : ℕ) → Stem xs a b → Stem ys c d → same xs ys ≡ (eqb a c && eqb b d)
-same_stems xs ys a b c d x y =
+-- the same of two numbers, of the first k bytes and of the others
+pub same_numbers : (k : ℕ) (xs ys : List ℕ) → length xs ≡ length ys → Bytes xs → Bytes ys
+    → same xs ys ≡ (eqb (little_endian (take k xs)) (little_endian (take k ys)) && eqb (little_endian (drop k xs)) (little_endian (drop k ys)))
+same_numbers k xs ys e a b =
+    let front : length (take k xs) ≡ length (take k ys) = simp (length-take, e) in
+    let back : length (drop k xs) ≡ length (drop k ys) = simp (length-drop, e) in
+    let parts : same (take k xs ++ drop k xs) (take k ys ++ drop k ys) ≡ (same (take k xs) (take k ys) && same (drop k xs) (drop k ys)) = same_append _ _ _ _ front in
+    let whole = simp take-append-drop at parts in
     rw (
-      x.whole,
-      y.whole,
-      same_append x.front y.front x.back y.back (x.sevens ∙ sym y.sevens),
-      same_value x.front y.front (x.sevens ∙ sym y.sevens) x.small_front y.small_front,
-      same_value x.back y.back (x.rest ∙ sym y.rest) x.small_back y.small_back,
-      x.is_front,
-      x.is_back,
-      y.is_front,
-      y.is_back,
+      whole,
+      same_value (take k xs) (take k ys) front (All-take (λ b. b < 256) k xs a) (All-take (λ b. b < 256) k ys b),
+      same_value (drop k xs) (drop k ys) back (All-drop (λ b. b < 256) k xs a) (All-drop (λ b. b < 256) k ys b),
     ) refl

@@ -2,6 +2,6 @@
 mod Names
 mod Offsets
 mod Walk
+mod Reading
 mod Digits
 pub mod Keys
-mod Headers

@@ -1,7 +1,8 @@
 -- An offset of the list that is there is below 2^31.
 -- Assumes nothing.
+use Rattle.std.specs.Prelude.{Option, Some, None}
 use Prim.Native.Nat.{ℕ, suc, ◌+◌, ◌*◌, ◌-◌, ◌<◌, zero-le}
-use mathlib.Core.Path.{◌≡◌, refl, sym, ap, ◌∙◌}
+use mathlib.Core.Path.{◌≡◌, refl, sym}
 use mathlib.Core.Bool.{Bool, true, false, cond}
 use mathlib.Core.List.{List}
 use native.Mathlib.Omega.{arith}
@@ -15,12 +16,7 @@ use mir.Val.{to_z, sel}
 use Rattle.format.specs.Step.{Step, ok, refused, and_then}
 use Rattle.format.specs.Field.{u32_at, i32_at}
 use Rattle.records.specs.Number.{offset, offset_of, offset_at}
-use Rattle.records.specs.Answers.{offset_step}
-use Rattle.records.specs.declared.number.ReadOffset.{ReadOffset}
-use Rattle.records.specs.declared.number.ReadOffset.TheVariants as Off
 use Rattle.texture_list.specs.List.{texture_at, present_at}
-use Rattle.records.specs.declared.number.OptionalOffset.{OptionalOffset}
-use Rattle.records.specs.declared.number.OptionalOffset.TheVariants.{None, Some}
 
 of_bits : (n p o q : ℕ) → offset (to_z w32 n) p ≡ ok (Some o) q → o < 2147483648
 unfolding offset_of
@@ -44,13 +40,14 @@ some_low s at o q e = by (leb (at + 4) (length s)) e
 
 -- what `search` goes by where an offset is told apart
 module _ (s : List ℕ) (base end : ℕ) where
-  pub present_none : (o : OptionalOffset) → o ≡ None → ok tt end ≡ present_at s base end o
+  pub present_none : (o : Option ℕ) → o ≡ None → ok tt end ≡ present_at s base end o
   present_none o e = rw e
 
-  pub present_some : (o : OptionalOffset) (x : ℕ) (y : Step (Unit {0})) → o ≡ Some x → y ≡ texture_at s (base + x) → y ≡ present_at s base end o
+  pub present_some : (o : Option ℕ) (x : ℕ) (y : Step (Unit {0})) → o ≡ Some x → y ≡ texture_at s (base + x) → y ≡ present_at s base end o
   present_some o x y e h = rw e h
 
 pub ruleset present = (present_none, present_some)
 
-pub low : (s : List ℕ) (at : ℕ) (r : ReadOffset) (o : OptionalOffset) (p x : ℕ) → offset_step r ≡ offset_at s at → r ≡ Off.Value o p → o ≡ Some x → x < 2147483648
-low s at r o p x e q h = some_low s at x p (sym e ∙ (ap offset_step q ∙ ap (λ (v : OptionalOffset). ok v p) h))
+-- after a `?` that gave an offset
+pub low : (s : List ℕ) (at p : ℕ) (v : Option ℕ) (o : ℕ) → ok v p ≡ offset_at s at → v ≡ Some o → o < 2147483648
+low s at p v o e h = some_low s at o p (rw h at (sym e))

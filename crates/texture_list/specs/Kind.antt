@@ -1,10 +1,8 @@
 -- For the contracts of functions below the calls; a reader of the calls may leave this file out.
 -- The kinds of textures that a search asks for, by names and by keys.
-use Rattle.std.specs.Prelude.{ℕ, ◌+◌, ◌*◌, Bool, not, ◌&&◌, ◌||◌, List, eqb, leb}
+use Rattle.std.specs.Prelude.{Option, Some, None, ℕ, ◌+◌, ◌*◌, Bool, not, ◌&&◌, ◌||◌, List, eqb, leb}
 use Rattle.format.specs.Step.{Step, ok, refused}
 use Rattle.records.specs.Number.{offset_at}
-use Rattle.records.specs.declared.number.OptionalOffset.{OptionalOffset}
-use Rattle.records.specs.declared.number.OptionalOffset.TheVariants.{None, Some}
 use Rattle.texture_list.specs.Name.{is_animated, frame_of, is_primary, is_alternate}
 use Rattle.texture_list.specs.Key.{key_at}
 use Rattle.texture_list.specs.declared.kind.Key.{Key}
@@ -25,7 +23,7 @@ is_kind Alternate k = eqb k.first 43 && (leb 97 k.frame && leb k.frame 106)
 abbrev pub no_key : Key
 no_key = record { first = 0; frame = 0; stem_start = 0; stem_end = 0 }
 
-abbrev pub key_by : List ℕ → ℕ → Step OptionalOffset → Key
+abbrev pub key_by : List ℕ → ℕ → Step (Option ℕ) → Key
 key_by s base (ok None p) = no_key
 key_by s base (ok (Some offset) p) = key_at s (base + offset)
 key_by s base (refused n) = no_key

@@ -4,4 +4,3 @@ pub mod Key
 pub mod List
 pub mod Kind
 pub mod Texture
-pub mod Answers

@@ -1,11 +1,9 @@
 -- The list of textures in the texture section, in the order of load.rs: the offsets (1, 10), then the header of each texture that is there (13, 1); the
 -- names by their numbers in the file.
-use Rattle.std.specs.Prelude.{ℕ, zero, suc, ◌+◌, ◌*◌, ◌-◌, ◌/◌, min, cond, List, length}
+use Rattle.std.specs.Prelude.{Option, Some, None, ℕ, zero, suc, ◌+◌, ◌*◌, ◌-◌, ◌/◌, min, cond, List, length}
 use Rattle.format.specs.Step.{Step, ok, refused, and_then}
 use Rattle.format.specs.Field.{u32_at}
 use Rattle.records.specs.Number.{offset_at}
-use Rattle.records.specs.declared.number.OptionalOffset.{OptionalOffset}
-use Rattle.records.specs.declared.number.OptionalOffset.TheVariants.{None, Some}
 use Rattle.sections.specs.Records.{records}
 use Rattle.texture_list.specs.Name.{name_at, nameless, is_ascii}
 
@@ -33,7 +31,7 @@ texture_at s at =
     (refused 13)
 
 -- a texture that is absent reads nothing, so that reading stays where it was
-abbrev pub present_at : List ℕ → ℕ → ℕ → OptionalOffset → Step (Unit {0})
+abbrev pub present_at : List ℕ → ℕ → ℕ → Option ℕ → Step (Unit {0})
 present_at s base end None = ok tt end
 present_at s base end (Some offset) = texture_at s (base + offset)
 
@@ -53,7 +51,7 @@ textures_at s base n =
     listed s base n (base + 4) p)
 
 -- the name of a texture by its offset
-abbrev pub name_of : List ℕ → ℕ → Step OptionalOffset → List ℕ
+abbrev pub name_of : List ℕ → ℕ → Step (Option ℕ) → List ℕ
 name_of s base (ok None p) = nameless
 name_of s base (ok (Some offset) p) = name_at s (base + offset)
 name_of s base (refused n) = nameless

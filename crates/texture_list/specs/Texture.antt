@@ -1,21 +1,14 @@
 -- A texture by its number in the file, on a map record, loaded or made by hand (Note 2): its name, width and height. It reads its own header alone.
-use Rattle.std.specs.Prelude.{ℕ, ◌+◌, ◌*◌, true, false, cond, List, [], ◌∷◌, leb, ltb, take, drop}
+use Rattle.std.specs.Prelude.{Option, Some, None, ℕ, ◌+◌, ◌*◌, true, false, cond, List, [], ◌∷◌, leb, ltb, take, drop}
 use Rattle.format.specs.Answer.{Answer, refused}
 use Rattle.format.specs.Step.{Step, ok, and_then}
 use Rattle.format.specs.Field.{u32_at}
 use Rattle.format.specs.declared.section.BspData.{BspData}
 use Rattle.records.specs.Access.{reading}
 use Rattle.records.specs.Number.{offset_at}
-use Rattle.records.specs.declared.number.OptionalOffset.{OptionalOffset}
-use Rattle.records.specs.declared.number.OptionalOffset.TheVariants.{None, Some}
-use Rattle.texture_list.specs.Name.{name_at}
+use Rattle.texture_list.specs.Name.{name_at, little_endian}
 use Rattle.texture_list.specs.List.{texture_at}
 use Rattle.texture_list.specs.declared.answer.BspTexture.{BspTexture}
-
--- bytes as a number, the lowest first
-unfoldable pub little_endian : List ℕ → ℕ
-little_endian [] = 0
-little_endian (b ∷ bs) = b + 256 * little_endian bs
 
 abbrev pub absent_texture : BspTexture
 absent_texture = record { present = false; name_start = 0; name_end = 0; width = 0; height = 0 }
@@ -37,7 +30,7 @@ texture_header_at s at =
     and_then (u32_at s p) (λ height next.
     ok (present_texture s at width height) next)))
 
-abbrev pub texture_by : List ℕ → ℕ → OptionalOffset → ℕ → Step BspTexture
+abbrev pub texture_by : List ℕ → ℕ → Option ℕ → ℕ → Step BspTexture
 texture_by s base None p = ok absent_texture p
 texture_by s base (Some offset) p = texture_header_at s (base + offset)
 

@@ -1,6 +1,4 @@
 // What is answered of a texture by its number in the file.
-use format::refusal::Refusal;
-
 // A texture by its number in the file: whether it is there; the 16 bytes of its name, lowered, with zeros from the first zero on, as two
 // numbers whose lowest byte comes first; its width and height. An absent one has zeros.
 #[derive(Clone, Copy)]
@@ -10,10 +8,4 @@ pub struct BspTexture {
     pub name_end: u64,
     pub width: u32,
     pub height: u32,
-}
-
-#[derive(Clone, Copy)]
-pub enum TextureAnswer {
-    Value(BspTexture),
-    Refused(Refusal),
 }

@@ -3,7 +3,7 @@ ghost use Rattle.std.specs.Prelude.{◌≡◌};
 ghost use Rattle.texture_list.specs.Kind.{key_of, is_kind};
 
 use crate::name::read_key;
-use records::number::{OptionalOffset, ReadOffset, read_offset};
+use records::number::read_offset;
 
 // A name: its first byte, its frame where the first is a plus sign, and its stem as two numbers.
 #[derive(Clone, Copy)]
@@ -22,50 +22,35 @@ pub enum Kind {
     Alternate,
 }
 
+// The name of a texture that is absent.
+const NO_KEY: Key = Key {
+    first: 0,
+    frame: 0,
+    stem_start: 0,
+    stem_end: 0,
+};
+
 // The name of the texture of a number in the file.
+#[tactic(auto, unfolding(crate::specs::Kind::key_of))]
 pub fn key_of(s: &[u8], base: u32, index: u32) -> Key
     ensures { result ≡ key_of s.now base index }
 {
     match read_offset(s, (base as usize) + 4 + 4 * (index as usize)) {
-        ReadOffset::Refused(_) => Key {
-            first: 0,
-            frame: 0,
-            stem_start: 0,
-            stem_end: 0,
-        },
-        ReadOffset::Value(offset, _) => match offset {
-            OptionalOffset::None => Key {
-                first: 0,
-                frame: 0,
-                stem_start: 0,
-                stem_end: 0,
-            },
-            OptionalOffset::Some(o) => read_key(s, (base as usize) + o),
-        },
+        Ok((Some(offset), _)) => read_key(s, (base as usize) + offset),
+        Ok((None, _)) => NO_KEY,
+        Err(_) => NO_KEY,
     }
 }
 
 // Whether a name is of a kind.
+#[tactic(auto, using(format::proofs::Chain::tests), unfolding(crate::specs::Kind::is_kind))]
 pub fn is_kind(kind: Kind, key: Key) -> bool
     ensures { result ≡ is_kind kind key }
 {
-    if key.first == 43 {
-        match kind {
+    key.first == b'+'
+        && match kind {
             Kind::Animated => true,
-            Kind::Primary => {
-                if key.frame < 48 {
-                    return false;
-                }
-                key.frame <= 57
-            }
-            Kind::Alternate => {
-                if key.frame < 97 {
-                    return false;
-                }
-                key.frame <= 106
-            }
+            Kind::Primary => matches!(key.frame, b'0'..=b'9'),
+            Kind::Alternate => matches!(key.frame, b'a'..=b'j'),
         }
-    } else {
-        false
-    }
 }

@@ -1,32 +1,26 @@
 // The list of textures: its offsets, its headers, and where reading it stops; a texture by its number in the file.
 ghost use Rattle.std.specs.Prelude.{◌≡◌, ◌≤◌, ◌*◌, ◌/◌};
+ghost use Rattle.format.specs.Answers.{step_of, answer_of};
+ghost use Rattle.format.specs.Step.{and_then};
 ghost use Rattle.sections.specs.Answers.{position_step};
 ghost use Rattle.sections.specs.Records.{records};
-ghost use Rattle.records.specs.Access.{reading};
 ghost use Rattle.records.specs.Number.{offset_at};
-ghost use Rattle.texture_list.specs.Answers as Answers;
 ghost use Rattle.texture_list.specs.List.{stop_of, pictures_at, texture_at, listed_at, listed, textures_at};
 ghost use Rattle.texture_list.specs.Texture as Texture;
 
-use crate::answer::{BspTexture, TextureAnswer};
-use crate::name::{is_ascii, read_eight};
-use format::field::{ReadU32, read_u32};
-use format::refusal::Refusal;
+use crate::answer::BspTexture;
+use crate::name::{is_ascii, number_of, read_name};
+use format::field::{Read, read_u32};
+use format::refusal::{Answer, Refusal};
 use format::section::BspData;
-use records::number::{OptionalOffset, ReadOffset, read_offset};
-use sections::position::Position;
+use records::number::read_offset;
 
 // Where reading so many bytes stops, after a seek.
+#[tactic(auto, unfolding(crate::specs::List::stop_of))]
 fn stop(s: &[u8], at: usize, size: usize) -> usize
     ensures { result ≡ stop_of s.now at size }
 {
-    if s.len() <= at {
-        return at;
-    }
-    if s.len() - at < size {
-        return s.len();
-    }
-    at + size
+    at + size.min(s.len().saturating_sub(at))
 }
 
 // How many bytes the fourth picture has: its sides are an eighth of the first one's.
@@ -37,162 +31,133 @@ fn fourth_size(width: u32, height: u32) -> usize
 }
 
 // The offsets of the four pictures, and where reading the fourth stops.
-fn read_pictures(s: &[u8], at: usize, start: usize, width: u32, height: u32) -> Position
+#[tactic(auto, using(format::proofs::Chain::steps, sections::proofs::Chain::position_no), unfolding(crate::specs::List::pictures_at))]
+fn read_pictures(s: &[u8], at: usize, start: usize, width: u32, height: u32) -> Answer<usize>
     requires { start ≤ 17179869184 }
     ensures { position_step result ≡ pictures_at width height s.now start at }
 {
-    let ReadU32::Value(_, p) = read_u32(s, at) else {
-        return Position::Refused(Refusal::EndOfFile);
-    };
-    let ReadU32::Value(_, q) = read_u32(s, p) else {
-        return Position::Refused(Refusal::EndOfFile);
-    };
-    let ReadU32::Value(_, t) = read_u32(s, q) else {
-        return Position::Refused(Refusal::EndOfFile);
-    };
-    let ReadU32::Value(fourth, _) = read_u32(s, t) else {
-        return Position::Refused(Refusal::EndOfFile);
-    };
-    Position::At(stop(s, start + (fourth as usize), fourth_size(width, height)))
+    let (_, p) = read_u32(s, at)?;
+    let (_, q) = read_u32(s, p)?;
+    let (_, t) = read_u32(s, q)?;
+    let (fourth, _) = read_u32(s, t)?;
+    Ok(stop(s, start + (fourth as usize), fourth_size(width, height)))
 }
 
 // `load_texture`: where reading it stops.
-fn read_texture(s: &[u8], at: usize) -> Position
+#[tactic(auto, using(format::proofs::Chain::steps, format::proofs::Chain::tests, sections::proofs::Chain::position_no), unfolding(crate::specs::List::texture_at))]
+fn read_texture(s: &[u8], at: usize) -> Answer<usize>
     requires { at ≤ 17179869184 }
     ensures { position_step result ≡ texture_at s.now at }
 {
-    if is_ascii(s, at) {
-        let ReadU32::Value(width, p) = read_u32(s, at + 16) else {
-            return Position::Refused(Refusal::EndOfFile);
-        };
-        let ReadU32::Value(height, q) = read_u32(s, p) else {
-            return Position::Refused(Refusal::EndOfFile);
-        };
-        return read_pictures(s, q, at, width, height);
+    if !is_ascii(s, at) {
+        return Err(Refusal::TextureNameNotAscii);
     }
-    Position::Refused(Refusal::TextureNameNotAscii)
+    let (width, p) = read_u32(s, at + 16)?;
+    let (height, q) = read_u32(s, p)?;
+    read_pictures(s, q, at, width, height)
 }
 
 // The texture whose offset stands at a position of the list; an absent one leaves reading where it was.
-pub fn read_listed(s: &[u8], base: u32, at: usize, end: usize) -> Position
+#[tactic(auto, using(format::proofs::Chain::steps, sections::proofs::Chain::position_no, crate::proofs::Offsets::present), unfolding(crate::specs::List::listed_at))]
+pub fn read_listed(s: &[u8], base: u32, at: usize, end: usize) -> Answer<usize>
     ensures { position_step result ≡ listed_at s.now base at end }
 {
-    match read_offset(s, at) {
-        ReadOffset::Refused(e) => Position::Refused(e),
-        ReadOffset::Value(offset, _) => match offset {
-            OptionalOffset::None => Position::At(end),
-            OptionalOffset::Some(o) => read_texture(s, (base as usize) + o),
-        },
+    let (offset, _) = read_offset(s, at)?;
+    match offset {
+        None => Ok(end),
+        Some(o) => read_texture(s, (base as usize) + o),
     }
 }
 
 // So many textures from the one on whose offset stands at a position of the list.
-fn read_list(s: &[u8], base: u32, count: u32, first: usize, end: usize) -> Position
+fn read_list(s: &[u8], base: u32, count: u32, first: usize, end: usize) -> Answer<usize>
     requires { first ≤ 4294967300 }
     ensures { position_step result ≡ listed s.now base count first end }
 {
-    let mut p = first;
-    let mut q = end;
-    let mut left = count;
-    while 0 < left {
-        match read_listed(s, base, p, q) {
-            Position::Refused(e) => {
-                return Position::Refused(e);
-            }
-            Position::At(next) => {
-                q = next;
-            }
-        }
-        p = p + 4;
-        left = left - 1;
+    let mut end = end;
+    for i in 0..count {
+        end = read_listed(s, base, first + 4 * (i as usize), end)?;
     }
-    Position::At(q)
+    Ok(end)
 }
 
 // The offsets of the list alone.
-fn read_offsets(s: &[u8], count: u32, first: usize) -> Position
+fn read_offsets(s: &[u8], count: u32, first: usize) -> Answer<usize>
     ensures { position_step result ≡ records offset_at s.now count first }
 {
-    let mut p = first;
-    let mut left = count;
-    while 0 < left {
-        match read_offset(s, p) {
-            ReadOffset::Refused(e) => {
-                return Position::Refused(e);
-            }
-            ReadOffset::Value(_, next) => {
-                p = next;
-            }
-        }
-        left = left - 1;
+    let mut at = first;
+    for _ in 0..count {
+        (_, at) = read_offset(s, at)?;
     }
-    Position::At(p)
+    Ok(at)
 }
 
 // The offsets, and then the textures: where reading stops.
-pub fn read_textures(s: &[u8], base: u32, count: u32) -> Position
+#[tactic(auto, using(format::proofs::Chain::steps, sections::proofs::Chain::position_no), unfolding(crate::specs::List::textures_at))]
+pub fn read_textures(s: &[u8], base: u32, count: u32) -> Answer<usize>
     ensures { position_step result ≡ textures_at s.now base count }
 {
     let first = (base as usize) + 4;
-    match read_offsets(s, count, first) {
-        Position::Refused(e) => Position::Refused(e),
-        Position::At(end) => read_list(s, base, count, first, end),
-    }
+    let end = read_offsets(s, count, first)?;
+    read_list(s, base, count, first, end)
 }
 
-// A header that reads as on loading: the texture's name, width and height. Any refusal stands for 23.
-fn read_header(s: &[u8], at: usize) -> TextureAnswer
+// A header that reads as on loading: the texture's name, width and height.
+#[tactic(auto, using(format::proofs::Chain::steps), unfolding(crate::specs::Texture::texture_header_at))]
+fn read_header(s: &[u8], at: usize) -> Read<BspTexture>
     requires { at ≤ 17179869184 }
-    ensures { Answers.texture_answer result ≡ reading (Texture.texture_header_at s.now at) }
+    ensures { step_of result ≡ Texture.texture_header_at s.now at }
 {
-    let Position::At(_) = read_texture(s, at) else {
-        return TextureAnswer::Refused(Refusal::Unreadable);
-    };
-    let ReadU32::Value(width, p) = read_u32(s, at + 16) else {
-        return TextureAnswer::Refused(Refusal::Unreadable);
-    };
-    let ReadU32::Value(height, _) = read_u32(s, p) else {
-        return TextureAnswer::Refused(Refusal::Unreadable);
-    };
-    let front = read_eight(s, at, 1);
-    let back = read_eight(s, at + 8, front.last);
-    TextureAnswer::Value(BspTexture {
-        present: true,
-        name_start: front.word,
-        name_end: back.word,
-        width,
-        height,
-    })
+    read_texture(s, at)?;
+    let (width, p) = read_u32(s, at + 16)?;
+    let (height, next) = read_u32(s, p)?;
+    let name = read_name(s, at);
+    Ok((
+        BspTexture {
+            present: true,
+            name_start: number_of(&name[..8]),
+            name_end: number_of(&name[8..]),
+            width,
+            height,
+        },
+        next,
+    ))
 }
 
-// A texture of a section of so many, by its number in the file.
-fn listed_texture(s: &[u8], base: u32, count: u32, index: u64) -> TextureAnswer
-    ensures { Answers.texture_answer result ≡ Texture.listed_texture s.now base count index }
+// The texture whose offset stands at a position of the list.
+fn read_numbered(s: &[u8], base: u32, at: usize) -> Read<BspTexture>
+    ensures { step_of result ≡ and_then (offset_at s.now at) (λ offset p. Texture.texture_by s.now base offset p) }
 {
-    if (count as u64) <= index {
-        return TextureAnswer::Refused(Refusal::NoSuchRecord);
-    }
-    if 2097152 < count {
-        return TextureAnswer::Refused(Refusal::Unreadable);
-    }
-    match read_offset(s, (base as usize) + 4 + 4 * (index as usize)) {
-        ReadOffset::Refused(_) => TextureAnswer::Refused(Refusal::Unreadable),
-        ReadOffset::Value(offset, _) => match offset {
-            OptionalOffset::None => TextureAnswer::Value(BspTexture {
+    let (offset, next) = read_offset(s, at)?;
+    let Some(o) = offset else {
+        return Ok((
+            BspTexture {
                 present: false,
                 name_start: 0,
                 name_end: 0,
                 width: 0,
                 height: 0,
-            }),
-            OptionalOffset::Some(o) => read_header(s, (base as usize) + o),
-        },
-    }
+            },
+            next,
+        ));
+    };
+    read_header(s, (base as usize) + o)
 }
 
-// The texture of a number in the file.
-pub fn texture(file: &[u8], map: BspData, index: u64) -> TextureAnswer
-    ensures { Answers.texture_answer result ≡ Texture.texture_of file.now map index }
+// The texture of a number in the file. Any refusal of its header stands for 23.
+#[tactic(auto, using(format::proofs::Chain::tests, crate::proofs::Reading::reads), unfolding(crate::specs::Texture::listed_texture))]
+pub fn texture(file: &[u8], map: BspData, index: u64) -> Answer<BspTexture>
+    ensures { answer_of result ≡ Texture.texture_of file.now map index }
 {
-    listed_texture(file, map.textures.offset, map.texture_count, index)
+    if (map.texture_count as u64) <= index {
+        return Err(Refusal::NoSuchRecord);
+    }
+    if 2097152 < map.texture_count {
+        return Err(Refusal::Unreadable);
+    }
+    let base = map.textures.offset;
+    match read_numbered(file, base, (base as usize) + 4 + 4 * (index as usize)) {
+        Ok((texture, _)) => Ok(texture),
+        Err(_) => Err(Refusal::Unreadable),
+    }
 }

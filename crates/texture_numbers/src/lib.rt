@@ -4,12 +4,12 @@
 ghost use Rattle.std.specs.Prelude.{◌≡◌, ◌≤◌, ◌<◌, ◌+◌, cond, eqb, length, get_or};
 ghost use Rattle.format.specs.Listed.{listed, into};
 ghost use Rattle.textures.specs.Count.{count, values_below};
-ghost use Rattle.textures.specs.Frame.{list_length};
+ghost use Rattle.format.specs.Answers.{answer_of};
 ghost use Rattle.texture_numbers.specs.Numbers.{texture_numbers};
 ghost use Rattle.texture_numbers.specs.Renumber.{has_none, number_in, Led};
 
+use format::refusal::Answer;
 use format::section::BspData;
-use textures::answer::TextureList;
 use textures::earliest::earliest_textures;
 
 // What stands for a static texture, which has no stem.
@@ -75,15 +75,15 @@ fn number_all(list: &mut [u32])
 
 // The new number of each texture, by its number in the file, at the front of a lent list, whose other entries are kept. 23 where the section
 // does not read, then 22; a refusal writes nothing.
-pub fn texture_numbers(file: &[u8], map: BspData, list: &mut [u32]) -> TextureList
-    ensures { listed (list_length result) list.new ≡ into (texture_numbers file.now map) list.old }
+pub fn texture_numbers(file: &[u8], map: BspData, list: &mut [u32]) -> Answer<u32>
+    ensures { listed (answer_of result) list.new ≡ into (texture_numbers file.now map) list.old }
 {
     match earliest_textures(file, map, list) {
-        TextureList::Refused(e) => TextureList::Refused(e),
-        TextureList::Length(count) => {
+        Err(e) => Err(e),
+        Ok(count) => {
             let end = count as usize;
             number_all(&mut list[..end]);
-            TextureList::Length(count)
+            Ok(count)
         }
     }
 }

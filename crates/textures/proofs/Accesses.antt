@@ -1,6 +1,8 @@
 -- The ways through the accessors of textures.
 -- Assumes nothing.
+use Rattle.std.specs.Prelude.{Result, Ok, Err}
 use Prim.Native.Nat.{ℕ, ◌-◌, ◌<◌, ◌≤◌}
+use Rattle.format.specs.Answers.{answer_of}
 use mathlib.Core.Path.{◌≡◌, refl, sym, ◌∙◌}
 use mathlib.Core.Bool.{Bool, true, false, ◌&&◌, cond}
 use mathlib.Core.List.{List}
@@ -11,14 +13,9 @@ use Rattle.format.specs.Answer.{Answer, answer, refused, then_answer}
 use Rattle.format.specs.Refusal.{number_of}
 use Rattle.format.specs.declared.refusal.Refusal.{Refusal}
 use Rattle.format.specs.declared.section.BspData.{BspData}
-use Rattle.records.specs.Answers.{texinfo_answer}
 use Rattle.records.specs.Texinfo.{texinfo_of}
 use Rattle.records.specs.declared.texinfo.BspTexInfo.{BspTexInfo}
-use Rattle.records.specs.declared.texinfo.TexInfoAnswer.{TexInfoAnswer}
-use Rattle.records.specs.declared.texinfo.TexInfoAnswer.TheVariants as Inf
 use Rattle.sections.specs.Answers.{position_step}
-use Rattle.sections.specs.declared.position.Position.{Position}
-use Rattle.sections.specs.declared.position.Position.TheVariants as Pos
 use Rattle.texture_list.specs.Kind.{lettered}
 use Rattle.textures.specs.Count.{count, lowest, nth}
 use Rattle.textures.specs.Group.{is_static, is_first, alike, precedes, place_of, within, sequenced, numbered_by, static_by, frame_by}
@@ -27,26 +24,7 @@ use Rattle.textures.specs.Access.{sound_at, is_sound, info_at, names_in, frame_t
 use Rattle.textures.proofs.Marks.{any_none, and_left}
 use Rattle.textures.proofs.Firsts.{count_below, lowest_none}
 
--- ---- `is_sound`
-
-module _ (s : List ℕ) (base n : ℕ) where
-  pub above_limit : 2097152 < n → false ≡ sound_at s base n
-  unfolding sound_at
-  above_limit h = rw (lt-leb (n) 2097152 h) refl
-
-  module _ (h : n ≤ 2097152) (r : Position) (er : position_step r ≡ textures_at s base (n)) where
-    pub unread : (e : Refusal) → r ≡ Pos.Refused e → false ≡ sound_at s base n
-    unfolding sound_at
-    unread e q = rw (le-leb n 2097152 h, ← er, q) refl
-
-    module _ (p : ℕ) (at : r ≡ Pos.At p) (g : Position) (eg : position_step g ≡ sequenced (names_of s base) (n)) where
-      pub wrong_groups : (e : Refusal) → g ≡ Pos.Refused e → false ≡ sound_at s base n
-      unfolding sound_at
-      wrong_groups e q = rw (le-leb n 2097152 h, ← er, at, ← eg, q) refl
-
-      pub sound : (q : ℕ) → g ≡ Pos.At q → true ≡ sound_at s base n
-      unfolding sound_at
-      sound k q = rw (le-leb n 2097152 h, ← er, at, ← eg, q) refl
+-- ---- a section that reads
 
 pub few_textures : (s : List ℕ) (base n : ℕ) (x : Bool) → x ≡ sound_at s base n → x ≡ true → n ≤ 2097152
 unfolding sound_at
@@ -135,15 +113,6 @@ module _ (s : List ℕ) (m : BspData) (x : Bool) (is : x ≡ is_sound s m) where
       frame_no_group g h = rw (← is, e, ne_eqb group 0 g, ne_eqb group 1 h) refl
 
 -- ---- texture infos
-
-module _ (s : List ℕ) (m : BspData) (i : ℕ) (r : TexInfoAnswer) (er : texinfo_answer r ≡ texinfo_of s m i) where
-  pub info_refused : (e : Refusal) → r ≡ Inf.Refused e → refused (number_of e) ≡ texture_info s m i
-  unfolding texture_info
-  info_refused e q = rw (← er, q) refl
-
-  pub info_read : (info : BspTexInfo) (y : Answer BspTexInfo) → r ≡ Inf.Value info → y ≡ info_at s m.textures.offset m.texture_count info → y ≡ texture_info s m i
-  unfolding texture_info
-  info_read info y v h = rw (← er, v) h
 
 module _ (s : List ℕ) (base n : ℕ) (info : BspTexInfo) where
   pub info_outside : n ≤ info.tex_id → refused 23 ≡ info_at s base n info

@@ -6,7 +6,6 @@ mod Sieves
 mod Steps
 mod Alone
 mod Sequence
-mod Loading
 pub mod Firsts
 mod Frames
 mod Numbers

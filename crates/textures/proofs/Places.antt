@@ -1,5 +1,6 @@
 -- The frame at a place of a group, by names and by keys.
 -- Assumes nothing.
+use Rattle.std.specs.Prelude.{Option, Some, None}
 use Prim.Native.Nat.{ℕ, zero, suc, ◌+◌, ◌*◌, ◌-◌, ◌<◌, ◌≤◌}
 use mathlib.Core.Path.{◌≡◌, refl, sym, ap, ◌∙◌, subst}
 use mathlib.Core.Bool.{Bool, true, false, not, ◌&&◌, ◌||◌, cond}
@@ -11,8 +12,6 @@ use lib.ListN.{get_or}
 use Rattle.format.specs.Answer.{answer, refused}
 use Rattle.format.specs.Step.{Step, ok}
 use Rattle.records.specs.Number.{offset_at}
-use Rattle.records.specs.declared.number.OptionalOffset.{OptionalOffset}
-use Rattle.records.specs.declared.number.OptionalOffset.TheVariants.{None, Some}
 use Rattle.texture_list.specs.Name.{chars, stem_of, same, less}
 use Rattle.textures.specs.Count.{any, count, lowest, nth}
 use Rattle.textures.specs.Group.{alike, is_static, is_first, precedes, place_of, frame_by}
@@ -110,7 +109,7 @@ module _ (key of : Key) (is : key ≡ of) (a b c : ℕ) (x : Bool) (asked : x �
 
 -- ---- names and keys
 
-name_parts : (s : List ℕ) (base : ℕ) (x : Step OptionalOffset) → name_of s base x ≡ ((key_by s base x).first ∷ (key_by s base x).frame ∷ stem_of (name_of s base x))
+name_parts : (s : List ℕ) (base : ℕ) (x : Step (Option ℕ)) → name_of s base x ≡ ((key_by s base x).first ∷ (key_by s base x).frame ∷ stem_of (name_of s base x))
 unfolding chars key_at
 name_parts s base (ok None p) = refl
 name_parts s base (ok (Some o) p) = refl
@@ -120,7 +119,7 @@ parts : (s : List ℕ) (base i : ℕ) → names_of s base i ≡ ((key_of s base 
 unfolding names_of key_of
 parts s base i = name_parts s base (offset_at s (base + 4 + 4 * i))
 
-name_lettered : (lo : ℕ) (s : List ℕ) (base : ℕ) (x : Step OptionalOffset) → lettered lo (name_of s base x) ≡ (eqb (key_by s base x).first 43 && (leb lo (key_by s base x).frame && leb (key_by s base x).frame (lo + 9)))
+name_lettered : (lo : ℕ) (s : List ℕ) (base : ℕ) (x : Step (Option ℕ)) → lettered lo (name_of s base x) ≡ (eqb (key_by s base x).first 43 && (leb lo (key_by s base x).frame && leb (key_by s base x).frame (lo + 9)))
 unfolding chars key_at
 name_lettered lo s base (ok None p) = refl
 name_lettered lo s base (ok (Some o) p) = refl

@@ -4,6 +4,5 @@ pub mod Group
 pub mod Section
 pub mod Table
 pub mod Sieve
-pub mod Frame
 pub mod Access
 pub mod Private

@@ -1,50 +1,48 @@
 // The accessors of textures on a map record, loaded or made by hand.
 ghost use Rattle.std.specs.Prelude.{◌≡◌, ◌≤◌};
-ghost use Rattle.records.specs.Answers.{texinfo_answer};
-ghost use Rattle.textures.specs.Frame.{file_number};
+ghost use Rattle.format.specs.Answers.{answer_of};
 ghost use Rattle.textures.specs.Access as Access;
 ghost use Rattle.textures.specs.Group.{frame_by};
 ghost use Rattle.texture_list.specs.Kind.{lettered};
 ghost use Rattle.texture_list.specs.List.{names_of};
 
-use crate::answer::FileNumber;
 use crate::frame::{find_frame, find_static};
 use crate::number::texture_number;
 use crate::sound::is_sound;
-use format::refusal::Refusal;
+use format::refusal::{Answer, Refusal};
 use format::section::BspData;
-use records::texinfo::{BspTexInfo, TexInfoAnswer, texinfo};
+use records::texinfo::{BspTexInfo, texinfo};
 
 // The static texture of a new number.
-pub fn static_texture(file: &[u8], map: BspData, number: u64) -> FileNumber
-    ensures { file_number result ≡ Access.static_texture file.now map number }
+pub fn static_texture(file: &[u8], map: BspData, number: u64) -> Answer<u32>
+    ensures { answer_of result ≡ Access.static_texture file.now map number }
 {
     if is_sound(file, map.textures.offset, map.texture_count) {
         if 4294967295 < number {
-            return FileNumber::Refused(Refusal::NoSuchRecord);
+            return Err(Refusal::NoSuchRecord);
         }
         return find_static(file, map.textures.offset, map.texture_count, number as u32);
     }
-    FileNumber::Refused(Refusal::Unreadable)
+    Err(Refusal::Unreadable)
 }
 
 // The frame at a place of a group of a section that reads; its letters start at `lo`.
-fn group_frame(s: &[u8], base: u32, count: u32, lo: u8, number: u64, place: u64) -> FileNumber
+fn group_frame(s: &[u8], base: u32, count: u32, lo: u8, number: u64, place: u64) -> Answer<u32>
     requires { (lo ≤ 97) × (count ≤ 2097152) }
-    ensures { file_number result ≡ frame_by (lettered lo) (names_of s.now base) count number place }
+    ensures { answer_of result ≡ frame_by (lettered lo) (names_of s.now base) count number place }
 {
     if 4294967295 < number {
-        return FileNumber::Refused(Refusal::NoSuchRecord);
+        return Err(Refusal::NoSuchRecord);
     }
     if 4294967295 < place {
-        return FileNumber::Refused(Refusal::NoSuchRecord);
+        return Err(Refusal::NoSuchRecord);
     }
     find_frame(s, base, count, lo, number as u32, place as u32)
 }
 
 // The frame at a place of a group, 0 the primary and 1 the alternate one, of the texture of a new number.
-pub fn frame_texture(file: &[u8], map: BspData, number: u64, group: u32, place: u64) -> FileNumber
-    ensures { file_number result ≡ Access.frame_texture file.now map number group place }
+pub fn frame_texture(file: &[u8], map: BspData, number: u64, group: u32, place: u64) -> Answer<u32>
+    ensures { answer_of result ≡ Access.frame_texture file.now map number group place }
 {
     if is_sound(file, map.textures.offset, map.texture_count) {
         if group == 0 {
@@ -67,9 +65,9 @@ pub fn frame_texture(file: &[u8], map: BspData, number: u64, group: u32, place: 
                 place,
             );
         }
-        return FileNumber::Refused(Refusal::NoSuchRecord);
+        return Err(Refusal::NoSuchRecord);
     }
-    FileNumber::Refused(Refusal::Unreadable)
+    Err(Refusal::Unreadable)
 }
 
 // A texture info with another texture number.
@@ -82,28 +80,25 @@ fn renumber(info: BspTexInfo, number: u32) -> BspTexInfo
 }
 
 // A texture info with its texture's new number.
-fn number_info(s: &[u8], base: u32, count: u32, info: BspTexInfo) -> TexInfoAnswer
-    ensures { texinfo_answer result ≡ Access.info_at s.now base count info }
+fn number_info(s: &[u8], base: u32, count: u32, info: BspTexInfo) -> Answer<BspTexInfo>
+    ensures { answer_of result ≡ Access.info_at s.now base count info }
 {
     let id = info.tex_id;
     if (count as usize) <= id {
-        return TexInfoAnswer::Refused(Refusal::Unreadable);
+        return Err(Refusal::Unreadable);
     }
     if is_sound(s, base, count) {
         let number = texture_number(s, base, count, id as u32);
-        return TexInfoAnswer::Value(renumber(info, number));
+        return Ok(renumber(info, number));
     }
-    TexInfoAnswer::Refused(Refusal::Unreadable)
+    Err(Refusal::Unreadable)
 }
 
 // The texture info of an index, with its texture's new number.
-pub fn texture_info(file: &[u8], map: BspData, index: usize) -> TexInfoAnswer
-    ensures { texinfo_answer result ≡ Access.texture_info file.now map index }
+#[tactic(auto, using(format::proofs::Chain::steps), unfolding(crate::specs::Access::texture_info))]
+pub fn texture_info(file: &[u8], map: BspData, index: usize) -> Answer<BspTexInfo>
+    ensures { answer_of result ≡ Access.texture_info file.now map index }
 {
-    match texinfo(file, map, index) {
-        TexInfoAnswer::Refused(e) => TexInfoAnswer::Refused(e),
-        TexInfoAnswer::Value(info) => {
-            number_info(file, map.textures.offset, map.texture_count, info)
-        }
-    }
+    let info = texinfo(file, map, index)?;
+    number_info(file, map.textures.offset, map.texture_count, info)
 }

@@ -5,19 +5,18 @@ ghost use Rattle.std.specs.Prelude.{◌≡◌, ◌≤◌, ◌<◌, ◌+◌, ◌*
 ghost use Rattle.format.specs.Listed.{listed, into};
 ghost use Rattle.textures.specs.Count.{values_below};
 ghost use Rattle.texture_list.specs.List.{names_of};
-ghost use Rattle.textures.specs.Frame.{list_length};
+ghost use Rattle.format.specs.Answers.{answer_of};
 ghost use Rattle.textures.specs.Private.{earliest_by, earliest_textures};
 ghost use Rattle.texture_list.specs.Kind.{passing, starts, ends};
 ghost use Rattle.textures.specs.Sieve.{Sieved};
 ghost use Rattle.textures.specs.Table as Tab;
 ghost use Rattle.texture_list.specs.declared.kind.Kind.TheVariants as Of;
 
-use crate::answer::TextureList;
 use crate::group::fill;
 use crate::sieve::{seek_sifted, sift_all};
 use crate::sound::is_sound_in;
 use crate::table::{Located, clear};
-use format::refusal::Refusal;
+use format::refusal::{Answer, Refusal};
 use format::section::BspData;
 use texture_list::kind::{Kind, is_kind, key_of};
 
@@ -161,15 +160,15 @@ fn list_earliest(
     sieve: &mut [u8],
     heads: &mut [u32],
     list: &mut [u32],
-) -> TextureList
+) -> Answer<u32>
     requires { (8 ≤ length t.old) × ((length t.old ≡ 4 * length marks.old) × (length t.old ≡ 4 * length heads.old)) }
-    ensures { listed (list_length result) list.new ≡ into (earliest_textures file.now map) list.old }
+    ensures { listed (answer_of result) list.new ≡ into (earliest_textures file.now map) list.old }
 {
     let base = map.textures.offset;
     if is_sound_in(file, base, map.texture_count, t, marks) {
         let count = map.texture_count as usize;
         if list.len() < count {
-            return TextureList::Refused(Refusal::ListTooShort);
+            return Err(Refusal::ListTooShort);
         }
         find_each(
             file,
@@ -180,14 +179,14 @@ fn list_earliest(
             heads,
             &mut list[..count],
         );
-        return TextureList::Length(map.texture_count);
+        return Ok(map.texture_count);
     }
-    TextureList::Refused(Refusal::Unreadable)
+    Err(Refusal::Unreadable)
 }
 
 // With a small table, of 1,024 nodes.
-fn list_few(file: &[u8], map: BspData, list: &mut [u32]) -> TextureList
-    ensures { listed (list_length result) list.new ≡ into (earliest_textures file.now map) list.old }
+fn list_few(file: &[u8], map: BspData, list: &mut [u32]) -> Answer<u32>
+    ensures { listed (answer_of result) list.new ≡ into (earliest_textures file.now map) list.old }
 {
     let mut t: [u64; 4096] = [0; 4096];
     let mut marks: [u8; 1024] = [0; 1024];
@@ -205,8 +204,8 @@ fn list_few(file: &[u8], map: BspData, list: &mut [u32]) -> TextureList
 }
 
 // With a large table, of 22,528 nodes: with the rest it stays below 1 MiB.
-fn list_many(file: &[u8], map: BspData, list: &mut [u32]) -> TextureList
-    ensures { listed (list_length result) list.new ≡ into (earliest_textures file.now map) list.old }
+fn list_many(file: &[u8], map: BspData, list: &mut [u32]) -> Answer<u32>
+    ensures { listed (answer_of result) list.new ≡ into (earliest_textures file.now map) list.old }
 {
     let mut t: [u64; 90112] = [0; 90112];
     let mut marks: [u8; 22528] = [0; 22528];
@@ -224,8 +223,8 @@ fn list_many(file: &[u8], map: BspData, list: &mut [u32]) -> TextureList
 }
 
 // The same, with tables of its own.
-pub fn earliest_textures(file: &[u8], map: BspData, list: &mut [u32]) -> TextureList
-    ensures { listed (list_length result) list.new ≡ into (earliest_textures file.now map) list.old }
+pub fn earliest_textures(file: &[u8], map: BspData, list: &mut [u32]) -> Answer<u32>
+    ensures { listed (answer_of result) list.new ≡ into (earliest_textures file.now map) list.old }
 {
     if map.texture_count < 1024 {
         return list_few(file, map, list);

@@ -1,27 +1,26 @@
 // Textures of the file by their new numbers: static ones, and the frames of a group.
 ghost use Rattle.std.specs.Prelude.{◌≡◌, ◌&&◌, cond, ◌≤◌, eqb};
 ghost use Rattle.textures.specs.Count.{lowest};
-ghost use Rattle.textures.specs.Frame.{file_number};
+ghost use Rattle.format.specs.Answers.{answer_of};
 ghost use Rattle.textures.specs.Group.{static_by, frame_by};
 ghost use Rattle.texture_list.specs.Kind.{lettered, grouped, is_frame, framed, frames};
 ghost use Rattle.texture_list.specs.List.{names_of};
 ghost use Rattle.textures.specs.Table.{Reached, ranked};
 
-use crate::answer::FileNumber;
 use crate::number::{Firsts, count_static, first_of, is_sought, nth_static};
-use format::refusal::Refusal;
+use format::refusal::{Answer, Refusal};
 use texture_list::kind::{Key, key_of};
 
 // The static texture of a new number.
-pub fn find_static(s: &[u8], base: u32, count: u32, number: u32) -> FileNumber
-    ensures { file_number result ≡ static_by (names_of s.now base) count number }
+pub fn find_static(s: &[u8], base: u32, count: u32, number: u32) -> Answer<u32>
+    ensures { answer_of result ≡ static_by (names_of s.now base) count number }
 {
     let found = nth_static(s, base, count, number);
     let at = found.at;
     if at < count {
-        return FileNumber::Value(at);
+        return Ok(at);
     }
-    FileNumber::Refused(Refusal::NoSuchRecord)
+    Err(Refusal::NoSuchRecord)
 }
 
 // Whether a name has a frame and a stem.
@@ -86,23 +85,23 @@ fn at_place(s: &[u8], base: u32, count: u32, lo: u8, a: u64, b: u64, place: u32)
 }
 
 // The texture at a place of a group of the animated texture of a new number.
-pub fn find_frame(s: &[u8], base: u32, count: u32, lo: u8, number: u32, place: u32) -> FileNumber
+pub fn find_frame(s: &[u8], base: u32, count: u32, lo: u8, number: u32, place: u32) -> Answer<u32>
     requires { lo ≤ 97 }
-    ensures { file_number result ≡ frame_by (lettered lo) (names_of s.now base) count number place }
+    ensures { answer_of result ≡ frame_by (lettered lo) (names_of s.now base) count number place }
 {
     let statics = count_static(s, base, count);
     if number < statics {
-        return FileNumber::Refused(Refusal::NoSuchRecord);
+        return Err(Refusal::NoSuchRecord);
     }
     let first = first_of(s, base, count, number - statics);
     let i = first.at;
     if count <= i {
-        return FileNumber::Refused(Refusal::NoSuchRecord);
+        return Err(Refusal::NoSuchRecord);
     }
     let key = key_of(s, base, i);
     let at = at_place(s, base, count, lo, key.stem_start, key.stem_end, place);
     if at < count {
-        return FileNumber::Value(at);
+        return Ok(at);
     }
-    FileNumber::Refused(Refusal::NoSuchRecord)
+    Err(Refusal::NoSuchRecord)
 }

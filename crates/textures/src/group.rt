@@ -10,8 +10,7 @@ ghost use Rattle.texture_list.specs.declared.kind.Kind.TheVariants as Of;
 ghost use Rattle.textures.specs.Table as Tab;
 
 use crate::table::{Located, add, clear, clear_marks, seek};
-use format::refusal::Refusal;
-use sections::position::Position;
+use format::refusal::{Answer, Refusal};
 use texture_list::kind::{Kind, is_kind, key_of};
 
 // A stem in the table of the nodes below `nodes`, which become one more if it is new. 0 says that there is no room.
@@ -171,21 +170,27 @@ fn has_wrong(s: &[u8], base: u32, count: u32) -> bool
 
 // The frame letters of all textures, and then the alternate groups without a primary one. The table and the marks are for the function's own
 // use.
-pub fn check_groups_in(s: &[u8], base: u32, count: u32, t: &mut [u64], marks: &mut [u8]) -> Position
+pub fn check_groups_in(
+    s: &[u8],
+    base: u32,
+    count: u32,
+    t: &mut [u64],
+    marks: &mut [u8],
+) -> Answer<usize>
     requires { (8 ≤ length t.old) × (length t.old ≡ 4 * length marks.old) }
     ensures { position_step result ≡ sequenced (names_of s.now base) count }
 {
     if has_wrong(s, base, count) {
-        return Position::Refused(Refusal::InvalidFrame);
+        return Err(Refusal::InvalidFrame);
     }
     if has_lone(s, base, count, t, marks) {
-        return Position::Refused(Refusal::NoPrimaryFrames);
+        return Err(Refusal::NoPrimaryFrames);
     }
-    Position::At(0)
+    Ok(0)
 }
 
 // With a small table, of 1,024 nodes.
-fn check_few(s: &[u8], base: u32, count: u32) -> Position
+fn check_few(s: &[u8], base: u32, count: u32) -> Answer<usize>
     ensures { position_step result ≡ sequenced (names_of s.now base) count }
 {
     let mut t: [u64; 4096] = [0; 4096];
@@ -194,7 +199,7 @@ fn check_few(s: &[u8], base: u32, count: u32) -> Position
 }
 
 // With a large table, of 16,384 nodes.
-fn check_many(s: &[u8], base: u32, count: u32) -> Position
+fn check_many(s: &[u8], base: u32, count: u32) -> Answer<usize>
     ensures { position_step result ≡ sequenced (names_of s.now base) count }
 {
     let mut t: [u64; 65536] = [0; 65536];
@@ -203,7 +208,7 @@ fn check_many(s: &[u8], base: u32, count: u32) -> Position
 }
 
 // With a table of its own.
-pub fn check_groups(s: &[u8], base: u32, count: u32) -> Position
+pub fn check_groups(s: &[u8], base: u32, count: u32) -> Answer<usize>
     ensures { position_step result ≡ sequenced (names_of s.now base) count }
 {
     if count < 1024 {

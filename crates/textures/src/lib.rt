@@ -2,7 +2,6 @@
 #![tactic(auto)]
 
 pub mod access;
-pub mod answer;
 pub mod earliest;
 mod frame;
 mod group;

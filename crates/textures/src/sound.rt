@@ -3,24 +3,17 @@ ghost use Rattle.std.specs.Prelude.{◌≡◌, ◌≤◌, ◌*◌, length};
 ghost use Rattle.textures.specs.Access.{sound_at};
 
 use crate::group::check_groups_in;
-use sections::position::Position;
 use texture_list::section::read_textures;
 
 // Whether the section reads as it does on loading, its end position aside. The table and the marks are for the function's own use.
+#[tactic(auto, using(format::proofs::Chain::steps, format::proofs::Chain::tests), unfolding(crate::specs::Access::sound_at))]
 pub fn is_sound_in(s: &[u8], base: u32, count: u32, t: &mut [u64], marks: &mut [u8]) -> bool
     requires { (8 ≤ length t.old) × (length t.old ≡ 4 * length marks.old) }
     ensures { result ≡ sound_at s.now base count }
 {
-    if 2097152 < count {
-        return false;
-    }
-    match read_textures(s, base, count) {
-        Position::Refused(_) => false,
-        Position::At(_) => match check_groups_in(s, base, count, t, marks) {
-            Position::Refused(_) => false,
-            Position::At(_) => true,
-        },
-    }
+    count <= 2097152
+        && read_textures(s, base, count).is_ok()
+        && check_groups_in(s, base, count, t, marks).is_ok()
 }
 
 // With a small table, of 1,024 nodes.

@@ -2,16 +2,16 @@
 #![tactic(auto)]
 
 use faces::extents::face;
-use faces::face::FaceAnswer;
+use faces::face::BspFace;
 use float::num::from_bits;
-use format::refusal::Refusal;
+use format::refusal::{Answer, Refusal};
 use format::section::BspData;
 use hull::collision::{BspCollisionHull, HullAnswer};
 use hull::point::{PointContents, contents_at_point};
-use load::{Loaded, load};
+use load::load;
 use math::Vector3;
 use std::io;
-use vis::{Pvs, get_pvs};
+use vis::get_pvs;
 
 fn print_line(rt: &impl Print, name: &str, count: u64) -> io::Result<()> {
     println!(rt; "{name} {count}")
@@ -37,8 +37,8 @@ fn smallest(models: u8) -> [u8; 193] {
 
 fn print_loaded(rt: &impl Print, file: &[u8]) -> io::Result<()> {
     match load(file) {
-        Loaded::Refused(refusal) => print_refusal(rt, refusal),
-        Loaded::Map(_) => println!(rt; "loaded"),
+        Err(refusal) => print_refusal(rt, refusal),
+        Ok(_) => println!(rt; "loaded"),
     }
 }
 
@@ -74,7 +74,7 @@ fn smallest_map(rt: &impl Print) -> io::Result<()> {
     print!(rt; "193-byte map, contents in hull 1: ")?;
     let file = smallest(64);
     let loaded = load(&file);
-    let Loaded::Map(map) = loaded else {
+    let Ok(map) = loaded else {
         return println!(rt; "not loaded");
     };
     let hull = hull::collision::hull(&file, map, 0, 1);
@@ -102,8 +102,8 @@ fn print_row(rt: &impl Print, leaf_count: usize) -> io::Result<()> {
     words[21] = 56;
     let mut list = [7u32; 4];
     match get_pvs(&file, words::map_of(&words), 1, leaf_count, &mut list) {
-        Pvs::Refused(refusal) => print_refusal(rt, refusal),
-        Pvs::Length(n) => print_line(rt, "length", n as u64),
+        Err(refusal) => print_refusal(rt, refusal),
+        Ok(n) => print_line(rt, "length", n as u64),
     }
 }
 
@@ -183,18 +183,18 @@ fn with_offset(made: [u8; 305]) -> [u8; 305] {
     file
 }
 
-fn print_extent(rt: &impl Print, face: FaceAnswer) -> io::Result<()> {
+fn print_extent(rt: &impl Print, face: Answer<BspFace>) -> io::Result<()> {
     match face {
-        FaceAnswer::Refused(refusal) => print_refusal(rt, refusal),
-        FaceAnswer::Value(f) => print_line(rt, "extent", words::signed_word(f.extents.s)),
+        Err(refusal) => print_refusal(rt, refusal),
+        Ok(f) => print_line(rt, "extent", words::signed_word(f.extents.s)),
     }
 }
 
 fn print_one_face(rt: &impl Print, high: u8, highest: u8) -> io::Result<()> {
     let file = with_offset(one_face(high, highest));
     match load(&file) {
-        Loaded::Refused(refusal) => print_refusal(rt, refusal),
-        Loaded::Map(map) => print_extent(rt, face(&file, map, 0)),
+        Err(refusal) => print_refusal(rt, refusal),
+        Ok(map) => print_extent(rt, face(&file, map, 0)),
     }
 }
 

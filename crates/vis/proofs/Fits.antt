@@ -1,4 +1,5 @@
 -- A visibility list has fewer entries than the leaf count, unless both are none. Assumes nothing.
+use Rattle.std.specs.Prelude.{Option, Some, None}
 use mathlib.Core.Bool.{Bool, true, false, cond}
 use mathlib.Core.List.{List, [], ◌∷◌}
 use Prim.Native.Nat.{ℕ, zero, suc, ◌+◌, ◌-◌, ◌*◌, ◌/◌, ◌≤◌}
@@ -11,8 +12,6 @@ use Rattle.format.specs.Answer.{Answer, answer, refused, mapped, then_answer}
 use Rattle.format.specs.declared.section.BspData.{BspData}
 use Rattle.records.specs.Leaf.{leaf_of}
 use Rattle.records.specs.declared.leaf.BspLeaf.{BspLeaf}
-use Rattle.records.specs.declared.number.OptionalOffset.{OptionalOffset}
-use Rattle.records.specs.declared.number.OptionalOffset.TheVariants.{None, Some}
 use Rattle.vis.specs.Pvs.{visibility_of, section_row, row_of, pvs_of}
 use Rattle.vis.specs.Row.{bits, before, in_byte, row_bits, visible, row_from, row_at}
 use Rattle.vis.proofs.SetBits.{length_visible}
@@ -73,7 +72,7 @@ pvs_fits file map leaf count = go (eqb leaf 0) (leaf_of file map leaf)
     within offset (answer visibility) = at (ltb (length visibility) offset) (drop offset visibility)
     within offset (refused n) = omega arith
 
-    row : (o : OptionalOffset) → at_most (count - 1) (row_of file map count o)
+    row : (o : Option ℕ) → at_most (count - 1) (row_of file map count o)
     row None = omega arith
     row (Some offset) = within offset (visibility_of file map.visibility)
 

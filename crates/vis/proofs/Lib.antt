@@ -3,6 +3,7 @@ pub mod SetBits
 pub mod Rows
 pub mod RustLoop
 pub mod Fits
+pub mod Chain
 pub mod Passes
 pub mod Lists
 pub mod Sections

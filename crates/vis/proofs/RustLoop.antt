@@ -1,5 +1,6 @@
 -- The list of the Rust's `get_pvs`, less its entries at or above the leaf count, is what the Quake Specifications' rule gives, for all
 -- visibility data, every leaf and every count. Assumes nothing.
+use Rattle.std.specs.Prelude.{Option, Some, None}
 use borrow.Author.Tests.{ne_eqb, ltb-true, ltb-false, lt-ltb, le-ltb}
 use mathlib.Core.Path.{◌≡◌, refl, sym, ap, ◌∙◌}
 use mathlib.Core.Bool.{Bool, true, false, cond}
@@ -15,8 +16,6 @@ use Rattle.format.specs.Answer.{Answer, answer, refused, mapped, then_answer}
 use Rattle.format.specs.declared.section.BspData.{BspData}
 use Rattle.records.specs.Leaf.{leaf_of}
 use Rattle.records.specs.declared.leaf.BspLeaf.{BspLeaf}
-use Rattle.records.specs.declared.number.OptionalOffset.{OptionalOffset}
-use Rattle.records.specs.declared.number.OptionalOffset.TheVariants.{None, Some}
 use Rattle.vis.specs.Loop.{for_shift, while_below, match_offset, get_pvs}
 use Rattle.vis.specs.Pvs.{visibility_of, section_row, row_of, pvs_of}
 use Rattle.vis.specs.Row.{bits, before, row_bits, visible, row_from, row_at, below}
@@ -136,11 +135,11 @@ module _ (file : List ℕ) (map : BspData) (leaf count : ℕ) (l : BspLeaf) (vis
   unfolding get_pvs pvs_of section_row below
   rust_pvs e v = rw (← e) (go (eqb leaf 0) l.vis_offset)
     where
-      row : (o : OptionalOffset) → mapped (below count) (match_offset visibility count o) ≡ row_of file map count o
+      row : (o : Option ℕ) → mapped (below count) (match_offset visibility count o) ≡ row_of file map count o
       row None = refl
       row (Some offset) = rw (← v) (rust_row visibility offset count)
 
-      go : (t : Bool) (o : OptionalOffset) → mapped (below count) (cond t (answer []) (match_offset visibility count o)) ≡ cond t (answer []) (row_of file map count o)
+      go : (t : Bool) (o : Option ℕ) → mapped (below count) (cond t (answer []) (match_offset visibility count o)) ≡ cond t (answer []) (row_of file map count o)
       go true o = refl
       go false o = row o
 
@@ -172,7 +171,7 @@ pvs_below file map leaf count = go (eqb leaf 0) (leaf_of file map leaf)
     within offset (answer visibility) = row_below visibility offset count
     within offset (refused n) = refl
 
-    row : (o : OptionalOffset) → mapped (below count) (row_of file map count o) ≡ row_of file map count o
+    row : (o : Option ℕ) → mapped (below count) (row_of file map count o) ≡ row_of file map count o
     row None = refl
     row (Some offset) = within offset (visibility_of file map.visibility)
 

@@ -1,16 +1,15 @@
 // The visibility row of a leaf. A first pass learns how many leaves the row lists, and a second one writes them.
 ghost use Rattle.std.specs.Prelude.{◌≡◌, ◌+◌, ◌%◌, ◌^◌, ◌≤◌, ◌<◌, min, ◌++◌, length, take, drop};
+ghost use Rattle.format.specs.Answers.{answer_of};
 ghost use Rattle.format.specs.Answer.{answer, mapped};
 ghost use Rattle.format.specs.Listed.{listed, into};
 ghost use Rattle.vis.specs.Row.{row_from, row_at};
 ghost use Rattle.vis.specs.Private.{byte_leaves};
 ghost use Rattle.vis.specs.Counts.{counts};
 ghost use Rattle.vis.specs.Pvs.{section_row};
-ghost use Rattle.vis.specs.Answers.{length_of};
 
-use crate::Pvs;
 use crate::ones::{SET_BITS, set_bits};
-use format::refusal::Refusal;
+use format::refusal::{Answer, Refusal};
 use format::section::{BspFileSection, BspFileSectionId};
 
 // The lowest `left` bits of a byte, which has eight: those for the leaves below the count, where so many leaves are left.
@@ -70,35 +69,40 @@ fn put_bits(byte: u8, left: usize, first: u32, count: usize, list: &mut [u32]) -
 }
 
 // How many leaves the row at the offset lists, by the table of the numbers of set bits.
-fn row_length(table: &[u8; 256], visibility: &[u8], offset: usize, leaf_count: usize) -> Pvs
+fn row_length(
+    table: &[u8; 256],
+    visibility: &[u8],
+    offset: usize,
+    leaf_count: usize,
+) -> Answer<usize>
     requires { (table.now ≡ counts 256 0) × (length visibility.now ≤ 1048576) × (offset ≤ length visibility.now) }
-    ensures { length_of result ≡ mapped length (row_from leaf_count 1 (drop offset visibility.now)) }
+    ensures { answer_of result ≡ mapped length (row_from leaf_count 1 (drop offset visibility.now)) }
 {
     let mut at = offset;
     let mut leaf = 1;
     let mut count = 0;
     while leaf < leaf_count {
         if visibility.len() <= at {
-            return Pvs::Refused(Refusal::RowOutsideData);
+            return Err(Refusal::RowOutsideData);
         }
         let byte = visibility[at];
         at += 1;
         if byte != 0 {
             if leaf_count - leaf < 8 {
                 let last = kept_bits(byte, leaf_count - leaf);
-                return Pvs::Length(count + (set_bits(table, last) as usize));
+                return Ok(count + (set_bits(table, last) as usize));
             }
             count += set_bits(table, byte) as usize;
             leaf += 8;
         } else {
             if visibility.len() <= at {
-                return Pvs::Refused(Refusal::RowOutsideData);
+                return Err(Refusal::RowOutsideData);
             }
             leaf += 8 * (visibility[at] as usize);
             at += 1;
         }
     }
-    Pvs::Length(count)
+    Ok(count)
 }
 
 // Writes the leaves that the row at the offset lists, which are as many as the list has entries.
@@ -123,22 +127,19 @@ fn put_row(visibility: &[u8], offset: usize, leaf_count: usize, list: &mut [u32]
 }
 
 // Lists the row at the offset of the visibility data.
-fn list_row(visibility: &[u8], offset: usize, leaf_count: usize, list: &mut [u32]) -> Pvs
+fn list_row(visibility: &[u8], offset: usize, leaf_count: usize, list: &mut [u32]) -> Answer<usize>
     requires { length visibility.now ≤ 1048576 }
-    ensures { listed (length_of result) list.new ≡ into (row_at visibility.now offset leaf_count) list.old }
+    ensures { listed (answer_of result) list.new ≡ into (row_at visibility.now offset leaf_count) list.old }
 {
     if visibility.len() < offset {
-        return Pvs::Refused(Refusal::RowOutsideData);
+        return Err(Refusal::RowOutsideData);
     }
-    let length = row_length(&SET_BITS, visibility, offset, leaf_count);
-    let Pvs::Length(count) = length else {
-        return length;
-    };
+    let count = row_length(&SET_BITS, visibility, offset, leaf_count)?;
     if list.len() < count {
-        return Pvs::Refused(Refusal::ListTooShort);
+        return Err(Refusal::ListTooShort);
     }
     put_row(visibility, offset, leaf_count, &mut list[..count]);
-    length
+    Ok(count)
 }
 
 // Lists the row at the offset of the visibility section.
@@ -148,8 +149,8 @@ pub fn list_section_row(
     offset: usize,
     leaf_count: usize,
     list: &mut [u32],
-) -> Pvs
-    ensures { listed (length_of result) list.new ≡ into (section_row file.now section offset leaf_count) list.old }
+) -> Answer<usize>
+    ensures { listed (answer_of result) list.new ≡ into (section_row file.now section offset leaf_count) list.old }
 {
     let size = section.size;
     if size == 0 {
@@ -162,5 +163,5 @@ pub fn list_section_row(
             return list_row(&file[start..end], offset, leaf_count, list);
         }
     }
-    Pvs::Refused(Refusal::Unreadable)
+    Err(Refusal::Unreadable)
 }

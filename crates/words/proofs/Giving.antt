@@ -1,15 +1,21 @@
 -- What a call leaves: laws for its ways out. Assumes nothing.
 use Prim.Native.Nat.{ℕ, ◌≤◌}
-use mathlib.Core.Path.{◌≡◌, sym, ap, ◌∙◌}
+use mathlib.Core.Path.{◌≡◌, refl, sym, ap, ◌∙◌}
 use mathlib.Core.List.{List}
 use borrow.Author.Tests.{le-ltb}
 use lib.ListN.{length}
 use Rattle.format.specs.Answer.{Answer, answer, refused, mapped}
 use Rattle.format.specs.Listed.{Listed, listed}
-use Rattle.words.specs.Words.{Written, written, put, give, given, number_words, beside, listed_in}
+use Rattle.words.specs.Words.{Written, written, put, give, given, told, number_words, beside, listed_in}
 
 fits : (ws out : List ℕ) → length ws ≤ length out → give ws out ≡ written 0 (put ws out)
 fits ws out h = simp (le-ltb (length out) (length ws) h)
+
+-- where there is room for the words of every value, nothing is too short
+pub told_given : {A : Type 0} (words : A → List ℕ) (a : Answer A) (out : List ℕ) → ((x : A) → length (words x) ≤ length out)
+    → told (mapped words a) out ≡ given (mapped words a) out
+told_given words (answer x) out room = fits (words x) out (room x)
+told_given words (refused n) out room = refl
 
 -- an answer x that stands for a: its refusal was told, or its value's words were given
 module _ {R A : Type 0} (reading : R → Answer A) (words : A → List ℕ) where

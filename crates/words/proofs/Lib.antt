@@ -1,4 +1,3 @@
 -- Laws about the definitions of `words`.
 pub mod Giving
-pub mod Putting
 pub mod Maps

@@ -15,9 +15,13 @@ use Rattle.format.specs.Listed.{Listed}
 use Rattle.format.specs.declared.section.BspData.{BspData}
 use Rattle.format.specs.declared.section.BspFileSection.{BspFileSection}
 
+-- the items, and then what lay past them
+abbrev pub put_items : {A : Type 0} → List A → List A → List A
+put_items xs out = xs ++ drop (length xs) out
+
 -- the words, and then what lay past them
 abbrev pub put : List ℕ → List ℕ → List ℕ
-put ws out = ws ++ drop (length ws) out
+put ws out = put_items ws out
 
 -- what a call says, and what is in the lent list afterwards: 0 and the answer's words, or a refusal's number and the list as it was
 pub record Written : Type 0 where
@@ -35,6 +39,11 @@ give ws out = cond (ltb (length out) (length ws)) (written 22 out) (written 0 (p
 abbrev pub given : Answer (List ℕ) → List ℕ → Written
 given (answer ws) out = written 0 (put ws out)
 given (refused n) out = written n out
+
+-- the same where the list may be too short for the words: then 22, and the list as it was
+abbrev pub told : Answer (List ℕ) → List ℕ → Written
+told (answer ws) out = give ws out
+told (refused n) out = written n out
 
 -- 22 where a list has fewer than n words (or floats), before anything else is looked at
 abbrev pub at_least : {A : Type 0} → ℕ → List A → List ℕ → Written → Written

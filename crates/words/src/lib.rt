@@ -2,10 +2,13 @@
 // and an answer written to the front of a list.
 #![tactic(auto)]
 
-ghost use Rattle.std.specs.Prelude.{◌≡◌, ◌≤◌, ◌+◌, length, get_or};
+ghost use Rattle.std.specs.Prelude.{◌≡◌, ◌≤◌, ◌+◌, length, get_or, leb, cond, ℕ};
 ghost use Rattle.std.specs.Float.{nan};
+ghost use Rattle.format.specs.Answer.{mapped};
+ghost use Rattle.format.specs.Answers.{answer_of};
 ghost use Rattle.words.specs.Words as Words;
 
+use format::refusal::Answer;
 use format::section::{BspData, BspFileSection};
 use math::{Alignment, Axis, Hyperplane};
 
@@ -14,49 +17,81 @@ pub const LIST_TOO_SHORT: u32 = 22;
 
 pub const NO_SUCH_RECORD: u32 = 20;
 
-// Writes the words to the front of the list. What lies past them is kept.
-fn put(words: &[u64], out: &mut [u64])
-    requires { length words.now ≤ length out.old }
-    ensures { out.new ≡ Words.put words.now out.old }
+// Writes the items to the front of the list, if they fit in it, and says whether they do. What lies past them is kept.
+fn put_front<T: Copy>(items: &[T], out: &mut [T]) -> bool
+    ensures fits { result ≡ leb (length items.now) (length out.old) }
+    ensures list { out.new ≡ cond result (Words.put_items items.now out.old) out.old }
 {
-    let mut i = 0;
-    while i < words.len() {
-        out[i] = words[i];
-        i += 1;
+    if out.len() < items.len() {
+        return false;
     }
+    out[..items.len()].copy_from_slice(items);
+    true
 }
 
 // Answers 0 and writes the words to the front of the list, or 22 where it is too short.
 pub fn give(words: &[u64], out: &mut [u64]) -> u32
     ensures { Words.written result out.new ≡ Words.give words.now out.old }
 {
-    if out.len() < words.len() {
-        return LIST_TOO_SHORT;
+    if put_front(words, out) {
+        0
+    } else {
+        LIST_TOO_SHORT
     }
-    put(words, out);
-    0
 }
 
 // The same for words of 32 bits.
-fn put_u32(words: &[u32], out: &mut [u32])
-    requires { length words.now ≤ length out.old }
-    ensures { out.new ≡ Words.put words.now out.old }
-{
-    let mut i = 0;
-    while i < words.len() {
-        out[i] = words[i];
-        i += 1;
-    }
-}
-
 pub fn give_u32(words: &[u32], out: &mut [u32]) -> u32
     ensures { Words.written result out.new ≡ Words.give words.now out.old }
 {
-    if out.len() < words.len() {
-        return LIST_TOO_SHORT;
+    if put_front(words, out) {
+        0
+    } else {
+        LIST_TOO_SHORT
     }
-    put_u32(words, out);
-    0
+}
+
+// A number that stands in a word as it is.
+pub trait Number: Copy {
+    ghost worth: { Self → ℕ };
+
+    fn word(self) -> u64
+        ensures { result ≡ worth self };
+}
+
+impl Number for u32 {
+    ghost worth = { λ n. n };
+
+    fn word(self) -> u64 {
+        self as u64
+    }
+}
+
+impl Number for usize {
+    ghost worth = { λ n. n };
+
+    fn word(self) -> u64 {
+        self as u64
+    }
+}
+
+impl Number for u64 {
+    ghost worth = { λ n. n };
+
+    fn word(self) -> u64 {
+        self
+    }
+}
+
+// Answers 0 and writes the number that was answered to the front of the list, or 22 where it is too short; or answers the number of the
+// refusal, and the list stays as it was.
+pub fn give_number<N: Number>(answer: Answer<N>, out: &mut [u64]) -> u32
+    ensures { Words.written result out.new ≡ Words.told (mapped (λ n. Words.number_words (N.worth n)) (answer_of answer)) out.old }
+{
+    match answer {
+        Ok(n) => give(&[n.word()], out),
+        Err(refusal) => refusal.number(),
+    }
 }
 
 // A float's word: its 32 bits, and 0x7fc00000 for every NaN.
@@ -70,29 +105,23 @@ pub fn float_word(x: f32) -> u64
 pub fn signed_word(v: i16) -> u64
     ensures { result ≡ Words.signed_word v }
 {
-    if v >= 0 {
-        v as u64
-    } else {
-        18446744073709551615 - ((-1 - v) as u64)
-    }
+    i64::from(v).cast_unsigned()
 }
 
 // 0 or 1.
 pub fn flag_word(flag: bool) -> u64
     ensures { result ≡ Words.flag_word flag }
 {
-    if flag { 1 } else { 0 }
+    u64::from(flag)
 }
 
 fn kind_word(alignment: Alignment) -> u64
     ensures { result ≡ Words.kind_of alignment }
 {
     match alignment {
-        Alignment::Axis(a) => match a {
-            Axis::X => 0,
-            Axis::Y => 1,
-            Axis::Z => 2,
-        },
+        Alignment::Axis(Axis::X) => 0,
+        Alignment::Axis(Axis::Y) => 1,
+        Alignment::Axis(Axis::Z) => 2,
         Alignment::Normal(_) => 3,
     }
 }
@@ -112,29 +141,32 @@ pub fn plane_words(plane: Hyperplane) -> [u64; 5]
     ]
 }
 
+// The item at a place, and another past the list's end.
+fn item_or<T: Copy>(items: &[T], at: usize, other: T) -> T
+    ensures { result ≡ get_or items.now at other }
+{
+    items.get(at).copied().unwrap_or(other)
+}
+
 // The word at a place, and 0 past the list's end.
 pub fn word_at(words: &[u32], at: usize) -> u32
     ensures { result ≡ get_or words.now at 0 }
 {
-    if at < words.len() { words[at] } else { 0 }
+    item_or(words, at, 0)
 }
 
 // The same for words of 64 bits.
 pub fn word_at_u64(words: &[u64], at: usize) -> u64
     ensures { result ≡ get_or words.now at 0 }
 {
-    if at < words.len() { words[at] } else { 0 }
+    item_or(words, at, 0)
 }
 
 // The float at a place, and a NaN past the list's end.
 pub fn float_at(floats: &[f32], at: usize) -> f32
     ensures { result ≡ get_or floats.now at nan }
 {
-    if at < floats.len() {
-        floats[at]
-    } else {
-        0.0 / 0.0
-    }
+    item_or(floats, at, f32::NAN)
 }
 
 fn section_at(words: &[u32], at: usize) -> BspFileSection

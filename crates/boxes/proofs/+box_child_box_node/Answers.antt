@@ -2,13 +2,13 @@
 -- there.
 -- Assumes nothing.
 use Prim.Native.Nat.{ℕ, ◌+◌, ◌-◌, ◌<◌}
+use Rattle.format.specs.Answers.{answer_of}
 use mathlib.Core.Path.{◌≡◌, sym, ap, ◌∙◌}
 use mathlib.Core.Bool.{false}
 use native.Mathlib.Omega.{arith}
 use Rattle.format.specs.Answer.{answer}
 use Rattle.math.specs.Box.{box_side}
 use Rattle.math.proofs.Boxes.{box_side_by_two}
-use Rattle.records.specs.Answers.{plane_answer}
 use Rattle.walk.specs.BoxWalk.{union, box_walk}
 use Rattle.nodes.specs.Fast as Fast
 use Rattle.boxes.specs.Sets.{box_word}
@@ -22,21 +22,21 @@ fewer : (k t : ℕ) → k + k ≡ t → (k ≡ 0 → ⊥) → k - 1 + (k - 1) + 
 fewer k t e z = omega arith
 
 -- the plane, once it is read
-is_plane : (t : ℕ) (c : box_node-After-box_side t) → Fast.plane_in c.args.s.now c.args.t c.in-Words.w.plane ≡ answer c.in-Value.h
-is_plane t c = sym c.plane_at.ensures ∙ ap plane_answer c.in-Value.is
+is_plane : (t : ℕ) (c : box_node-After-box_side t) → Fast.plane_in c.args.s.now c.args.t c.in-Words.w.plane ≡ answer c.in-Ok.h
+is_plane t c = sym c.plane_at.ensures ∙ ap answer_of c.in-Ok.is
 
 -- the side that the box goes to
-is_side : (t : ℕ) (c : box_node-After-box_side t) → c.box_side.result ≡ box_side c.in-Value.h c.args.lo c.args.hi
-is_side t c = c.box_side.ensures ∙ sym (box_side_by_two c.in-Value.h _ _ c.requires)
+is_side : (t : ℕ) (c : box_node-After-box_side t) → c.box_side.result ≡ box_side c.in-Ok.h c.args.lo c.args.hi
+is_side t c = c.box_side.ensures ∙ sym (box_side_by_two c.in-Ok.h _ _ c.requires)
 
 -- the box is on both sides: the front child's answer, and then the back child's
 on_both : (t : ℕ) (c : box_node-After-box_child-front t) →
     let a = c.args in
-    Fast.plane_in a.s.now a.t c.in-Words.w.plane ≡ answer c.in-Value.h → c.box_side.result ≡ box_side c.in-Value.h a.lo a.hi
+    Fast.plane_in a.s.now a.t c.in-Words.w.plane ≡ answer c.in-Ok.h → c.box_side.result ≡ box_side c.in-Ok.h a.lo a.hi
     → union (set_answer c.box_child-front.result) (box_word (Fast.table a.s.now a.t) a.t.table a.lo a.hi (a.levels - 1) (Fast.word_on c.in-Words.w false)) ≡ box_walk (Fast.table a.s.now a.t) a.lo a.hi a.levels a.node
 on_both t c plane side =
     let a = c.args in
-    box_on_both a.s.now a.t a.lo a.hi a.levels a.node c.if-nodes-node.false c.if-levels-eq0.false _ c.read_words.ensures c.in-Words.w c.in-Words.is c.in-Value.h plane _ side
+    box_on_both a.s.now a.t a.lo a.hi a.levels a.node c.if-nodes-node.false c.if-levels-eq0.false _ c.read_words.ensures c.in-Words.w c.in-Words.is c.in-Ok.h plane _ side
     c.in-Both.is c.on-in-Both.result c.on-in-Both.ensures c.box_child-front.result c.box_child-front.ensures
 
 back_is : (t : ℕ) (c : box_node-After-box_child-back t) →
@@ -76,11 +76,11 @@ box_node-returns-in-Refused t c =
     let a = c.args in
     box_unread a.s.now a.t a.lo a.hi a.levels a.node c.if-nodes-node.false c.if-levels-eq0.false _ c.read_words.ensures _ c.in-Refused.is
 
-pub box_node-returns-in-Refused-plane_at : goal.box_node-returns-in-Refused-plane_at
-box_node-returns-in-Refused-plane_at t c =
+pub box_node-returns-in-Err : goal.box_node-returns-in-Err
+box_node-returns-in-Err t c =
     let a = c.args in
     box_unplaned a.s.now a.t a.lo a.hi a.levels a.node c.if-nodes-node.false c.if-levels-eq0.false _ c.read_words.ensures _ c.in-Words.is
-    _ (sym c.plane_at.ensures ∙ ap plane_answer c.in-Refused-plane_at.is)
+    _ (sym c.plane_at.ensures ∙ ap answer_of c.in-Err.is)
 
 pub box_node-box_child-requires : goal.box_node-box_child-requires
 box_node-box_child-requires t c = (fewer _ t c.decreases c.if-levels-eq0.false, c.requires)
@@ -108,7 +108,7 @@ box_node-returns-in-One t c =
     let at = goal.at.box_node-returns-in-One t c in
     c.box_child.ensures
     ∙ box_on_one a.s.now a.t a.lo a.hi a.levels a.node c.if-nodes-node.false c.if-levels-eq0.false _ c.read_words.ensures c.in-Words.w c.in-Words.is
-    c.in-Value.h (is_plane t at.After-box_side) _ (is_side t at.After-box_side) _ c.in-One.is c.is_front.result c.is_front.ensures c.on.result c.on.ensures
+    c.in-Ok.h (is_plane t at.After-box_side) _ (is_side t at.After-box_side) _ c.in-One.is c.is_front.result c.is_front.ensures c.on.result c.on.ensures
 
 pub box_node-returns-in-Set-back : goal.box_node-returns-in-Set-back
 box_node-returns-in-Set-back t c =

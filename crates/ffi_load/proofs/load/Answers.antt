@@ -11,11 +11,11 @@ pub returns-then-map-lt31 : goal.returns-then-map-lt31
 unfolding bsp_load
 returns-then-map-lt31 c = simp (lt-ltb _ _ c.if-map-lt31.true)
 
-pub returns-in-Refused : goal.returns-in-Refused
+pub returns-in-Err : goal.returns-in-Err
 unfolding bsp_load
-returns-in-Refused c = simp (le-ltb _ _ c.if-map-lt31.false) (refuses loaded_answer map_words c.load.ensures c.in-Refused.is refl c.number.ensures)
+returns-in-Err c = simp (le-ltb _ _ c.if-map-lt31.false) (refuses loaded_answer map_words c.load.ensures c.in-Err.is refl c.number.ensures)
 
-pub returns-in-Map : goal.returns-in-Map
+pub returns-in-Ok : goal.returns-in-Ok
 unfolding bsp_load
-returns-in-Map c = simp (le-ltb _ _ c.if-map-lt31.false)
-    (gives loaded_answer map_words c.args.map.now c.load.ensures c.in-Map.is refl c.map_words.ensures c.if-map-lt31.false c.give_u32.ensures)
+returns-in-Ok c = simp (le-ltb _ _ c.if-map-lt31.false)
+    (gives loaded_answer map_words c.args.map.now c.load.ensures c.in-Ok.is refl c.map_words.ensures c.if-map-lt31.false c.give_u32.ensures)

@@ -5,8 +5,8 @@ use Rattle.ffi_place.proofs.place.Goals as goal
 pub returns-then-out-lt4 : goal.returns-then-out-lt4
 returns-then-out-lt4 c = search (too_short) depth 4
 
-pub returns-in-Loads : goal.returns-in-Loads
-returns-in-Loads c = search (it_loads) depth 8
+pub returns-in-Ok : goal.returns-in-Ok
+returns-in-Ok c = search (it_loads) depth 8
 
-pub returns-in-Refused : goal.returns-in-Refused
-returns-in-Refused c = search (it_is_refused) depth 8
+pub returns-in-Err : goal.returns-in-Err
+returns-in-Err c = search (it_is_refused) depth 8

@@ -1,24 +1,33 @@
 -- `ffi_team::pvs_team` meets its contract. Assumes nothing.
-use mathlib.Core.Path.{ap, ◌∙◌}
-use borrow.Author.Tests.{lt-ltb, le-ltb}
-use Rattle.format.specs.Listed.{into}
-use Rattle.words.proofs.Giving.{counts}
-use Rattle.vis.specs.Answers.{length_of}
-use Rattle.team.specs.Team.{team_of}
+use mathlib.Core.Path.{◌≡◌, sym, ap}
+use Prim.Native.Nat.{◌<◌, ◌≤◌}
+use native.Mathlib.Omega.{arith}
+use borrow.Author.Tests.{lt-ltb, le-ltb, eqb-true, eqb-false}
+use lib.ListN.{length}
+use Rattle.words.specs.Words.{beside}
 use Rattle.ffi_team.specs.Calls.{bsp_pvs_team}
 use Rattle.ffi_team.proofs.pvs_team.Goals as goal
+use Rattle.ffi_team.proofs.pvs_team.Goals.{then-map-lt31-via-then-map-lt31, then-map-lt31-via-else-map-lt31+then-is_empty}
 
 pub returns-then-map-lt31 : goal.returns-then-map-lt31
 unfolding bsp_pvs_team
-returns-then-map-lt31 c = simp (lt-ltb _ _ c.if-map-lt31.true)
+returns-then-map-lt31 c =
+    elim c.then-map-lt31.branch [
+      | then-map-lt31-via-then-map-lt31 w ↦ simp (lt-ltb _ _ w.if-map-lt31.true)
+      | then-map-lt31-via-else-map-lt31+then-is_empty w ↦
+          let h : length c.args.out.now < 1 = omega (arith, eqb-true _ _ (sym w.if-is_empty.ensures)) in
+          simp (le-ltb _ _ w.if-map-lt31.false, lt-ltb _ _ h)
+    ]
 
-pub returns-then-out-lt1 : goal.returns-then-out-lt1
+pub returns-in-Ok : goal.returns-in-Ok
 unfolding bsp_pvs_team
-returns-then-out-lt1 c = simp (le-ltb _ _ c.if-map-lt31.false, lt-ltb _ _ c.if-out-lt1.true)
+returns-in-Ok c =
+    let h : 1 ≤ length c.args.out.now = omega (arith, eqb-false _ _ (sym c.if-is_empty.ensures)) in
+    simp (le-ltb _ _ c.if-map-lt31.false, le-ltb _ _ h)
+    (rw (← c.map_of.ensures, ← c.in-Ok.ensures) (ap (beside c.pvs_team.new.list) (simp (le-ltb _ _ h) at c.give.ensures)))
 
-pub returns : goal.returns
+pub returns-in-Err : goal.returns-in-Err
 unfolding bsp_pvs_team
-returns c = let s = c.args in
-    simp (le-ltb _ _ c.if-map-lt31.false, le-ltb _ _ c.if-out-lt1.false)
-    (counts (length_of c.pvs_team.result) _ s.out.now c.give_length.ensures
-    (c.pvs_team.ensures ∙ ap (λ m. into (team_of s.file.now m s.leaves.now s.leaf_count) s.list.now) c.map_of.ensures))
+returns-in-Err c =
+    let h : 1 ≤ length c.args.out.now = omega (arith, eqb-false _ _ (sym c.if-is_empty.ensures)) in
+    simp (le-ltb _ _ c.if-map-lt31.false, le-ltb _ _ h) (rw (← c.map_of.ensures, ← c.in-Err.ensures, c.number.ensures))

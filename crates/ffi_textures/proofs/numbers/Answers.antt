@@ -3,7 +3,7 @@ use mathlib.Core.Path.{ap, ◌∙◌}
 use borrow.Author.Tests.{lt-ltb, le-ltb}
 use Rattle.format.specs.Listed.{into}
 use Rattle.words.proofs.Giving.{counts}
-use Rattle.textures.specs.Frame.{list_length}
+use Rattle.format.specs.Answers.{answer_of}
 use Rattle.texture_numbers.specs.Numbers.{texture_numbers}
 use Rattle.ffi_textures.specs.Calls.{bsp_texture_numbers}
 use Rattle.ffi_textures.proofs.numbers.Goals as goal
@@ -20,5 +20,5 @@ pub returns : goal.returns
 unfolding bsp_texture_numbers
 returns c = let s = c.args in
     simp (le-ltb _ _ c.if-map-lt31.false, le-ltb _ _ c.if-out-lt1.false)
-    (counts (list_length c.texture_numbers.result) _ s.out.now c.give_length.ensures
+    (counts (answer_of c.texture_numbers.result) _ s.out.now c.give_number.ensures
     (c.texture_numbers.ensures ∙ ap (λ m. into (texture_numbers s.file.now m) s.list.now) c.map_of.ensures))

@@ -24,12 +24,12 @@ pub returns-then-out-lt1 : goal.returns-then-out-lt1
 unfolding bsp_tree_check
 returns-then-out-lt1 c = simp (le-ltb _ _ c.if-map-lt31.false, lt-ltb _ _ c.if-out-lt1.true)
 
-pub returns-in-NoTable : goal.returns-in-NoTable
-returns-in-NoTable c = long_enough (goal.at.returns-in-NoTable c).After-table_numbered _ (rw c.in-NoTable.is)
+pub returns-in-None : goal.returns-in-None
+returns-in-None c = long_enough (goal.at.returns-in-None c).After-table_numbered _ (rw c.in-None.is)
 
-pub returns-in-Table : goal.returns-in-Table
-returns-in-Table c = let s = c.args in
-    long_enough (goal.at.returns-in-Table c).After-table_numbered _
+pub returns-in-Some : goal.returns-in-Some
+returns-in-Some c = let s = c.args in
+    long_enough (goal.at.returns-in-Some c).After-table_numbered _
     (ap (beside c.tree_check.new.marks) c.give_height.ensures
-    ∙ ap (λ k. checked_in k s.out.now) (c.tree_check.ensures ∙ ap (λ m. tree_check (nodes_of s.file.now m c.in-Table.t) s.marks.now s.root) c.map_of.ensures)
-    ∙ ap (λ t. check_of t s.file.now s.map.now s.root s.marks.now s.out.now) (sym c.in-Table.is))
+    ∙ ap (λ k. checked_in k s.out.now) (c.tree_check.ensures ∙ ap (λ m. tree_check (nodes_of s.file.now m c.in-Some.t) s.marks.now s.root) c.map_of.ensures)
+    ∙ ap (λ t. check_of t s.file.now s.map.now s.root s.marks.now s.out.now) (sym c.in-Some.is))

@@ -10,15 +10,15 @@ use Rattle.report.proofs.report.Goals as goal
 pub returns-then-input-gt-MOST_BYTES : goal.returns-then-input-gt-MOST_BYTES
 returns-then-input-gt-MOST_BYTES c = too_long c.args.input.now c.args.out.now (search rules) (omega (arith, c.if-input-gt-MOST_BYTES.true)) c.put_text.ensures
 
-pub returns-in-Refused : goal.returns-in-Refused
-returns-in-Refused c = let loads = c.load in
+pub returns-in-Err : goal.returns-in-Err
+returns-in-Err c = let loads = c.load in
     let number = c.number.ensures in
     refuses c.args.input.now c.args.out.now (search rules) _ (omega (arith, c.if-input-gt-MOST_BYTES.false))
-    (ap refused number ∙ sym (ap loaded_answer c.in-Refused.is) ∙ loads.ensures)
+    (ap refused number ∙ sym (ap loaded_answer c.in-Err.is) ∙ loads.ensures)
     c.put_line.ensures
 
-pub returns-in-Map : goal.returns-in-Map
-returns-in-Map c = let loads = c.load in
+pub returns-in-Ok : goal.returns-in-Ok
+returns-in-Ok c = let loads = c.load in
     counts c.args.input.now c.args.out.now (search rules) _ (omega (arith, c.if-input-gt-MOST_BYTES.false))
-    (sym (ap loaded_answer c.in-Map.is) ∙ loads.ensures)
+    (sym (ap loaded_answer c.in-Ok.is) ∙ loads.ensures)
     c.put_counts.ensures

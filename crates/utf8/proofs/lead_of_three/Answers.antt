@@ -1,4 +1,4 @@
--- `utf8::lead_of_three` meets its contract: a chain of reads and tests.
+-- `utf8::lead_of_three` meets its contract: a chain of tests.
 -- Assumes nothing.
 use Rattle.format.proofs.Chain.{tests}
 use Rattle.utf8.specs.Unicode.{lead_three}

@@ -1,20 +1,17 @@
--- `utf8::next_byte` meets its contract: the cases of the state, and its tests.
+-- `utf8::next_byte` meets its contract: a chain of tests.
 -- Assumes nothing.
 use Rattle.format.proofs.Chain.{tests}
-use Rattle.utf8.specs.Unicode.{next}
+use Rattle.utf8.specs.Unicode.{next_of}
 use Rattle.utf8.proofs.next_byte.Goals as goal
 
-pub returns-then-n-eq0 : goal.returns-then-n-eq0
-returns-then-n-eq0 c = unfold next in rw c.in-Want.is (search tests)
+pub returns-then-here-eq0 : goal.returns-then-here-eq0
+returns-then-here-eq0 c = unfold next_of in search tests depth 10
 
-pub returns-then-b-lo : goal.returns-then-b-lo
-returns-then-b-lo c = unfold next in rw c.in-Want.is (search tests)
+pub returns-then-b-here : goal.returns-then-b-here
+returns-then-b-here c = unfold next_of in search tests depth 10
 
-pub returns-then-hi-b : goal.returns-then-hi-b
-returns-then-hi-b c = unfold next in rw c.in-Want.is (search tests depth 8)
+pub returns-then-here-b : goal.returns-then-here-b
+returns-then-here-b c = unfold next_of in search tests depth 10
 
-pub returns-in-Bad : goal.returns-in-Bad
-returns-in-Bad c = unfold next in rw c.in-Bad.is
-
-pub returns-else-hi-b : goal.returns-else-hi-b
-returns-else-hi-b c = unfold next in rw c.in-Want.is (search tests depth 8)
+pub returns : goal.returns
+returns c = unfold next_of in search tests depth 10

@@ -1,14 +1,14 @@
 -- `check_edge` meets its contract: the entry, then the edge that it names. Assumes nothing.
 use Rattle.format.proofs.Fields.{found}
-use Rattle.records.specs.Answers.{edge_index_answer}
+use Rattle.format.specs.Answers.{answer_of}
 use Rattle.accept.specs.Accept.{edge_check}
 use Rattle.accept.proofs.Ways.{unread, was_read}
 use Rattle.accept.proofs.references.check_edge.Goals as goal
 
-pub returns-in-Refused : goal.returns-in-Refused
+pub returns-in-Err : goal.returns-in-Err
 unfolding edge_check
-returns-in-Refused c = unread _ (found edge_index_answer c.edgelist.ensures c.in-Refused.is)
+returns-in-Err c = unread _ (found answer_of c.edgelist.ensures c.in-Err.is)
 
-pub returns-in-Value : goal.returns-in-Value
+pub returns-in-Ok : goal.returns-in-Ok
 unfolding edge_check
-returns-in-Value c = was_read _ (found edge_index_answer c.edgelist.ensures c.in-Value.is) c.check_edge_named.ensures
+returns-in-Ok c = was_read _ (found answer_of c.edgelist.ensures c.in-Ok.is) c.check_edge_named.ensures

@@ -1,14 +1,14 @@
 -- `check_model_faces` meets its contract: the record, then the range. Assumes nothing.
 use Rattle.format.proofs.Fields.{found}
-use Rattle.models.specs.Answers.{file_model_answer}
+use Rattle.format.specs.Answers.{answer_of}
 use Rattle.accept.specs.Accept.{model_faces}
 use Rattle.accept.proofs.Ways.{of_size, unread, was_read}
 use Rattle.accept.proofs.references.check_model_faces.Goals as goal
 
-pub returns-in-Refused : goal.returns-in-Refused
+pub returns-in-Err : goal.returns-in-Err
 unfolding model_faces
-returns-in-Refused c = unread _ (found file_model_answer c.file_model.ensures c.in-Refused.is)
+returns-in-Err c = unread _ (found answer_of c.file_model.ensures c.in-Err.is)
 
-pub returns-in-Value : goal.returns-in-Value
+pub returns-in-Ok : goal.returns-in-Ok
 unfolding model_faces
-returns-in-Value c = was_read _ (found file_model_answer c.file_model.ensures c.in-Value.is) (of_size _ _ c.record_count.ensures c.within.ensures)
+returns-in-Ok c = was_read _ (found answer_of c.file_model.ensures c.in-Ok.is) (of_size _ _ c.record_count.ensures c.within.ensures)

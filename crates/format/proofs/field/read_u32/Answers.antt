@@ -1,18 +1,19 @@
--- `format::field::read_u32` meets its contract: the bytes end, in two ways, or the field is there.
+-- `format::field::read_u32` meets its contract: the bytes are there and are put together, or they end.
 -- Assumes nothing.
-use native.Mathlib.Omega.{arith}
+use Rattle.std.proofs.Common.{arith}
 use Rattle.format.specs.Field.{u32_at}
-use Rattle.format.proofs.Fields.{ends, reads}
+use Rattle.format.proofs.Bytes.{four, no_field, a_field}
 use Rattle.format.proofs.field.read_u32.Goals as goal
 
-pub returns-then-s-lt4 : goal.returns-then-s-lt4
+pub returns-in_err-bytes : goal.returns-in_err-bytes
 unfolding u32_at
-returns-then-s-lt4 c = let a = c.args in ends 4 a.s.now a.at _ (omega arith)
+returns-in_err-bytes c = no_field 4 c.args.s.now c.args.at _ _ _ c.in_err-bytes.ensures.err c.from_residual.ensures.1
 
-pub returns-then-s-at : goal.returns-then-s-at
-unfolding u32_at
-returns-then-s-at c = let a = c.args in ends 4 a.s.now a.at _ (omega arith)
+pub overflow_add-result : goal.overflow_add-result
+overflow_add-result c = let h = c.in_ok-bytes.ensures.ok.0 in omega (arith, h)
 
 pub returns : goal.returns
 unfolding u32_at
-returns c = let a = c.args in rw c.le32.ensures (reads 4 a.s.now a.at _ (omega arith))
+returns c =
+    let (there, bytes) = c.in_ok-bytes.ensures.ok in
+    a_field 4 c.args.s.now c.args.at _ _ there (four c.args.s.now c.args.at _ _ bytes c.from_le_bytes.ensures)

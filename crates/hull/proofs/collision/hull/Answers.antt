@@ -6,8 +6,8 @@ use Rattle.hull.proofs.collision.hull.Goals as goal
 pub returns-then-index-ge3 : goal.returns-then-index-ge3
 returns-then-index-ge3 c = hull_outside _ _ _ _ c.if-index-ge3.true
 
-pub returns-in-Refused : goal.returns-in-Refused
-returns-in-Refused c = no_model _ _ _ _ c.if-index-ge3.false _ c.record_count-total.ensures _ c.file_model.ensures _ c.in-Refused.is
+pub returns-in-Err : goal.returns-in-Err
+returns-in-Err c = no_model _ _ _ _ c.if-index-ge3.false _ c.record_count-total.ensures _ c.file_model.ensures _ c.in-Err.is
 
-pub returns-in-Value : goal.returns-in-Value
-returns-in-Value c = of_model _ _ _ _ c.if-index-ge3.false _ c.record_count-total.ensures _ c.file_model.ensures _ c.in-Value.is _ c.node_counts.ensures c.hull_of.result c.hull_of.ensures
+pub returns-in-Ok : goal.returns-in-Ok
+returns-in-Ok c = of_model _ _ _ _ c.if-index-ge3.false _ c.record_count-total.ensures _ c.file_model.ensures _ c.in-Ok.is _ c.node_counts.ensures c.hull_of.result c.hull_of.ensures

@@ -3,4 +3,4 @@
 use Rattle.hull.proofs.tracing.ends_with.Goals as goal
 
 pub returns-then-near : goal.returns-then-near
-returns-then-near c = simp (c.if-near.true, c.equals.ensures)
+returns-then-near c = simp (c.if-near.true, c.ne.ensures)

@@ -1,15 +1,18 @@
 -- `join_two` meets its contract.
 -- Assumes nothing.
+use mathlib.Core.Path.{◌∙◌}
+use Rattle.format.specs.declared.contents.BspLeafContents.TheVariants.{Solid}
+use Rattle.format.proofs.Same.{same_contents}
 use Rattle.hull.proofs.whole.join_two.Goals as goal
 
-pub returns-then-equals : goal.returns-then-equals
-returns-then-equals c = simp (c.carried.ensures, ← c.equals.ensures, c.if-equals.true)
+pub returns-then-eq : goal.returns-then-eq
+returns-then-eq c = simp (c.carried.ensures, ← (c.eq.ensures ∙ same_contents _ _), c.if-eq.true)
 
-pub returns-then-equals-3 : goal.returns-then-equals-3
-returns-then-equals-3 c = simp (c.counted.ensures, ← c.equals-then-equals-2.ensures, c.if-equals-3.true, ← c.equals-2.ensures, c.if-equals-2.true, ← c.equals.ensures, c.if-equals.false)
+pub returns-then-eq-3 : goal.returns-then-eq-3
+returns-then-eq-3 c = simp (c.counted.ensures, ← (c.eq-then-eq-2.ensures ∙ same_contents _ Solid), c.if-eq-3.true, ← (c.eq-2.ensures ∙ same_contents _ Solid), c.if-eq-2.true, ← (c.eq.ensures ∙ same_contents _ _), c.if-eq.false)
 
-pub returns-then-equals-2 : goal.returns-then-equals-2
-returns-then-equals-2 c = simp (c.carried-then-equals-2.ensures, ← c.equals-then-equals-2.ensures, c.if-equals-3.false, ← c.equals-2.ensures, c.if-equals-2.true, ← c.equals.ensures, c.if-equals.false)
+pub returns-then-eq-2 : goal.returns-then-eq-2
+returns-then-eq-2 c = simp (c.carried-then-eq-2.ensures, ← (c.eq-then-eq-2.ensures ∙ same_contents _ Solid), c.if-eq-3.false, ← (c.eq-2.ensures ∙ same_contents _ Solid), c.if-eq-2.true, ← (c.eq.ensures ∙ same_contents _ _), c.if-eq.false)
 
 pub returns : goal.returns
-returns c = simp (c.counted-2.ensures, ← c.equals-2.ensures, c.if-equals-2.false, ← c.equals.ensures, c.if-equals.false)
+returns c = simp (c.counted-2.ensures, ← (c.eq-2.ensures ∙ same_contents _ Solid), c.if-eq-2.false, ← (c.eq.ensures ∙ same_contents _ _), c.if-eq.false)

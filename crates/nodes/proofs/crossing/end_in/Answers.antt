@@ -10,8 +10,8 @@ returns-then-leaves-leaf c = among_none _ _ _ c.if-render.true c.if-leaves-leaf.
 pub returns-then-render : goal.returns-then-render
 returns-then-render c = among_leaf _ _ _ c.if-render.true c.if-leaves-leaf.false _ c.leaf_contents.ensures
 
-pub returns-in-Contents : goal.returns-in-Contents
-returns-in-Contents c = among_code _ _ _ c.if-render.false _ (sym c.contents_of.ensures ∙ c.in-Contents.is)
+pub returns-in-Some : goal.returns-in-Some
+returns-in-Some c = among_code _ _ _ c.if-render.false _ (sym c.contents_of.ensures ∙ c.in-Some.is)
 
-pub returns-in-Invalid : goal.returns-in-Invalid
-returns-in-Invalid c = among_code _ _ _ c.if-render.false _ (sym c.contents_of.ensures ∙ c.in-Invalid.is)
+pub returns-in-None : goal.returns-in-None
+returns-in-None c = among_code _ _ _ c.if-render.false _ (sym c.contents_of.ensures ∙ c.in-None.is)

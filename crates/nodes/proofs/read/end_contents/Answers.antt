@@ -9,18 +9,18 @@ pub returns-then-leaves-leaf : goal.returns-then-leaves-leaf
 returns-then-leaves-leaf c = no_leaf _ _ _ _ c.is_render.ensures c.if-is_render.true c.if-leaves-leaf.true
 
 pub leaf_contents-requires : goal.leaf_contents-requires
-leaf_contents-requires c = within _ _ _ _ _ _ c.place.ensures c.in-At.is
+leaf_contents-requires c = within _ _ _ _ _ _ c.place.ensures c.in-Ok.is
 
-pub returns-in-At : goal.returns-in-At
-returns-in-At c = leaf_at_lem _ _ _ _ c.is_render.ensures c.if-is_render.true c.if-leaves-leaf.false _ c.place.ensures _ _ c.in-At.is c.leaf_contents.ensures
+pub returns-in-Ok : goal.returns-in-Ok
+returns-in-Ok c = leaf_at_lem _ _ _ _ c.is_render.ensures c.if-is_render.true c.if-leaves-leaf.false _ c.place.ensures _ _ c.in-Ok.is c.leaf_contents.ensures
 
-pub returns-in-Refused : goal.returns-in-Refused
-returns-in-Refused c = leaf_not _ _ _ _ c.is_render.ensures c.if-is_render.true c.if-leaves-leaf.false _ c.place.ensures _ c.in-Refused.is
+pub returns-in-Err : goal.returns-in-Err
+returns-in-Err c = leaf_not _ _ _ _ c.is_render.ensures c.if-is_render.true c.if-leaves-leaf.false _ c.place.ensures _ c.in-Err.is
 
-pub returns-in-Contents : goal.returns-in-Contents
+pub returns-in-Some : goal.returns-in-Some
 unfolding meet
-returns-in-Contents c = code_met _ _ _ _ c.is_render.ensures c.if-is_render.false _ _ c.contents_of.ensures c.in-Contents.is
+returns-in-Some c = code_met _ _ _ _ c.is_render.ensures c.if-is_render.false _ _ c.contents_of.ensures c.in-Some.is
 
-pub returns-in-Invalid : goal.returns-in-Invalid
+pub returns-in-None : goal.returns-in-None
 unfolding meet
-returns-in-Invalid c = code_met _ _ _ _ c.is_render.ensures c.if-is_render.false _ _ c.contents_of.ensures c.in-Invalid.is
+returns-in-None c = code_met _ _ _ _ c.is_render.ensures c.if-is_render.false _ _ c.contents_of.ensures c.in-None.is

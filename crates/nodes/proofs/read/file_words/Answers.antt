@@ -10,19 +10,19 @@ pub returns-then-nodes-index : goal.returns-then-nodes-index
 returns-then-nodes-index c = let a = c.args in no_node _ a.nodes a.index a.render c.if-nodes-index.true
 
 pub render_words-requires : goal.render_words-requires
-render_words-requires c = within _ _ _ _ _ _ c.place.ensures c.in-At.is
+render_words-requires c = within _ _ _ _ _ _ c.place.ensures c.in-Ok.is
 
-pub returns-in-At : goal.returns-in-At
-returns-in-At c = render_at _ _ _ _ c.if-render.true _ c.place.ensures c.render_words.result _ c.in-At.is (at_start render_node_here _ _ _ (c.render_words.ensures _ 0 (within_itself _)))
+pub returns-in-Ok : goal.returns-in-Ok
+returns-in-Ok c = render_at _ _ _ _ c.if-render.true _ c.place.ensures c.render_words.result _ c.in-Ok.is (at_start render_node_here _ _ _ (c.render_words.ensures _ 0 (within_itself _)))
 
-pub returns-in-Refused : goal.returns-in-Refused
-returns-in-Refused c = render_not _ _ _ _ c.if-render.true _ c.place.ensures _ c.in-Refused.is
+pub returns-in-Err : goal.returns-in-Err
+returns-in-Err c = render_not _ _ _ _ c.if-render.true _ c.place.ensures _ c.in-Err.is
 
 pub clip_words-requires : goal.clip_words-requires
-clip_words-requires c = within _ _ _ _ _ _ c.place-2.ensures c.in-At-place.is
+clip_words-requires c = within _ _ _ _ _ _ c.place-2.ensures c.in-Ok-place.is
 
-pub returns-in-At-place : goal.returns-in-At-place
-returns-in-At-place c = clip_at _ _ _ _ c.if-render.false _ c.place-2.ensures c.clip_words.result _ c.in-At-place.is (at_start clip_node_here _ _ _ (c.clip_words.ensures _ 0 (within_itself _)))
+pub returns-in-Ok-place : goal.returns-in-Ok-place
+returns-in-Ok-place c = clip_at _ _ _ _ c.if-render.false _ c.place-2.ensures c.clip_words.result _ c.in-Ok-place.is (at_start clip_node_here _ _ _ (c.clip_words.ensures _ 0 (within_itself _)))
 
-pub returns-in-Refused-place : goal.returns-in-Refused-place
-returns-in-Refused-place c = clip_not _ _ _ _ c.if-render.false _ c.place-2.ensures _ c.in-Refused-place.is
+pub returns-in-Err-place : goal.returns-in-Err-place
+returns-in-Err-place c = clip_not _ _ _ _ c.if-render.false _ c.place-2.ensures _ c.in-Err-place.is

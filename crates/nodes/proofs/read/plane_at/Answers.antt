@@ -1,6 +1,7 @@
 -- `plane_at` meets its contract: the index (30), then a box's plane, or the plane's place (23) and its record.
 -- Assumes nothing.
-use Rattle.std.proofs.Common.{sym, ap, ◌∙◌}
+use Rattle.std.proofs.Common.{sym, refl, ap, ◌∙◌, Ok, Err}
+use Rattle.std.proofs.lemmas.Result.{err_from_is_err_and}
 use Rattle.nodes.proofs.Places.{within}
 use Rattle.format.specs.Answer.{answer}
 use Rattle.nodes.proofs.Planes.{no_plane, box_plane_lem, plane_at_lem, plane_not}
@@ -13,10 +14,13 @@ pub returns-then-is_box : goal.returns-then-is_box
 returns-then-is_box c = c.box_plane.ensures ∙ sym (box_plane_lem _ _ _ c.if-planes-index.false _ c.is_box.ensures c.if-is_box.true)
 
 pub plane_here-requires : goal.plane_here-requires
-plane_here-requires c = within _ _ _ _ _ _ c.place.ensures c.in-At.is
+plane_here-requires c = within _ _ _ _ (Ok c.in_ok-at.at) _ c.in_ok-at.ensures refl
 
-pub returns-in-At : goal.returns-in-At
-returns-in-At c = ap answer c.plane_here.ensures ∙ sym (plane_at_lem _ _ _ c.if-planes-index.false _ c.is_box.ensures c.if-is_box.false _ c.place.ensures _ c.in-At.is)
+pub returns-in_err-at : goal.returns-in_err-at
+returns-in_err-at c =
+    let e = c.in_err-at.field-0.0 in
+    let (d, t, s) = err_from_is_err_and c.from_residual.result c.from_residual.ensures.1 in
+    rw (t, s) (sym (plane_not _ _ _ c.if-planes-index.false _ c.is_box.ensures c.if-is_box.false (Err e) c.in_err-at.ensures e refl))
 
-pub returns-in-Refused : goal.returns-in-Refused
-returns-in-Refused c = sym (plane_not _ _ _ c.if-planes-index.false _ c.is_box.ensures c.if-is_box.false _ c.place.ensures _ c.in-Refused.is)
+pub returns : goal.returns
+returns c = ap answer c.plane_here.ensures ∙ sym (plane_at_lem _ _ _ c.if-planes-index.false _ c.is_box.ensures c.if-is_box.false (Ok c.in_ok-at.at) c.in_ok-at.ensures _ refl)

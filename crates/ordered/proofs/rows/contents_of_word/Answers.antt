@@ -3,8 +3,8 @@ use native.Mathlib.Omega.{arith}
 use Rattle.ordered.proofs.Laws.{code_of}
 use Rattle.ordered.proofs.rows.contents_of_word.Goals as goal
 
-pub returns-in-Contents : goal.returns-in-Contents
-returns-in-Contents c = code_of _ _ c.contents_of.ensures (omega arith) _ c.in-Contents.is
+pub returns-in-Some : goal.returns-in-Some
+returns-in-Some c = code_of _ _ c.contents_of.ensures (omega arith) _ c.in-Some.is
 
-pub returns-in-Invalid : goal.returns-in-Invalid
-returns-in-Invalid c = code_of _ _ c.contents_of.ensures (omega arith) _ c.in-Invalid.is
+pub returns-in-None : goal.returns-in-None
+returns-in-None c = code_of _ _ c.contents_of.ensures (omega arith) _ c.in-None.is

@@ -1,5 +1,6 @@
 -- `trace_from` meets its contract: what the way down says is taken up at the crossing with the answers of the two parts. Assumes nothing.
 use Prim.Native.Nat.{suc, ◌≤◌, ◌^◌}
+use Rattle.format.specs.Answers.{answer_of}
 use native.Mathlib.Omega.{arith}
 use mathlib.Core.Path.{◌≡◌, sym, ap, ◌∙◌, subst}
 use Rattle.math.specs.Plane as Pl
@@ -7,7 +8,6 @@ use Rattle.math.specs.Plane.{axis_x}
 use Rattle.format.specs.Answer.{answer}
 use Rattle.walk.specs.Private.{after}
 use Rattle.walk.specs.Tracing.{recursive_trace}
-use Rattle.records.specs.Answers.{plane_answer}
 use Rattle.nodes.specs.Numbered.{plane_numbered}
 use Rattle.hull.specs.Traces.{crossed_at}
 use Rattle.hull.specs.Answers.{traced_answer}
@@ -41,11 +41,11 @@ visits_fit t c = omega arith
 
 mid_is : (t : ℕ) (c : After-child_on t) →
     let x = c.in-Crossing in
-    c.add-mid.result ≡ (Pl.crossing c.in-Value.plane c.args.start c.args.end x.a x.b (Pl.from_dist x.a)).point
+    c.add-mid.result ≡ (Pl.crossing c.in-Ok.plane c.args.start c.args.end x.a x.b (Pl.from_dist x.a)).point
 mid_is t c = c.add-mid.ensures ∙ simp (c.scale.ensures, c.sub.ensures)
 
-plane_here : (t : ℕ) (c : After-child_on t) → plane_numbered c.args.planes.now c.args.count c.in-Crossing.w.plane ≡ answer c.in-Value.plane
-plane_here t c = sym c.plane_by_number.ensures ∙ ap plane_answer c.in-Value.is
+plane_here : (t : ℕ) (c : After-child_on t) → plane_numbered c.args.planes.now c.args.count c.in-Crossing.w.plane ≡ answer c.in-Ok.plane
+plane_here t c = sym c.plane_by_number.ensures ∙ ap answer_of c.in-Ok.is
 
 seen_fits : (t : ℕ) (c : In-Trace t) → c.in-Trace.seen < 2 ^ 64
 seen_fits t c = omega arith
@@ -54,13 +54,13 @@ seen_fits t c = omega arith
 near_is : (t : ℕ) (c : Joined-child_on t) →
     let x = c.in-Crossing in
     let a = c.args in
-    c.add-mid.result ≡ (Pl.crossing c.in-Value.plane a.start a.end x.a x.b (Pl.from_dist x.a)).point → x.n < 2 ^ 64
-    → traced_answer c.match-child_on.near ≡ after x.n (near_part (rows a.planes.now a.count a.table.now) (row_of x.w) a.start a.end x.a x.b x.below c.in-Value.plane)
+    c.add-mid.result ≡ (Pl.crossing c.in-Ok.plane a.start a.end x.a x.b (Pl.from_dist x.a)).point → x.n < 2 ^ 64
+    → traced_answer c.match-child_on.near ≡ after x.n (near_part (rows a.planes.now a.count a.table.now) (row_of x.w) a.start a.end x.a x.b x.below c.in-Ok.plane)
 near_is t c mid small =
     let x = c.in-Crossing in
     let a = c.args in
     let T = rows a.planes.now a.count a.table.now in
-    let h = c.in-Value.plane in
+    let h = c.in-Ok.plane in
     let fr = c.is_front.result in
     let side = c.is_front.ensures ∙ c.point_side.ensures in
     let m = c.child_on.result in
@@ -77,24 +77,24 @@ near_is t c mid small =
 far_is : (t : ℕ) (c : Joined-child_on-2 t) →
     let x = c.in-Crossing in
     let a = c.args in
-    c.add-mid.result ≡ (Pl.crossing c.in-Value.plane a.start a.end x.a x.b (Pl.from_dist x.a)).point → c.in-Trace.seen < 2 ^ 64
-    → traced_answer c.match-child_on-2.far ≡ after c.in-Trace.seen (far_part (rows a.planes.now a.count a.table.now) (row_of x.w) a.start a.end x.a x.b x.below c.in-Value.plane)
+    c.add-mid.result ≡ (Pl.crossing c.in-Ok.plane a.start a.end x.a x.b (Pl.from_dist x.a)).point → c.in-Trace.seen < 2 ^ 64
+    → traced_answer c.match-child_on-2.far ≡ after c.in-Trace.seen (far_part (rows a.planes.now a.count a.table.now) (row_of x.w) a.start a.end x.a x.b x.below c.in-Ok.plane)
 far_is t c mid small =
     let x = c.in-Crossing in
     let a = c.args in
     let T = rows a.planes.now a.count a.table.now in
-    let h = c.in-Value.plane in
+    let h = c.in-Ok.plane in
     let v = c.in-Trace.seen in
-    let fr = c.is_front-in-Value.result in
-    let side = c.is_front-in-Value.ensures ∙ c.point_side-in-Value.ensures in
-    let m = c.child_on-in-Value.result in
+    let fr = c.is_front-in-Ok.result in
+    let side = c.is_front-in-Ok.ensures ∙ c.point_side-in-Ok.ensures in
+    let m = c.child_on-in-Ok.result in
     elim c.match-child_on-2.branch [
       | in-Place-child_on z ↦ ap traced_answer z.far-is
-          ∙ far_node T (row_of x.w) a.start a.end x.a x.b x.below h _ mid v small fr side _ (meets_place a.planes.now a.count a.table.now x.w fr m c.child_on-in-Value.ensures _ z.in-Place-child_on.is)
+          ∙ far_node T (row_of x.w) a.start a.end x.a x.b x.below h _ mid v small fr side _ (meets_place a.planes.now a.count a.table.now x.w fr m c.child_on-in-Ok.ensures _ z.in-Place-child_on.is)
           _ z.trace_from-far.ensures
       | in-Contents-child_on z ↦ ap traced_answer z.far-is
           ∙ far_end T (row_of x.w) a.start a.end x.a x.b x.below h _ mid v small fr side (answer z.in-Contents-child_on.c)
-          (meets_contents a.planes.now a.count a.table.now x.w fr m c.child_on-in-Value.ensures _ z.in-Contents-child_on.is) _ (ap traced_answer z.within_leaf-far.ensures)
+          (meets_contents a.planes.now a.count a.table.now x.w fr m c.child_on-in-Ok.ensures _ z.in-Contents-child_on.is) _ (ap traced_answer z.within_leaf-far.ensures)
     ]
 
 pub trace_from-near-requires : goal.trace_from-near-requires
@@ -106,7 +106,7 @@ returns-in_default t c =
     let x = c.in-Crossing in
     let a = c.args in
     ap traced_answer c.in_default.is
-    ∙ near_declined (rows a.planes.now a.count a.table.now) (row_of x.w) a.start a.end x.a x.b x.below c.in-Value.plane x.n _ _ (says t at.In-Crossing) (plane_here t at.After-child_on)
+    ∙ near_declined (rows a.planes.now a.count a.table.now) (row_of x.w) a.start a.end x.a x.b x.below c.in-Ok.plane x.n _ _ (says t at.In-Crossing) (plane_here t at.After-child_on)
     _ (near_is t at.Joined-child_on (mid_is t at.After-child_on) (visits_fit t at.In-Crossing)) _ (ap traced_answer c.in_default.is)
 
 pub returns-then-stops : goal.returns-then-stops
@@ -115,7 +115,7 @@ returns-then-stops t c =
     let x = c.in-Crossing in
     let a = c.args in
     let mid = mid_is t at.After-child_on in
-    near_stops (rows a.planes.now a.count a.table.now) (row_of x.w) a.start a.end x.a x.b x.below c.in-Value.plane x.n _ _ (says t at.In-Crossing) (plane_here t at.After-child_on)
+    near_stops (rows a.planes.now a.count a.table.now) (row_of x.w) a.start a.end x.a x.b x.below c.in-Ok.plane x.n _ _ (says t at.In-Crossing) (plane_here t at.After-child_on)
     _ (near_is t at.Joined-child_on mid (visits_fit t at.In-Crossing)) _ _ (ap traced_answer c.in-Trace.is) _ mid _ c.stops.ensures c.if-stops.true
 
 pub trace_from-far-requires : goal.trace_from-far-requires
@@ -127,12 +127,12 @@ returns-in-Refused t c = sym (ap (resumed _ _ _ _ _) c.in-Refused.is) ∙ c.desc
 pub returns-in-Leaf : goal.returns-in-Leaf
 returns-in-Leaf t c = ap traced_answer c.within_leaf.ensures ∙ sym (ap (resumed _ _ _ _ _) c.in-Leaf.is) ∙ c.descend.ensures.says
 
-pub returns-in-Refused-plane_by_number : goal.returns-in-Refused-plane_by_number
-returns-in-Refused-plane_by_number t c =
+pub returns-in-Err : goal.returns-in-Err
+returns-in-Err t c =
     let x = c.in-Crossing in
     let a = c.args in
-    no_plane (rows a.planes.now a.count a.table.now) (row_of x.w) a.start a.end x.a x.b x.below (axis_x x.a) x.n _ _ (says t (goal.at.returns-in-Refused-plane_by_number t c).In-Crossing)
-    _ (sym c.plane_by_number.ensures ∙ ap plane_answer c.in-Refused-plane_by_number.is)
+    no_plane (rows a.planes.now a.count a.table.now) (row_of x.w) a.start a.end x.a x.b x.below (axis_x x.a) x.n _ _ (says t (goal.at.returns-in-Err t c).In-Crossing)
+    _ (sym c.plane_by_number.ensures ∙ ap answer_of c.in-Err.is)
 
 pub returns-after-child_on-2 : goal.returns-after-child_on-2
 returns-after-child_on-2 t c =
@@ -140,6 +140,6 @@ returns-after-child_on-2 t c =
     let x = c.in-Crossing in
     let a = c.args in
     let mid = mid_is t at.After-child_on in
-    both (rows a.planes.now a.count a.table.now) (row_of x.w) a.start a.end x.a x.b x.below c.in-Value.plane x.n _ _ (says t at.In-Crossing) (plane_here t at.After-child_on)
+    both (rows a.planes.now a.count a.table.now) (row_of x.w) a.start a.end x.a x.b x.below c.in-Ok.plane x.n _ _ (says t at.In-Crossing) (plane_here t at.After-child_on)
     _ (near_is t at.Joined-child_on mid (visits_fit t at.In-Crossing)) _ _ (ap traced_answer c.in-Trace.is) _ mid _ c.stops.ensures c.if-stops.false
     (traced_answer c.match-child_on-2.far) (far_is t at.Joined-child_on-2 mid (seen_fits t at.In-Trace)) (traced_answer c.join_rest.result) c.join_rest.ensures

@@ -1,23 +1,43 @@
 -- `Trace::join` meets its contract: the tests that led to each `return` say which case of `join` holds.
 -- Assumes nothing.
-use mathlib.Core.Path.{◌≡◌, sym, ◌∙◌}
-use mathlib.Core.Bool.{true, false}
+use mathlib.Core.Path.{◌≡◌, sym, refl, ◌∙◌}
+use mathlib.Core.Bool.{Bool, true, false, not}
+use Rattle.std.specs.Prelude.{ℕ, eqb}
+use borrow.Author.Tests.{ne_eqb, eqb-true, eqb-false}
+use denote.Enum.Bare.{sameb}
 use Rattle.math.specs.Vector as Vec
 use Rattle.format.specs.Answer.{answer, refused}
 use Rattle.format.specs.Contents as Contents
+use Rattle.format.specs.contracts.contents.BspLeafContents.{the_type}
+use Rattle.format.specs.declared.contents.BspLeafContents.{BspLeafContents}
 use Rattle.format.specs.declared.contents.BspLeafContents.TheVariants.{Solid}
-use Rattle.phys.specs.Trace.{join, join_same, trace}
-use Rattle.phys.specs.declared.TraceEndBoundary.{TraceEndBoundary}
-use Rattle.phys.specs.declared.TraceEndKind.TheVariants.{Terminal, Boundary}
+use Rattle.format.proofs.Same.{same_contents}
+use Rattle.phys.specs.Trace.{join, join_same, trace, is_terminal}
 use Rattle.phys.specs.declared.Trace.{Trace}
+use Rattle.phys.proofs.Trace.join.Goals.{then-is_terminal-via-then-is_terminal, then-is_terminal-via-else-is_terminal+then-ne}
 use Rattle.phys.proofs.Trace.join.Goals as goal
 
+-- what a test by `==` or `!=` tells
+told : (a b : BspLeafContents) {r x : Bool} → r ≡ sameb the_type a b → r ≡ x → Contents.equal a b ≡ x
+told a b e t = sym (same_contents a b) ∙ sym e ∙ t
+
+away : (b : Bool) {r : Bool} → r ≡ not b → r ≡ true → b ≡ false
+away true e t = sym t ∙ e
+away false e t = refl
+
+here : (b : Bool) {r : Bool} → r ≡ not b → r ≡ false → b ≡ true
+here true e t = refl
+here false e t = sym t ∙ e
+
+apart_of : (m n k : ℕ) → eqb m n ≡ false → eqb m k ≡ true → eqb n k ≡ false
+apart_of m n k s p = ne_eqb n k (λ e. eqb-false m n s (eqb-true m k p ∙ sym e))
+
 module _ (t u : Trace) where
-  after_terminal : t.end.kind ≡ Terminal → refused 19 ≡ join t u
+  after_terminal : is_terminal t ≡ true → refused 19 ≡ join t u
   unfolding join
   after_terminal k = simp k
 
-  module _ {b : TraceEndBoundary} (k : t.end.kind ≡ Boundary b) where
+  module _ (k : is_terminal t ≡ false) where
     apart : Vec.same t.end.point u.start.point ≡ false → refused 19 ≡ join t u
     unfolding join
     apart e = simp (k, e)
@@ -28,41 +48,32 @@ module _ (t u : Trace) where
       one_medium s = simp (k, e, s)
 
       module _ (s : Contents.equal t.contents u.contents ≡ false) where
-        out_of_solid : Contents.equal t.contents Solid ≡ true → Contents.equal u.contents Solid ≡ false → answer (trace t.start u.end u.contents true) ≡ join t u
-        unfolding join
-        out_of_solid p q = simp (k, e, s, p, q)
+        -- two media are not both solid
+        not_both : (a b : BspLeafContents) → Contents.equal a b ≡ false → Contents.equal a Solid ≡ true → Contents.equal b Solid ≡ false
+        unfolding Contents.equal
+        not_both a b s p = apart_of (Contents.code_of a) (Contents.code_of b) 2 s p
 
-        both_solid : Contents.equal t.contents Solid ≡ true → Contents.equal u.contents Solid ≡ true → answer t ≡ join t u
+        out_of_solid : Contents.equal t.contents Solid ≡ true → answer (trace t.start u.end u.contents true) ≡ join t u
         unfolding join
-        both_solid p q = simp (k, e, s, p, q)
+        out_of_solid p = simp (k, e, s, p, not_both t.contents u.contents s p)
 
         stopped : Contents.equal t.contents Solid ≡ false → answer t ≡ join t u
         unfolding join
         stopped p = simp (k, e, s, p)
 
-pub returns-in_default : goal.returns-in_default
-returns-in_default c = after_terminal _ _ c.in_default.is
+pub returns-then-is_terminal : goal.returns-then-is_terminal
+returns-then-is_terminal c = elim c.then-is_terminal.branch [
+  | then-is_terminal-via-then-is_terminal w ↦ after_terminal _ _ (sym c.is_terminal.ensures ∙ w.if-is_terminal.true)
+  | then-is_terminal-via-else-is_terminal+then-ne w ↦ apart _ _ (sym c.is_terminal.ensures ∙ w.if-is_terminal.false) (away _ w.ne.ensures w.if-ne.true)
+]
 
-pub returns-then-not-equals : goal.returns-then-not-equals
-returns-then-not-equals c = apart _ _ c.in-Boundary.is (sym c.equals.ensures ∙ c.if-not-equals.true)
+pub returns-then-eq : goal.returns-then-eq
+returns-then-eq c = one_medium _ _ (sym c.is_terminal.ensures ∙ c.if-is_terminal.false) (here _ c.ne.ensures c.if-ne.false) (told _ _ c.eq.ensures c.if-eq.true)
 
-pub returns-then-equals : goal.returns-then-equals
-returns-then-equals c = one_medium _ _ c.in-Boundary.is (sym c.equals.ensures ∙ c.if-not-equals.false)
-    (sym c.equals-2.ensures ∙ c.if-equals.true)
+pub returns-then-eq-2 : goal.returns-then-eq-2
+returns-then-eq-2 c = out_of_solid _ _ (sym c.is_terminal.ensures ∙ c.if-is_terminal.false) (here _ c.ne.ensures c.if-ne.false) (told _ _ c.eq.ensures c.if-eq.false)
+    (told _ _ c.eq-2.ensures c.if-eq-2.true)
 
-pub returns-then-not-equals-2 : goal.returns-then-not-equals-2
-returns-then-not-equals-2 c = out_of_solid _ _ c.in-Boundary.is (sym c.equals.ensures ∙ c.if-not-equals.false)
-    (sym c.equals-2.ensures ∙ c.if-equals.false)
-    (sym c.equals-3.ensures ∙ c.if-equals-2.true)
-    (sym c.equals-then-equals-2.ensures ∙ c.if-not-equals-2.true)
-
-pub returns-else-not-equals-2 : goal.returns-else-not-equals-2
-returns-else-not-equals-2 c = both_solid _ _ c.in-Boundary.is (sym c.equals.ensures ∙ c.if-not-equals.false)
-    (sym c.equals-2.ensures ∙ c.if-equals.false)
-    (sym c.equals-3.ensures ∙ c.if-equals-2.true)
-    (sym c.equals-then-equals-2.ensures ∙ c.if-not-equals-2.false)
-
-pub returns-else-equals-2 : goal.returns-else-equals-2
-returns-else-equals-2 c = stopped _ _ c.in-Boundary.is (sym c.equals.ensures ∙ c.if-not-equals.false)
-    (sym c.equals-2.ensures ∙ c.if-equals.false)
-    (sym c.equals-3.ensures ∙ c.if-equals-2.false)
+pub returns : goal.returns
+returns c = stopped _ _ (sym c.is_terminal.ensures ∙ c.if-is_terminal.false) (here _ c.ne.ensures c.if-ne.false) (told _ _ c.eq.ensures c.if-eq.false)
+    (told _ _ c.eq-2.ensures c.if-eq-2.false)

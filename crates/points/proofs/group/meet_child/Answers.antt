@@ -16,8 +16,8 @@ returns-in-End c = end_any _ _ _ _ _ c.in-End.is _ c.end_byte.ensures
 pub returns-in-Refused : goal.returns-in-Refused
 returns-in-Refused c = not_read _ _ _ _ _ c.in-Node.is (omega arith) c.if-nodes-node.false _ c.read_words.ensures _ c.in-Refused.is
 
-pub returns-in-Refused-plane_at : goal.returns-in-Refused-plane_at
-returns-in-Refused-plane_at c = no_plane _ _ _ _ _ c.in-Node.is (omega arith) c.if-nodes-node.false _ c.read_words.ensures _ c.in-Words.is _ c.plane_at.ensures _ c.in-Refused-plane_at.is
+pub returns-in-Err : goal.returns-in-Err
+returns-in-Err c = no_plane _ _ _ _ _ c.in-Node.is (omega arith) c.if-nodes-node.false _ c.read_words.ensures _ c.in-Words.is _ c.plane_at.ensures _ c.in-Err.is
 
-pub returns-in-Value : goal.returns-in-Value
-returns-in-Value c = is_node _ _ _ _ _ c.in-Node.is (omega arith) c.if-nodes-node.false _ c.read_words.ensures _ c.in-Words.is _ c.plane_at.ensures _ c.in-Value.is
+pub returns-in-Ok : goal.returns-in-Ok
+returns-in-Ok c = is_node _ _ _ _ _ c.in-Node.is (omega arith) c.if-nodes-node.false _ c.read_words.ensures _ c.in-Words.is _ c.plane_at.ensures _ c.in-Ok.is

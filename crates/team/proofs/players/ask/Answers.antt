@@ -12,9 +12,9 @@ returns-in_default c = let s = c.args in
 pub returns-then-number-eq22 : goal.returns-then-number-eq22
 returns-then-number-eq22 c = let s = c.args in
     told_short (pvs_of s.file.now s.map s.leaf s.leaf_count) (0 ∷ []) _ _ (sym c.number.ensures ∙ c.if-number-eq22.true) (pvs_not22 s.file.now s.map s.leaf s.leaf_count)
-    (rw c.in-Refused.is at c.get_pvs-told.ensures)
+    (rw c.in-Err.is at c.get_pvs-told.ensures)
 
 pub returns : goal.returns
 returns c = let s = c.args in
     told_refused (pvs_of s.file.now s.map s.leaf s.leaf_count) (0 ∷ []) _ _ (λ e. c.if-number-eq22.false (c.number.ensures ∙ e))
-    (rw c.in-Refused.is at c.get_pvs-told.ensures)
+    (rw c.in-Err.is at c.get_pvs-told.ensures)

@@ -1,29 +1,18 @@
--- `textures::section::read_list` meets its contract: what is left to read is all that there is to read
+-- `texture_list::section::read_list` meets its contract: what is left to read is all that there is to read.
 -- Assumes nothing.
-use mathlib.Core.Path.{refl, sym, ◌∙◌}
-use native.Mathlib.Omega.{arith}
-use Rattle.format.proofs.Fields.{found}
-use Rattle.sections.specs.Answers.{position_step}
-use Rattle.texture_list.proofs.Walk.{list_done, list_more, list_stop_lem}
+use Rattle.std.specs.Prelude.{◌≡◌, ◌-◌}
+use Rattle.std.proofs.Common.{arith, sym, ◌∙◌}
+use Rattle.sections.proofs.Chain.{position_no}
+use Rattle.texture_list.specs.List.{listed}
+use Rattle.texture_list.proofs.Walk.{next_listed}
 use Rattle.texture_list.proofs.section.read_list.Goals as goal
 
-pub loop-left-init : goal.loop-left-init
-loop-left-init c = (refl, refl)
+pub loop-i-preserved : goal.loop-i-preserved
+loop-i-preserved c = rw (sym c.in_ok-end.ensures) at (sym (next_listed c.args.s.now _ _ c.loop-i-test.true _ _ _) ∙ c.loop-i.invariant)
 
-pub returns-in-Refused : goal.returns-in-Refused
-returns-in-Refused c = list_stop_lem _ _ _ _ _ _ (omega arith) (found position_step c.read_listed.ensures c.in-Refused.is) ∙ c.loop-left.invariant.0
-
-pub overflow_add-p : goal.overflow_add-p
-overflow_add-p c = omega (arith, c.loop-left.invariant.1)
-
-pub overflow_sub-left : goal.overflow_sub-left
-overflow_sub-left c = omega arith
-
-pub loop-left-smaller : goal.loop-left-smaller
-loop-left-smaller c = omega arith
-
-pub loop-left-preserved : goal.loop-left-preserved
-loop-left-preserved c = (sym (list_more _ _ _ _ _ _ (omega arith) (found position_step c.read_listed.ensures c.in-At.is)) ∙ c.loop-left.invariant.0, omega (arith, c.loop-left.invariant.1))
+pub returns-in_err-end : goal.returns-in_err-end
+returns-in_err-end c = rw (← c.loop-i.invariant, next_listed _ _ _ c.loop-i-test.true) (position_no _ _ _ _ c.in_err-end.ensures c.from_residual.ensures.1)
 
 pub returns : goal.returns
-returns c = list_done _ _ _ _ _ (omega arith) ∙ c.loop-left.invariant.0
+unfolding listed
+returns c = let z : c.args.count - c.loop-i.i ≡ 0 = omega arith in rw z at c.loop-i.invariant

@@ -1,6 +1,0 @@
--- `place::read::past_file_face` meets its contract. Assumes nothing.
-use Rattle.place.specs.Part.{record_at}
-use Rattle.place.proofs.read.past_file_face.Goals as goal
-
-pub returns : goal.returns
-returns c = unfold record_at in rw (← c.record_count-infos.ensures, ← c.record_count-planes.ensures) c.past_face.ensures

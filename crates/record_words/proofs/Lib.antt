@@ -1,2 +1,0 @@
--- What the proofs of `record_words` share.
-pub mod Rows
