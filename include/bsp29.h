@@ -18,7 +18,7 @@
  * with the map record of a file that was loaded), bsp_accept 296,000, bsp_contents_box 263,000,
  * bsp_tree_check, bsp_hull_check and bsp_order 132,000.
  * bsp_load, bsp_load_place, bsp_texture_frame and bsp_texture_static need up to 543,000 bytes,
- * bsp_texture_numbers 966,000 and bsp_record 470,000, of a texture info 1,011,000, whatever the nodes. The
+ * bsp_texture_numbers 966,000 and bsp_record 668,000, whatever the nodes. The
  * other calls have no such depth.
  *
  * A list is two parameters: a pointer to its first entry and the number of its entries.
