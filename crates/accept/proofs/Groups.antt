@@ -6,18 +6,22 @@ use mathlib.Core.List.{List, [], ◌∷◌, ◌++◌}
 use native.Mathlib.Decide.{ℕ_discrete}
 use native.Mathlib.Numerals.{add-one}
 use native.Mathlib.Omega.{arith}
-use borrow.Author.Tests.{eq-eqb, ne_eqb, lt-ltb, le-ltb, ltb-true, ltb-false, le-leb, lt-leb, leb-true}
-use lib.Dec.{ltb}
+use borrow.Author.Tests.{lt-ltb, le-ltb, ltb-true, ltb-false, leb-true}
+use lib.Dec.{ltb, eqb, leb}
 use lib.ListN.{length, take, drop, get_or, set, replicate, length-take, length-set, drop_of_length-le, get_or-eq_default}
 use lib.Seq.{drop-cons, get_or-set_same, get_or-set_other}
+use Rattle.std.proofs.Common.{Ok, Err}
+use Rattle.std.specs.Prelude.{Result}
+use Rattle.std.specs.Borrow.{Bor}
 use Rattle.format.specs.Answer.{Answer, answer, refused}
+use Rattle.format.specs.declared.refusal.Refusal.{Refusal}
 use Rattle.format.specs.Section.{within_limit}
 use Rattle.format.specs.declared.section.BspFileSection.{BspFileSection}
 use Rattle.format.specs.declared.section.BspFileSectionId.TheVariants.{Visibility}
 use Rattle.vis.specs.Row.{bits, before, in_byte, row_bits, row_at}
 use Rattle.vis.specs.Pvs.{visibility_of}
 use Rattle.accept.specs.Accept.{passes, whole_row}
-use Rattle.accept.specs.Fast.{groups, groups_by, note_of, with_note, NotedFrom, Noted, Notes, SectionNoted}
+use Rattle.accept.specs.Fast.{groups, groups_by, note_of, with_note, NotedFrom, Noted, Notes, bytes_of, RowsNoted}
 
 -- ---- a row
 
@@ -82,14 +86,6 @@ module _ (v : List ℕ) (at : ℕ) where
   pub one : at < length v → (get_or v at 0 ≡ 0 → ⊥) → groups (drop at v) ≡ 1 + groups (drop (at + 1) v)
   one h f = rw (drop-cons v at 0 h, add-one) (literal (get_or v at 0) (drop (suc at) v) f)
 
--- the groups of a position by its byte, the next one, and the groups of the next two positions
-pub by_byte : (b count next after : ℕ) → (b ≡ 0 → ⊥) → next + 1 ≡ groups_by b count next after
-by_byte zero count next after f = absurd (f refl)
-by_byte (suc b) count next after f = refl
-
-pub by_zero : (b count next after : ℕ) → b ≡ 0 → after + count ≡ groups_by b count next after
-by_zero b count next after e = rw e
-
 few_by : (b count next after n : ℕ) → next ≤ n → after ≤ n → count < 256 → groups_by b count next after ≤ n + 256
 few_by zero count next after n p q h = omega arith
 few_by (suc b) count next after n p q h = omega arith
@@ -153,14 +149,6 @@ put v notes at n l h e f k low in-v first = by (ℕ_discrete k at)
         other true t = let u : at % 64 < 2 = ltb-true (at % 64) 2 t in later true (λ q. d (omega arith)) (f k (omega arith) in-v first)
         other false t = f k (omega arith) in-v first
 
-pub skips : (at n : ℕ) (notes : List ℕ) → 2 ≤ at % 64 → notes ≡ with_note at n notes
-unfolding with_note
-skips at n notes h = rw (le-ltb (at % 64) 2 h)
-
-pub puts : (at n : ℕ) (notes : List ℕ) → at % 64 < 2 → set notes (note_of at) n ≡ with_note at n notes
-unfolding with_note
-puts at n notes h = rw (lt-ltb (at % 64) 2 h)
-
 as_long : (at n : ℕ) (notes : List ℕ) → length (with_note at n notes) ≡ length notes
 unfolding with_note
 as_long at n notes = by (ltb (at % 64) 2)
@@ -221,37 +209,29 @@ module _ (v notes : List ℕ) (at count next after : ℕ) where
 
 -- ---- the notes of the section
 
-module _ (s notes : List ℕ) (z : BspFileSection) where
-  as_section : (w : List ℕ) → visibility_of s z ≡ answer w → Noted w notes → SectionNoted s z notes
-  as_section w e f = record { of_data = λ v q. let p : w ≡ v = cc in rw (← p) f }
+-- a section that can be read is small
+pub few_bytes : (s : List ℕ) (z : BspFileSection) (v : List ℕ) → visibility_of s z ≡ answer v → length v ≤ 1048576
+unfolding visibility_of
+few_bytes s z v e = by (eqb z.size 0) (within_limit Visibility z.size) (leb (z.offset + z.size) (length s)) refl e
+  where
+    by : (a b c : Bool) → within_limit Visibility z.size ≡ b → cond a (answer []) (cond b (cond c (answer (take z.size (drop z.offset s))) (refused 23)) (refused 23)) ≡ answer v → length v ≤ 1048576
+    by true b c h e = let q : [] ≡ v = cc in rw (← q) (omega arith)
+    by false true true h e = let q : take z.size (drop z.offset s) ≡ v = cc in rw (← q) (omega (arith, length-take z.size (drop z.offset s), leb-true z.size 1048576 h))
+    by false true false h e = let q : ◌≡◌ {A = ℕ} 0 1 = cc in absurd (omega arith)
+    by false false c h e = let q : ◌≡◌ {A = ℕ} 0 1 = cc in absurd (omega arith)
 
-  unread_section : (n : ℕ) → visibility_of s z ≡ refused n → SectionNoted s z notes
-  unread_section n e = record { of_data = λ v q. let p : ◌≡◌ {A = ℕ} 0 1 = cc in absurd (omega arith) }
+-- the notes of the bytes that were read are those of the section, and one that cannot be read has none
+module _ (s : List ℕ) (z : BspFileSection) (bytes : Result (Bor (List ℕ)) Refusal) (read : bytes_of bytes ≡ visibility_of s z) (notes : List ℕ) where
+  pub rows_noted : (b : Bor (List ℕ)) → bytes ≡ Ok b → Noted b.now notes → RowsNoted s z bytes notes
+  rows_noted b q f = record {
+    read = read;
+    of_data = λ v e.
+        let p : b.now ≡ v = cc in
+        record { small = few_bytes s z v e; noted = rw (← p) f };
+  }
 
-  pub no_notes : z.size ≡ 0 → SectionNoted s z notes
-  unfolding visibility_of
-  no_notes e = as_section [] (rw (eq-eqb z.size 0 e)) (λ at low h t. absurd (omega arith))
-
-  module _ (some : z.size ≡ 0 → ⊥) where
-    pub too_large : within_limit Visibility z.size ≡ false → SectionNoted s z notes
-    unfolding visibility_of
-    too_large e = unread_section 23 (rw (ne_eqb z.size 0 some, e))
-
-    module _ (limited : within_limit Visibility z.size ≡ true) where
-      pub past_end : length s < z.offset + z.size → SectionNoted s z notes
-      unfolding visibility_of
-      past_end h = unread_section 23 (rw (ne_eqb z.size 0 some, limited, lt-leb (z.offset + z.size) (length s) h))
-
-      -- the bytes of the section
-      pub part : z.offset + z.size ≤ length s → visibility_of s z ≡ answer (take z.size (drop z.offset s))
-      unfolding visibility_of
-      part h = rw (ne_eqb z.size 0 some, limited, le-leb (z.offset + z.size) (length s) h)
-
-      pub part_noted : z.offset + z.size ≤ length s → Noted (take z.size (drop z.offset s)) notes → SectionNoted s z notes
-      part_noted h f = as_section (take z.size (drop z.offset s)) (part h) f
-
-      pub section_notes : z.offset + z.size ≤ length s → SectionNoted s z notes → Notes (take z.size (drop z.offset s)) notes
-      section_notes h f = record {
-        small = omega (arith, length-take z.size (drop z.offset s), leb-true z.size 1048576 limited);
-        noted = f.of_data (take z.size (drop z.offset s)) (part h);
-      }
+  pub none_noted : (e : Refusal) → bytes ≡ Err e → RowsNoted s z bytes notes
+  none_noted e q = record {
+    read = read;
+    of_data = λ v f. let z : ◌≡◌ {A = ℕ} 0 1 = cc in absurd (omega arith);
+  }

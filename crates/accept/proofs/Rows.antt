@@ -3,20 +3,21 @@ use Rattle.std.specs.Prelude.{Some, None}
 use Prim.Native.Nat.{ℕ, ◌+◌, ◌*◌, ◌<◌}
 use mathlib.Core.Path.{◌≡◌, refl, sym, ap, ◌∙◌}
 use mathlib.Core.Bool.{Bool, true, false, cond}
-use mathlib.Core.List.{List}
+use mathlib.Core.List.{List, []}
 use native.Mathlib.Omega.{arith}
 use lib.Dec.{eqb, leb}
-use lib.ListN.{length}
-use Rattle.format.specs.Answer.{Answer, answer, refused}
+use lib.ListN.{length, take, drop}
+use Rattle.format.specs.Answer.{Answer, answer, refused, then_answer}
 use Rattle.format.specs.Step.{Step}
 use Rattle.format.specs.Section.{record_count, within_limit, element_size, place}
 use Rattle.format.specs.declared.section.BspData.{BspData}
 use Rattle.format.specs.declared.section.BspFileSection.{BspFileSection}
-use Rattle.format.specs.declared.section.BspFileSectionId.TheVariants.{Leaves}
+use Rattle.format.specs.declared.section.BspFileSectionId.TheVariants.{Leaves, Visibility}
 use Rattle.records.specs.Access.{reading, read_at, record_of}
 use Rattle.records.specs.Leaf.{leaf_at, leaf_of}
 use Rattle.records.specs.declared.leaf.BspLeaf.{BspLeaf}
-use Rattle.vis.specs.Pvs.{section_row, pvs_of}
+use Rattle.vis.specs.Row.{row_at}
+use Rattle.vis.specs.Pvs.{visibility_of, section_row, pvs_of}
 use Rattle.vis.proofs.Sections.{no_leaf, no_offset, at_offset}
 use Rattle.accept.specs.Accept.{Check, passes, whole_row, row_check}
 
@@ -50,6 +51,23 @@ other_leaf s m i = other_read_at (place Leaves m.leaves (length s) i) (λ p. lea
 as_it_is : {A : Type 0} (x : Answer A) (n : ℕ) → x ≡ refused n → Other x → refused n ≡ whole_row (refused n)
 as_it_is (answer a) n e p = let z : ◌≡◌ {A = ℕ} 0 1 = cc in absurd (omega arith)
 as_it_is (refused k) n e p = let z : k ≡ n = cc in rw (← z, p)
+
+-- the row in the section, where the section can be read and where it cannot
+module _ (s : List ℕ) (z : BspFileSection) (offset k : ℕ) where
+  pub read_row : (v : List ℕ) {a : Check} → answer v ≡ visibility_of s z → a ≡ whole_row (row_at v offset k) → a ≡ whole_row (section_row s z offset k)
+  unfolding section_row
+  read_row v e q = rw (← e) q
+
+  pub unread_row : (n : ℕ) → refused n ≡ visibility_of s z → refused n ≡ whole_row (section_row s z offset k)
+  unfolding section_row visibility_of
+  unread_row n e = by (eqb z.size 0) (within_limit Visibility z.size) (leb (z.offset + z.size) (length s)) [] (take z.size (drop z.offset s)) e
+    where
+      by : (a b c : Bool) (x y : List ℕ) → refused n ≡ cond a (answer x) (cond b (cond c (answer y) (refused 23)) (refused 23))
+          → refused n ≡ whole_row (then_answer (cond a (answer x) (cond b (cond c (answer y) (refused 23)) (refused 23))) (λ v. row_at v offset k))
+      by true b c x y e = let q : ◌≡◌ {A = ℕ} 0 1 = cc in absurd (omega arith)
+      by false true true x y e = let q : ◌≡◌ {A = ℕ} 0 1 = cc in absurd (omega arith)
+      by false true false x y e = let q : n ≡ 23 = cc in rw q
+      by false false c x y e = let q : n ≡ 23 = cc in rw q
 
 module _ (s : List ℕ) (m : BspData) (leaf : ℕ) (h : 0 < leaf) where
   not_0 : leaf ≡ 0 → ⊥

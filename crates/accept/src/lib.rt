@@ -2,10 +2,10 @@
 #![tactic(auto)]
 
 ghost use Rattle.std.specs.Prelude.{◌≡◌, length, replicate};
+ghost use Rattle.format.specs.Answers.{answer_of};
 ghost use Rattle.accept.specs.Accept as Acc;
-ghost use Rattle.accept.specs.Answers.{acceptance_answer};
 
-use format::refusal::Refusal;
+use format::refusal::{Answer, Refusal};
 use format::section::{BspData, BspFileSectionId};
 use tree::clear;
 
@@ -14,13 +14,8 @@ mod references;
 mod row;
 mod trees;
 
-#[derive(Clone, Copy)]
-pub enum Acceptance {
-    Passed,
-    Refused(Refusal),
-}
-
 // One mark for each node of the larger node table.
+#[tactic(auto, unfolding(crate::specs::Accept::marks_for))]
 fn marks_for(map: BspData) -> u32
     ensures { result ≡ Acc.marks_for map }
 {
@@ -28,25 +23,23 @@ fn marks_for(map: BspData) -> u32
     let clip = map
         .collision_nodes
         .record_count(BspFileSectionId::CollisionNodes);
-    if render < clip { clip } else { render }
+    render.max(clip)
 }
 
 // All checks, in their order.
-fn check_map(file: &[u8], map: BspData, marks: &mut [u8]) -> Acceptance
+#[tactic(auto, unfolding(crate::specs::Accept::accept_of))]
+fn check_map(file: &[u8], map: BspData, marks: &mut [u8]) -> Answer<()>
     requires { length marks.old ≡ Acc.marks_for map }
-    ensures { acceptance_answer result ≡ Acc.accept_of file.now map }
+    ensures { answer_of result ≡ Acc.accept_of file.now map }
 {
-    let r = references::check_references(file, map);
-    let Acceptance::Passed = r else {
-        return r;
-    };
+    references::check_references(file, map)?;
     trees::check_trees(file, map, marks)
 }
 
 // The same with exactly the marks that are asked for, which are zero afterwards.
-fn accept_marked(file: &[u8], map: BspData, marks: &mut [u8]) -> Acceptance
+fn accept_marked(file: &[u8], map: BspData, marks: &mut [u8]) -> Answer<()>
     requires { length marks.old ≡ Acc.marks_for map }
-    ensures { Acc.judged (acceptance_answer result) marks.new ≡ Acc.judged (Acc.accept_of file.now map) (replicate (Acc.marks_for map) 0) }
+    ensures { Acc.judged (answer_of result) marks.new ≡ Acc.judged (Acc.accept_of file.now map) (replicate (Acc.marks_for map) 0) }
 {
     let r = check_map(file, map, marks);
     clear(marks);
@@ -55,12 +48,12 @@ fn accept_marked(file: &[u8], map: BspData, marks: &mut [u8]) -> Acceptance
 
 // Whether the map passes, with one lent mark for each node of the larger node table (else 22 first of all, and the marks stay as they
 // were). Whatever the marks hold before, the first ones are zero afterwards, refused or not; later ones are kept.
-pub fn accept(file: &[u8], map: BspData, marks: &mut [u8]) -> Acceptance
-    ensures { Acc.judged (acceptance_answer result) marks.new ≡ Acc.accept file.now map marks.old }
+pub fn accept(file: &[u8], map: BspData, marks: &mut [u8]) -> Answer<()>
+    ensures { Acc.judged (answer_of result) marks.new ≡ Acc.accept file.now map marks.old }
 {
     let count = marks_for(map) as usize;
     if marks.len() < count {
-        return Acceptance::Refused(Refusal::ListTooShort);
+        return Err(Refusal::ListTooShort);
     }
     accept_marked(file, map, &mut marks[..count])
 }

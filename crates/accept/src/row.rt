@@ -5,13 +5,13 @@ ghost use Rattle.std.specs.Prelude.{◌≡◌, ◌-◌, ◌%◌, ◌^◌, ◌<�
 ghost use Rattle.format.specs.Section.{record_count};
 ghost use Rattle.format.specs.declared.section.BspFileSectionId.TheVariants as Id;
 ghost use Rattle.vis.specs.Row.{row_at};
-ghost use Rattle.vis.specs.Pvs.{section_row};
+ghost use Rattle.vis.specs.Pvs.{visibility_of};
+ghost use Rattle.format.specs.Answers.{answer_of};
 ghost use Rattle.accept.specs.Accept as Acc;
-ghost use Rattle.accept.specs.Answers.{acceptance_answer};
 ghost use Rattle.accept.specs.Fast as Fast;
 
-use crate::Acceptance;
-use format::refusal::Refusal;
+use crate::check::check_each;
+use format::refusal::{Answer, Refusal};
 use format::section::{BspData, BspFileSection, BspFileSectionId};
 use records::leaf::leaf;
 
@@ -29,14 +29,14 @@ fn groups_at(byte: u8, count: u8, next: u32, after: u32) -> u32
 }
 
 // A position's groups, where they are noted.
+#[tactic(auto, unfolding(crate::specs::Fast::with_note))]
 fn note(notes: &mut [u32; 32768], at: usize, groups: u32)
     requires { at < 1048576 }
     ensures { notes.new ≡ Fast.with_note at groups notes.old }
 {
-    if 2 <= at % 64 {
-        return;
+    if at % 64 < 2 {
+        notes[at / 64 * 2 + at % 64] = groups;
     }
-    notes[at / 64 * 2 + at % 64] = groups;
 }
 
 // A position's note.
@@ -52,12 +52,10 @@ fn note_groups(visibility: &[u8], notes: &mut [u32; 32768])
     requires { (length visibility.now ≤ 1048576) × (length notes.old ≡ 32768) }
     ensures { Fast.Noted visibility.now notes.new }
 {
-    let mut at = visibility.len();
     let mut count = 0;
     let mut next = 0;
     let mut after = 0;
-    while 0 < at {
-        at -= 1;
+    for at in (0..visibility.len()).rev() {
         let byte = visibility[at];
         let groups = groups_at(byte, count, next, after);
         note(notes, at, groups);
@@ -67,25 +65,7 @@ fn note_groups(visibility: &[u8], notes: &mut [u32; 32768])
     }
 }
 
-// The notes of the visibility section. One that cannot be read has none.
-fn note_section(file: &[u8], section: BspFileSection, notes: &mut [u32; 32768])
-    requires { length notes.old ≡ 32768 }
-    ensures { Fast.SectionNoted file.now section notes.new }
-{
-    let size = section.size;
-    if size == 0 {
-        return;
-    }
-    if BspFileSectionId::Visibility.within_limit(size) {
-        let start = section.offset as usize;
-        let end = start + (size as usize);
-        if end <= file.len() {
-            note_groups(&file[start..end], notes);
-        }
-    }
-}
-
-// The groups from an offset to the end: those up to the next note, and the note's.
+// The groups from an offset to the end: those up to the next note, and the note's. A step is one position or two, so that it is no `for`.
 fn groups_from(visibility: &[u8], notes: &[u32; 32768], offset: usize) -> usize
     requires { Fast.Notes visibility.now notes.now }
     ensures { result ≡ Fast.groups (drop offset visibility.now) }
@@ -112,77 +92,67 @@ fn groups_from(visibility: &[u8], notes: &[u32; 32768], offset: usize) -> usize
 }
 
 // The row at an offset of the visibility data: all leaves but leaf 0, in groups of eight.
-fn check_offset(visibility: &[u8], notes: &[u32; 32768], offset: usize, leaves: u32) -> Acceptance
+#[tactic(auto, using(crate::proofs::Groups::past, crate::proofs::Groups::too_few, crate::proofs::Groups::all_there))]
+fn check_offset(visibility: &[u8], notes: &[u32; 32768], offset: usize, leaves: u32) -> Answer<()>
     requires { Fast.Notes visibility.now notes.now }
-    ensures { acceptance_answer result ≡ Acc.whole_row (row_at visibility.now offset leaves) }
+    ensures { answer_of result ≡ Acc.whole_row (row_at visibility.now offset leaves) }
 {
     if visibility.len() < offset {
-        return Acceptance::Refused(Refusal::NotAcceptable);
+        return Err(Refusal::NotAcceptable);
     }
     let groups = groups_from(visibility, notes, offset);
     if groups < ((leaves as usize) + 6) / 8 {
-        return Acceptance::Refused(Refusal::NotAcceptable);
+        return Err(Refusal::NotAcceptable);
     }
-    Acceptance::Passed
+    Ok(())
 }
 
-// The row at an offset of the visibility section.
-fn check_section_row(
+// The visibility row of a leaf, with the count of all leaves. The bytes come as they were answered: a refusal of theirs counts only where a leaf
+// has a row.
+fn check_row(
     file: &[u8],
-    section: BspFileSection,
+    map: BspData,
+    visibility: Answer<&[u8]>,
     notes: &[u32; 32768],
-    offset: usize,
-    leaves: u32,
-) -> Acceptance
-    requires { Fast.SectionNoted file.now section notes.now }
-    ensures { acceptance_answer result ≡ Acc.whole_row (section_row file.now section offset leaves) }
-{
-    let size = section.size;
-    if size == 0 {
-        return check_offset(&file[..0], notes, offset, leaves);
-    }
-    if BspFileSectionId::Visibility.within_limit(size) {
-        let start = section.offset as usize;
-        let end = start + (size as usize);
-        if end <= file.len() {
-            return check_offset(&file[start..end], notes, offset, leaves);
-        }
-    }
-    Acceptance::Refused(Refusal::Unreadable)
-}
-
-// The visibility row of a leaf, with the count of all leaves.
-fn check_row(file: &[u8], map: BspData, notes: &[u32; 32768], index: usize) -> Acceptance
-    requires { (0 < index) × Fast.SectionNoted file.now map.visibility notes.now }
-    ensures { acceptance_answer result ≡ Acc.row_check file.now map index }
+    index: usize,
+) -> Answer<()>
+    requires { (0 < index) × Fast.RowsNoted file.now map.visibility visibility notes.now }
+    ensures { answer_of result ≡ Acc.row_check file.now map index }
 {
     let count = map.leaves.record_count(BspFileSectionId::Leaves);
-    match leaf(file, map, index) {
-        Err(e) => Acceptance::Refused(e),
-        Ok(record) => {
-            let vis_offset = record.vis_offset;
-            match vis_offset {
-                None => Acceptance::Passed,
-                Some(offset) => check_section_row(file, map.visibility, notes, offset, count),
-            }
+    match leaf(file, map, index)?.vis_offset {
+        None => Ok(()),
+        Some(offset) => check_offset(visibility?, notes, offset, count),
+    }
+}
+
+// The bytes of the visibility section.
+#[tactic(auto, unfolding(vis::specs::Pvs::visibility_of))]
+fn visibility_of(file: &[u8], section: BspFileSection) -> Answer<&[u8]>
+    ensures { Fast.bytes_of result ≡ visibility_of file.now section }
+{
+    if section.size == 0 {
+        return Ok(&file[..0]);
+    }
+    if BspFileSectionId::Visibility.within_limit(section.size) {
+        let start = section.offset as usize;
+        let end = start + (section.size as usize);
+        if end <= file.len() {
+            return Ok(&file[start..end]);
         }
     }
+    Err(Refusal::Unreadable)
 }
 
 // The rows of all leaves but leaf 0.
-pub fn check_rows(file: &[u8], map: BspData) -> Acceptance
-    ensures { acceptance_answer result ≡ Acc.each (Acc.row_check file.now map) (record_count Id.Leaves map.leaves - 1) 1 }
+pub fn check_rows(file: &[u8], map: BspData) -> Answer<()>
+    ensures { answer_of result ≡ Acc.each (Acc.row_check file.now map) (record_count Id.Leaves map.leaves - 1) 1 }
 {
     let count = map.leaves.record_count(BspFileSectionId::Leaves) as usize;
+    let visibility = visibility_of(file, map.visibility);
     let mut notes = [0u32; 32768];
-    note_section(file, map.visibility, &mut notes);
-    let mut i = 1;
-    while i < count {
-        let r = check_row(file, map, &notes, i);
-        let Acceptance::Passed = r else {
-            return r;
-        };
-        i += 1;
+    if let Ok(bytes) = visibility {
+        note_groups(bytes, &mut notes);
     }
-    Acceptance::Passed
+    check_each(1, count, |i| check_row(file, map, visibility, &notes, i))
 }

@@ -10,8 +10,10 @@ use lib.Ieee as Ieee
 use lib.Ieee.{Float}
 use lib.ListN.{length, set, length-set}
 use Rattle.format.proofs.Answers.{mapped_answer, mapped_refused}
+use Rattle.std.specs.Prelude.{Result}
+use Rattle.std.proofs.Common.{Ok, Err}
 use Rattle.format.specs.Answer as Ans
-use Rattle.format.specs.Answer.{Answer, answer, mapped}
+use Rattle.format.specs.Answer.{Answer, answer}
 use Rattle.format.specs.Refusal.{number_of}
 use Rattle.format.specs.declared.refusal.Refusal.{Refusal}
 use Rattle.format.specs.declared.contents.BspLeafContents.{BspLeafContents}
@@ -28,22 +30,16 @@ use Rattle.walk.specs.Walk.{Outcome, entered, held, Entered, enter, ended, onto}
 use Rattle.walk.specs.Tracing.{across, trace_at, recursive_trace}
 use Rattle.walk.proofs.Steps.{trace_outside, trace_spent, trace_unread}
 use Rattle.nodes.specs.Tables.{End}
-use Rattle.nodes.specs.Fast.{words_answer, node_of, plane_in, two_dists, dists_answer, dists_from, contents_met, word_on}
+use Rattle.nodes.specs.Fast.{node_of, onto_word, onto_child, plane_in, two_dists, contents_met, word_on}
 use Rattle.nodes.specs.Fast as Fast
 use Rattle.nodes.specs.declared.table.Tables.{Tables}
+use Rattle.nodes.specs.declared.read.Onto.{Onto}
+use Rattle.nodes.specs.declared.read.Onto.TheVariants as O
 use Rattle.nodes.specs.declared.read.Words.{Words as WordsT}
-use Rattle.nodes.specs.declared.read.ReadWords.{ReadWords}
-use Rattle.nodes.specs.declared.read.ReadWords.TheVariants as W
-use Rattle.nodes.specs.declared.read.Dists.{Dists}
-use Rattle.nodes.specs.declared.read.Dists.TheVariants as D
-use Rattle.nodes.specs.declared.segment.SegmentAt.{SegmentAt}
-use Rattle.nodes.specs.declared.segment.SegmentAt.TheVariants as G
 use Rattle.nodes.specs.Walks.{made_from, node_and_dists, segment_answer}
-use Rattle.nodes.proofs.Entering.{planed, enter_not, enter_is, enter_no_plane}
+use Rattle.nodes.proofs.Entering.{planed}
 use Rattle.hull.specs.Traces.{crossed_at}
-use Rattle.entered.specs.Onward.{child_of, word_onward, traced_list}
-use Rattle.entered.specs.declared.traced.Onward.{Onward}
-use Rattle.entered.specs.declared.traced.Onward.TheVariants as O
+use Rattle.entered.specs.Onward.{traced_list}
 use Rattle.entered.proofs.Steps.{child_goes}
 use Rattle.entered.proofs.Parts.{written_entered, written_held}
 
@@ -77,18 +73,18 @@ module _ (f : List ℕ) (t : Tables) (s e : Vector3) (v k i : ℕ) (l : List ℕ
     pub spent : k ≡ 0 → Ans.refused 32 ≡ all
     spent z = sym (ap (traced_list v l) (trace_spent T s e k i z h))
 
-    module _ (left : k ≡ 0 → ⊥) (r : SegmentAt) (is-r : segment_answer t.table r ≡ made_from (node_and_dists s e) f t i) where
+    module _ (left : k ≡ 0 → ⊥) (r : Result (WordsT × Float × Float) Refusal) (is-r : segment_answer t.table r ≡ made_from (node_and_dists s e) f t i) where
       abbrev go : ℕ → Vector3 → Vector3 → Outcome TraceT
       go n a b = recursive_trace T (k - 1) n a b
 
       more : k ≡ suc (k - 1)
       more = omega arith
 
-      pub unread : (x : Refusal) → r ≡ G.Refused x → Ans.refused (number_of x) ≡ all
+      pub unread : (x : Refusal) → r ≡ Err x → Ans.refused (number_of x) ≡ all
       unread x q =
           sym (ap (traced_list v l) (trace_unread T s e k (k - 1) i more h (number_of x) (mapped_refused (node_and_dists s e) (enter T i) (number_of x) (sym is-r ∙ ap (segment_answer t.table) q))))
 
-      module _ (w : WordsT) (a b : Float) (q2 : r ≡ G.Dists w a b) (short : length l < 2 ^ 63) (l1 : List ℕ) (is-l1 : l1 ≡ set l v i) (u : ℕ) (is-u : u ≡ held (v + 1)) where
+      module _ (w : WordsT) (a b : Float) (q2 : r ≡ Ok (w, a, b)) (short : length l < 2 ^ 63) (l1 : List ℕ) (is-l1 : l1 ≡ set l v i) (u : ℕ) (is-u : u ≡ held (v + 1)) where
         abbrev nd : Node End
         nd = node_of t.table w
 
@@ -138,13 +134,13 @@ module _ (f : List ℕ) (t : Tables) (s e : Vector3) (v k i : ℕ) (l : List ℕ
         pub crosses : not (beq (Ieee.le zero32 a) (Ieee.le zero32 b)) ≡ true → traced_list u l1 (crossed_at T (k - 1) nd s e a b (plane_in f t w.plane)) ≡ all
         crosses z = rw its_plane (passes (PointIntersection (Pl.crossing pl s e a b (Pl.from_dist a))) (crossing (differ (Ieee.le zero32 a) (Ieee.le zero32 b) z)))
 
-        module _ (z : not (beq (Ieee.le zero32 a) (Ieee.le zero32 b)) ≡ false) (c : Onward) (is_c : c ≡ word_onward (word_on w (Ieee.le zero32 a))) where
+        module _ (z : not (beq (Ieee.le zero32 a) (Ieee.le zero32 b)) ≡ false) (c : Onto) (is_c : c ≡ onto_word (word_on w (Ieee.le zero32 a))) where
           abbrev on_to : Child End → Outcome TraceT
           on_to y = onto T (λ n. go n s e) (λ x. Tr.new_trace (Tr.start s zero32) (Tr.terminal e) x) y
 
-          whole : (y : Onward) → c ≡ y → traced_list u l1 (on_to (child_of t.table y)) ≡ all
+          whole : (y : Onto) → c ≡ y → traced_list u l1 (on_to (onto_child t.table y)) ≡ all
           whole y q =
-              ap (λ (x : Child End). traced_list u l1 (on_to x)) (ap (child_of t.table) (sym q) ∙ child_goes t.table w (Pl.from_dist a) (Ieee.le zero32 a) refl c is_c)
+              ap (λ (x : Child End). traced_list u l1 (on_to x)) (ap (onto_child t.table) (sym q) ∙ child_goes t.table w (Pl.from_dist a) (Ieee.le zero32 a) refl c is_c)
               ∙ passes (NoIntersection (Pl.from_dist a)) (on_one_side (agree (Ieee.le zero32 a) (Ieee.le zero32 b) z))
 
           pub to_node : (n : ℕ) → c ≡ O.Node n → traced_list u l1 (recursive_trace T (k - 1) n s e) ≡ all
@@ -153,19 +149,3 @@ module _ (f : List ℕ) (t : Tables) (s e : Vector3) (v k i : ℕ) (l : List ℕ
           pub to_end : (x : ℕ) → c ≡ O.End x → traced_list u l1 (ended T (λ y. Tr.new_trace (Tr.start s zero32) (Tr.terminal e) y) (contents_met f t x)) ≡ all
           unfolding contents_met
           to_end x q = whole (O.End x) q
-
--- ---- what the readers say of a node
-
-module _ (f : List ℕ) (t : Tables) (p q : Vector3) (i : ℕ) (r : ReadWords) (is-r : words_answer t.table r ≡ Fast.node_at f t i) where
-  pub no_node : (x : Refusal) → r ≡ W.Refused x → Ans.refused (number_of x) ≡ made_from (node_and_dists p q) f t i
-  no_node x e = sym (ap (mapped (node_and_dists p q)) (enter_not f t (Fast.table f t) refl refl refl i r is-r x e))
-
-  module _ (w : WordsT) (is-w : r ≡ W.Words w) (d : Dists) (is-d : dists_answer d ≡ dists_from p q (plane_in f t w.plane)) where
-    pub no_plane : (x : Refusal) → d ≡ D.Refused x → Ans.refused (number_of x) ≡ made_from (node_and_dists p q) f t i
-    no_plane x e =
-        sym (ap (mapped (node_and_dists p q)) (enter_no_plane f t (Fast.table f t) refl refl refl i r is-r w is-w (number_of x) (mapped_refused (two_dists p q) (plane_in f t w.plane) (number_of x) (sym is-d ∙ ap dists_answer e))))
-
-    pub two_dists_lem : (a b : Float) → d ≡ D.Two a b → answer (node_of t.table w, (a, b)) ≡ made_from (node_and_dists p q) f t i
-    two_dists_lem a b e =
-        let k = mapped_answer (two_dists p q) (plane_in f t w.plane) (a, b) (sym is-d ∙ ap dists_answer e) in
-        ap (λ (y : Float × Float). answer (node_of t.table w, y)) (sym k.2) ∙ sym (ap (mapped (node_and_dists p q)) (enter_is f t (Fast.table f t) refl refl refl i r is-r w is-w k.0 k.1))

@@ -13,8 +13,9 @@ use Rattle.format.specs.Listed.{listed, into}
 use Rattle.walk.specs.Walk.{Outcome, done, refused, held, with_visits}
 use Rattle.entered.specs.Lists.{nodes_entered}
 use Rattle.phys.specs.declared.Trace.{Trace}
-use Rattle.hull.specs.Answers.{traced_answer}
-use Rattle.hull.specs.declared.tracing.Traced.{Traced}
+use Rattle.std.specs.Prelude.{Result}
+use Rattle.format.specs.Answers.{answer_of}
+use Rattle.format.specs.declared.refusal.Refusal.{Refusal}
 use Rattle.entered.specs.Onward.{traced_list, says_with}
 
 -- a list of just so many entries is filled with these nodes
@@ -56,7 +57,7 @@ module _ {A : Type 0} where
           into_list l (nodes_entered o) v x (ap answer w ∙ sym k.1) (ap answer r ∙ sym (ap (mapped length) k.1)) g
 
 -- the nodes of a trace, written from the first entry on
-module _ (a : Trace) (v : ℕ) (l : List ℕ) (short : length l < 2 ^ 63) (fits : v ≤ length l) (x : List ℕ) (r : Traced) where
+module _ (a : Trace) (v : ℕ) (l : List ℕ) (short : length l < 2 ^ 63) (fits : v ≤ length l) (x : List ℕ) (r : Result (Trace × ℕ) Refusal) where
   by_nodes : (y : Trace) (ns : List ℕ) → held (length ns) ≡ v → x ≡ sets l 0 ns → listed (answer v) x ≡ into (answer ns) l
   by_nodes y ns q is_x =
       let n : v ≡ length ns = omega arith in
@@ -66,6 +67,6 @@ module _ (a : Trace) (v : ℕ) (l : List ℕ) (short : length l < 2 ^ 63) (fits 
   pub traced_list_lem : (o : Outcome Trace) → answer (a, v) ≡ with_visits o → says_with x r ≡ traced_list 0 l o → listed (answer v) x ≡ into (nodes_entered o) l
   traced_list_lem (done y ns) e w =
       let c : ◌≡◌ {A = Trace × ℕ} (a, v) (y, held (length ns)) = cc in
-      let k = mapped_answer (λ (z : Trace × ℕ). (z, x)) (traced_answer r) ((y, held (0 + length ns)), sets l 0 ns) w in
+      let k = mapped_answer (λ (z : Trace × ℕ). (z, x)) (answer_of r) ((y, held (0 + length ns)), sets l 0 ns) w in
       by_nodes y ns (sym (ap (λ (z : Trace × ℕ). z.1) c)) (ap (λ (z : (Trace × ℕ) × List ℕ). z.1) k.2)
   traced_list_lem (refused n) e w = let z : ◌≡◌ {A = ℕ} 0 1 = cc in absurd (omega arith)

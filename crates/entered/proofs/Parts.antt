@@ -11,8 +11,11 @@ use lib.Ieee.{Float}
 use lib.ListN.{length, set, length-append}
 use lib.Seq.{sets, length-sets, set_out}
 use Rattle.format.proofs.Answers.{mapped_answer, mapped_refused}
+use Rattle.std.specs.Prelude.{Result}
+use Rattle.std.proofs.Common.{Ok, Err}
 use Rattle.format.specs.Answer as Ans
 use Rattle.format.specs.Answer.{Answer, answer, mapped}
+use Rattle.format.specs.Answers.{answer_of}
 use Rattle.format.specs.Refusal.{number_of}
 use Rattle.format.specs.declared.refusal.Refusal.{Refusal}
 use Rattle.format.specs.declared.section.BspData.{BspData}
@@ -32,22 +35,16 @@ use Rattle.nodes.specs.Fast as Fast
 use Rattle.nodes.specs.Fast.{tables_of, contents_met}
 use Rattle.nodes.specs.declared.table.HullTable.{HullTable}
 use Rattle.nodes.specs.declared.table.Tables.{Tables}
+use Rattle.nodes.specs.declared.read.Onto.{Onto}
+use Rattle.nodes.specs.declared.read.Onto.TheVariants as O
 use Rattle.nodes.specs.declared.read.Words.{Words as WordsT}
-use Rattle.nodes.specs.declared.read.EndContents.{EndContents}
-use Rattle.nodes.specs.declared.read.EndContents.TheVariants as E
 use Rattle.hull.proofs.Founds.{table_same}
 use Rattle.hull.specs.Traces.{stops_at, joined_with, join_far}
-use Rattle.hull.specs.Answers.{traced_answer}
-use Rattle.hull.specs.declared.tracing.Traced.{Traced}
-use Rattle.hull.specs.declared.tracing.Traced.TheVariants as T
 use Rattle.entered.specs.Onward.{both_parts, followed, whole_of, Crosses, part_with, traced_list, says_with, resumed, Goes}
-use Rattle.entered.specs.declared.traced.Onward.{Onward}
-use Rattle.entered.specs.declared.traced.Onward.TheVariants as O
 use Rattle.entered.specs.declared.traced.Way.{Way}
 use Rattle.entered.specs.declared.traced.Down.{Down}
 use Rattle.entered.specs.declared.traced.Down.TheVariants as D
-use Rattle.entered.specs.declared.traced.Crossed.{Crossed}
-use Rattle.entered.specs.declared.traced.Crossed.TheVariants as C
+use Rattle.entered.specs.declared.traced.Parts.{Parts}
 
 -- ---- entries written one after the other
 
@@ -123,17 +120,17 @@ module _ (y : TraceT) (u n : ℕ) (ns l m : List ℕ) (short : length l < 2 ^ 63
 
 -- ---- the trace in one leaf
 
-module _ (f : List ℕ) (t : Tables) (w v : ℕ) (way : Way) (x : EndContents) (is_x : Fast.end_answer x ≡ contents_met f t w) where
+module _ (f : List ℕ) (t : Tables) (w v : ℕ) (way : Way) (x : Result BspLeafContents Refusal) (is_x : answer_of x ≡ contents_met f t w) where
   abbrev in_leaf : Answer BspLeafContents → Outcome TraceT
   in_leaf y = ended (Fast.table f t) (λ c. Tr.new_trace way.from way.to c) y
 
-  pub leaf_met : (c : BspLeafContents) → x ≡ E.Contents c → {y : TraceT} → y ≡ Tr.new_trace way.from way.to c → v < 2 ^ 64 → answer (y, v) ≡ after v (in_leaf (contents_met f t w))
+  pub leaf_met : (c : BspLeafContents) → x ≡ Ok c → {y : TraceT} → y ≡ Tr.new_trace way.from way.to c → v < 2 ^ 64 → answer (y, v) ≡ after v (in_leaf (contents_met f t w))
   leaf_met c q is_y small =
       let n : v ≡ held (v + 0) = omega arith in
-      ap₂ (λ (z : TraceT) (n : ℕ). answer (z, n)) is_y n ∙ ap (λ (z : Answer BspLeafContents). after v (in_leaf z)) (sym (ap Fast.end_answer q) ∙ is_x)
+      ap₂ (λ (z : TraceT) (n : ℕ). answer (z, n)) is_y n ∙ ap (λ (z : Answer BspLeafContents). after v (in_leaf z)) (sym (ap answer_of q) ∙ is_x)
 
-  pub leaf_unmet : (z : Refusal) → x ≡ E.Refused z → Ans.refused (number_of z) ≡ after v (in_leaf (contents_met f t w))
-  leaf_unmet z q = ap (λ (y : Answer BspLeafContents). after v (in_leaf y)) (sym (ap Fast.end_answer q) ∙ is_x)
+  pub leaf_unmet : (z : Refusal) → x ≡ Err z → Ans.refused (number_of z) ≡ after v (in_leaf (contents_met f t w))
+  leaf_unmet z q = ap (λ (y : Answer BspLeafContents). after v (in_leaf y)) (sym (ap answer_of q) ∙ is_x)
 
 in_one : (f : List ℕ) (t : Tables) (v : ℕ) (l : List ℕ) (way : Way) (x : Answer BspLeafContents)
     → mapped (λ (z : TraceT × ℕ). (z, l)) (after v (ended (Fast.table f t) (λ y. Tr.new_trace way.from way.to y) x)) ≡ traced_list v l (ended (Fast.table f t) (λ y. Tr.new_trace way.from way.to y) x)
@@ -142,7 +139,7 @@ in_one f t v l way (Ans.refused n) = refl
 
 -- ---- the part that goes on to a child
 
-module _ (f : List ℕ) (t : Tables) (k v : ℕ) (l : List ℕ) (way : Way) (c : Onward) where
+module _ (f : List ℕ) (t : Tables) (k v : ℕ) (l : List ℕ) (way : Way) (c : Onto) where
   abbrev table : Table End BspLeafContents
   table = Fast.table f t
 
@@ -150,66 +147,65 @@ module _ (f : List ℕ) (t : Tables) (k v : ℕ) (l : List ℕ) (way : Way) (c :
   whole = traced_list v l (part_with f t k way c)
 
   -- to an end
-  pub at_end : (w : ℕ) → c ≡ O.End w → (r : Traced) → traced_answer r ≡ after v (ended table (λ y. Tr.new_trace way.from way.to y) (contents_met f t w)) → says_with l r ≡ whole
+  pub at_end : (w : ℕ) → c ≡ O.End w → (r : Result (TraceT × ℕ) Refusal) → answer_of r ≡ after v (ended table (λ y. Tr.new_trace way.from way.to y) (contents_met f t w)) → says_with l r ≡ whole
   unfolding contents_met
   at_end w is_c r is-r =
-      ap (mapped (λ (z : TraceT × ℕ). (z, l))) is-r ∙ in_one f t v l way (contents_met f t w) ∙ sym (ap (λ (y : Onward). traced_list v l (part_with f t k way y)) is_c)
+      ap (mapped (λ (z : TraceT × ℕ). (z, l))) is-r ∙ in_one f t v l way (contents_met f t w) ∙ sym (ap (λ (y : Onto). traced_list v l (part_with f t k way y)) is_c)
 
   -- to the node i: down to where the segment crosses a plane or ends
-  module _ (i : ℕ) (is_c : c ≡ O.Node i) (l1 : List ℕ) (r : Down) (goes : Goes f t way.from.point way.to.point k (traced_list v l (recursive_trace table k i way.from.point way.to.point)) l1 r) where
-    says : (x : Down) → r ≡ x → resumed f t way.from.point way.to.point l1 x ≡ whole
-    says x q = ap (resumed f t way.from.point way.to.point l1) (sym q) ∙ goes.says ∙ sym (ap (λ (y : Onward). traced_list v l (part_with f t k way y)) is_c)
+  module _ (i : ℕ) (is_c : c ≡ O.Node i) (l1 : List ℕ) (r : Result Down Refusal) (goes : Goes f t way.from.point way.to.point k (traced_list v l (recursive_trace table k i way.from.point way.to.point)) l1 r) where
+    says : (x : Result Down Refusal) → r ≡ x → resumed f t way.from.point way.to.point l1 x ≡ whole
+    says x q = ap (resumed f t way.from.point way.to.point l1) (sym q) ∙ goes.says ∙ sym (ap (λ (y : Onto). traced_list v l (part_with f t k way y)) is_c)
 
-    pub down_refused : (x : Refusal) → r ≡ D.Refused x → Ans.refused (number_of x) ≡ whole
-    down_refused x q = says (D.Refused x) q
+    pub down_refused : (x : Refusal) → r ≡ Err x → Ans.refused (number_of x) ≡ whole
+    down_refused x q = says (Err x) q
 
-    pub down_end : (w u : ℕ) → r ≡ D.End w u → (way1 : Way) → way1 ≡ whole_of way
-        → (p : Traced) → traced_answer p ≡ after u (ended table (λ y. Tr.new_trace way1.from way1.to y) (contents_met f t w)) → says_with l1 p ≡ whole
+    pub down_end : (w u : ℕ) → r ≡ Ok (D.End w u) → (way1 : Way) → way1 ≡ whole_of way
+        → (p : Result (TraceT × ℕ) Refusal) → answer_of p ≡ after u (ended table (λ y. Tr.new_trace way1.from way1.to y) (contents_met f t w)) → says_with l1 p ≡ whole
     down_end w u q way1 is-way p is-p =
         ap (mapped (λ (z : TraceT × ℕ). (z, l1))) is-p ∙ in_one f t u l1 way1 (contents_met f t w)
-        ∙ ap (λ (y : Way). traced_list u l1 (ended table (λ x. Tr.new_trace y.from y.to x) (contents_met f t w))) is-way ∙ says (D.End w u) q
+        ∙ ap (λ (y : Way). traced_list u l1 (ended table (λ x. Tr.new_trace y.from y.to x) (contents_met f t w))) is-way ∙ says (Ok (D.End w u)) q
 
-    module _ (w : WordsT) (a b : Float) (j u : ℕ) (is-d : r ≡ D.Crossing w a b j u) where
-      module _ (z : Crossed) (is-z : Crosses f t w a b way.from.point way.to.point z) where
-        crossed : (x : Crossed) → z ≡ x → traced_list u l1 (followed f t (λ n s e. recursive_trace table j n s e) x) ≡ whole
-        crossed x q = ap (λ (y : Crossed). traced_list u l1 (followed f t (λ n s e. recursive_trace table j n s e) y)) (sym q) ∙ ap (traced_list u l1) (is-z j) ∙ says (D.Crossing w a b j u) is-d
+    module _ (w : WordsT) (a b : Float) (j u : ℕ) (is-d : r ≡ Ok (D.Crossing w a b j u)) where
+      module _ (z : Result Parts Refusal) (is-z : Crosses f t w a b way.from.point way.to.point z) where
+        crossed : (x : Result Parts Refusal) → z ≡ x → traced_list u l1 (followed f t (λ n s e. recursive_trace table j n s e) x) ≡ whole
+        crossed x q = ap (λ (y : Result Parts Refusal). traced_list u l1 (followed f t (λ n s e. recursive_trace table j n s e) y)) (sym q) ∙ ap (traced_list u l1) (is-z j) ∙ says (Ok (D.Crossing w a b j u)) is-d
 
-        pub no_plane : (x : Refusal) → z ≡ C.Refused x → Ans.refused (number_of x) ≡ whole
-        no_plane x q = crossed (C.Refused x) q
+        pub no_plane : (x : Refusal) → z ≡ Err x → Ans.refused (number_of x) ≡ whole
+        no_plane x q = crossed (Err x) q
 
         -- the near part, then the far part
-        module _ (c1 : Onward) (w1 : Way) (c2 : Onward) (w2 : Way) (is_x : z ≡ C.Parts c1 w1 c2 w2) (l2 : List ℕ) (p : Traced) (is-p : says_with l2 p ≡ traced_list u l1 (part_with f t j w1 c1)) where
+        module _ (parts : Parts) (is_x : z ≡ Ok parts) (l2 : List ℕ) (p : Result (TraceT × ℕ) Refusal) (is-p : says_with l2 p ≡ traced_list u l1 (part_with f t j parts.to_mid parts.near)) where
           abbrev near : Outcome TraceT
-          near = part_with f t j w1 c1
+          near = part_with f t j parts.to_mid parts.near
 
           abbrev far : Outcome TraceT
-          far = part_with f t j w2 c2
+          far = part_with f t j parts.from_mid parts.far
 
-          two : traced_list u l1 (both_parts w1.to.point near far) ≡ whole
-          two = crossed (C.Parts c1 w1 c2 w2) is_x
+          two : traced_list u l1 (both_parts parts.to_mid.to.point near far) ≡ whole
+          two = crossed (Ok parts) is_x
 
-          pub near_refused : (x : Refusal) → p ≡ T.Refused x → says_with l2 p ≡ whole
+          pub near_refused : (x : Refusal) → p ≡ Err x → Ans.refused (number_of x) ≡ whole
           near_refused x q =
-              ap (says_with l2) q
-              ∙ sym (ap (λ (o : Outcome TraceT). traced_list u l1 (both_parts w1.to.point o far)) (written_refused u l1 near (number_of x) (sym (ap (says_with l2) q) ∙ is-p)))
+              sym (ap (λ (o : Outcome TraceT). traced_list u l1 (both_parts parts.to_mid.to.point o far)) (written_refused u l1 near (number_of x) (sym (ap (says_with l2) q) ∙ is-p)))
               ∙ two
 
-          module _ (y : TraceT) (n : ℕ) (is_y : p ≡ T.Trace y n) (st? : Bool) (is-st? : st? ≡ stops_at y w1.to.point) where
+          module _ (y : TraceT) (n : ℕ) (is_y : p ≡ Ok (y, n)) (st? : Bool) (is-st? : st? ≡ stops_at y parts.to_mid.to.point) where
             near_done : (ns : List ℕ) × (near ≡ done y ns) × (held (u + length ns) ≡ n) × (sets l1 u ns ≡ l2)
             near_done = written_done u l1 near y n l2 (sym (ap (says_with l2) is_y) ∙ is-p)
 
             passed : (q : Bool) → st? ≡ q → traced_list u l1 (cond q (done y near_done.0) (with_far y near_done.0 far)) ≡ whole
             passed q e =
                 ap (λ (z : Bool). traced_list u l1 (cond z (done y near_done.0) (with_far y near_done.0 far))) (sym e ∙ is-st?)
-                ∙ sym (ap (λ (o : Outcome TraceT). traced_list u l1 (both_parts w1.to.point o far)) near_done.1) ∙ two
+                ∙ sym (ap (λ (o : Outcome TraceT). traced_list u l1 (both_parts parts.to_mid.to.point o far)) near_done.1) ∙ two
 
             pub near_stops : st? ≡ true → answer ((y, n), l2) ≡ whole
             near_stops e = sym (ap (says_with l2) is_y) ∙ is-p ∙ ap (traced_list u l1) near_done.1 ∙ passed true e
 
-            pub both : st? ≡ false → (x : List ℕ) (w : Traced) → says_with x w ≡ traced_list n l2 far → (res : Traced) → traced_answer res ≡ join_far y (traced_answer w) → length l1 < 2 ^ 63 → says_with x res ≡ whole
+            pub both : st? ≡ false → (x : List ℕ) (w : Result (TraceT × ℕ) Refusal) → says_with x w ≡ traced_list n l2 far → (res : Result (TraceT × ℕ) Refusal) → answer_of res ≡ join_far y (answer_of w) → length l1 < 2 ^ 63 → says_with x res ≡ whole
             both e x w is-w res is-res short =
                 ap (mapped (λ (z : TraceT × ℕ). (z, x))) is-res
-                ∙ joins y u n near_done.0 l1 l2 short near_done.2 near_done.3 x far (traced_answer w) is-w ∙ passed false e
+                ∙ joins y u n near_done.0 l1 l2 short near_done.2 near_done.3 x far (answer_of w) is-w ∙ passed false e
 
 -- ---- the trace through a hull, with the tables that the readers go by
 

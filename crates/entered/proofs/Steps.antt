@@ -1,13 +1,13 @@
 -- The child on a side, and the two parts of a segment that crosses a plane.
 -- Assumes nothing.
 use Rattle.std.specs.Prelude.{Result, Ok, Err}
-use Prim.Native.Nat.{ℕ, ◌<◌, ◌≤◌}
+use Rattle.std.specs.Result.{IsErrAnd}
+use Rattle.std.proofs.lemmas.Result.{err_from_is_err_and}
+use Prim.Native.Nat.{ℕ}
 use Rattle.format.specs.Answers.{answer_of}
 use mathlib.Core.Path.{◌≡◌, refl, sym, ap, ap₂, ◌∙◌}
 use mathlib.Core.Bool.{Bool, true, false, cond}
 use mathlib.Core.List.{List}
-use borrow.Author.Tests.{lt-ltb, le-ltb}
-use lib.Dec.{ltb}
 use lib.Ieee.{Float}
 use Rattle.format.specs.declared.refusal.Refusal.{Refusal}
 use Rattle.format.specs.declared.contents.BspLeafContents.{BspLeafContents}
@@ -21,39 +21,30 @@ use Rattle.phys.specs.Trace as Tr
 use Rattle.phys.specs.declared.Trace.{Trace as TraceT}
 use Rattle.phys.specs.declared.TraceStart.{TraceStart}
 use Rattle.phys.specs.declared.TraceEnd.{TraceEnd}
-use Rattle.walk.specs.Table.{Child, node, end, Node, Table, child_on}
+use Rattle.walk.specs.Table.{Child, Node, Table, child_on}
 use Rattle.walk.specs.Walk.{Outcome, done, refused, onto}
 use Rattle.walk.specs.Tracing.{with_far, stops, near_of, far_of, after_near, with_near, recursive_trace}
 use Rattle.nodes.specs.Tables.{End}
-use Rattle.nodes.specs.Fast.{node_of, word_on, end_of, plane_in}
+use Rattle.nodes.specs.Fast.{node_of, onto_word, onto_child, word_on, plane_in}
 use Rattle.nodes.specs.Fast as Fast
 use Rattle.nodes.specs.declared.table.HullTable.{HullTable}
 use Rattle.nodes.specs.declared.table.Tables.{Tables}
+use Rattle.nodes.specs.declared.read.Onto.{Onto}
 use Rattle.nodes.specs.declared.read.Words.{Words as WordsT}
 use Rattle.hull.specs.Traces.{crossed_at}
-use Rattle.nodes.proofs.Entering.{child_is}
-use Rattle.entered.specs.Onward.{child_of, word_onward, both_parts, Crosses}
-use Rattle.entered.specs.declared.traced.Onward.{Onward}
-use Rattle.entered.specs.declared.traced.Onward.TheVariants as O
-use Rattle.entered.specs.declared.traced.Crossed.TheVariants as C
+use Rattle.nodes.proofs.Entering.{child_is, child_of_word}
+use Rattle.entered.specs.Onward.{both_parts, Crosses}
+
+-- what a `?` hands on
+pub handed_on : {A : Type 0} {q : Result A Refusal} {e : Refusal} → IsErrAnd q (λ d. d ≡ e) → q ≡ Err e
+handed_on {q = q} h = let (d, t, s) = err_from_is_err_and q h in t ∙ ap Err s
 
 -- ---- the child on a side
 
-module _ (word x : ℕ) (q : word ≡ x) where
-  pub word_node : word < 32768 → O.Node word ≡ word_onward x
-  word_node h = rw (← q) (simp (lt-ltb word 32768 h))
-
-  pub word_end : 32768 ≤ word → O.End word ≡ word_onward x
-  word_end h = rw (← q) (simp (le-ltb word 32768 h))
-
 module _ (tab : HullTable) (w : WordsT) where
-  by_word : (word : ℕ) (b : Bool) → child_of tab (cond b (O.Node word) (O.End word)) ≡ cond b (node word) (end (end_of tab word))
-  by_word word true = refl
-  by_word word false = refl
-
-  pub child_goes : (side : HyperplaneSide) (b : Bool) → Pl.side_if b ≡ side → (c : Onward) → c ≡ word_onward (word_on w b) → child_of tab c ≡ child_on (node_of tab w) side
+  pub child_goes : (side : HyperplaneSide) (b : Bool) → Pl.side_if b ≡ side → (c : Onto) → c ≡ onto_word (word_on w b) → onto_child tab c ≡ child_on (node_of tab w) side
   child_goes side b q c is_c =
-      ap (child_of tab) is_c ∙ by_word (word_on w b) (ltb (word_on w b) 32768) ∙ sym (child_is tab w b) ∙ ap (child_on (node_of tab w)) q
+      ap (onto_child tab) is_c ∙ child_of_word tab (word_on w b) ∙ sym (child_is tab w b) ∙ ap (child_on (node_of tab w)) q
 
 -- ---- a crossing whose ends are at the distances a and b
 
@@ -64,7 +55,7 @@ module _ (f : List ℕ) (t : Tables) (s e : Vector3) (w : WordsT) (a b₀ : Floa
   abbrev nd : Node End
   nd = node_of t.table w
 
-  pub no_plane : (x : Refusal) → p ≡ Err x → Crosses f t w a b₀ s e (C.Refused x)
+  pub no_plane : (x : Refusal) → p ≡ Err x → Crosses f t w a b₀ s e (Err x)
   no_plane x q k = ap (crossed_at T k nd s e a b₀) (sym (ap answer_of q) ∙ is-p)
 
   module _ (h : Hyperplane) (q : p ≡ Ok h) where
@@ -99,11 +90,11 @@ module _ (f : List ℕ) (t : Tables) (s e : Vector3) (w : WordsT) (a b₀ : Floa
         → (from : TraceStart) → from ≡ Tr.start s zero32
         → (turned : Hyperplane) → turned ≡ Pl.facing side h → (to : TraceEnd) → to ≡ Tr.boundary mid x.ratio turned
         → (from' : TraceStart) → from' ≡ Tr.start mid x.ratio → (to' : TraceEnd) → to' ≡ Tr.terminal e
-        → (b : Bool) → Pl.side_if b ≡ side → (c : Onward) → c ≡ word_onward (word_on w b)
-        → (b' : Bool) → Pl.side_if b' ≡ side' → (c' : Onward) → c' ≡ word_onward (word_on w b')
-        → Crosses f t w a b₀ s e (C.Parts c (record { from = from; to = to }) c' (record { from = from'; to = to' }))
+        → (b : Bool) → Pl.side_if b ≡ side → (c : Onto) → c ≡ onto_word (word_on w b)
+        → (b' : Bool) → Pl.side_if b' ≡ side' → (c' : Onto) → c' ≡ onto_word (word_on w b')
+        → Crosses f t w a b₀ s e (Ok (record { near = c; to_mid = record { from = from; to = to }; far = c'; from_mid = record { from = from'; to = to' } }))
     crosses mid is-mid side is_side side' is-side' from is-from turned is_turned to is-to from' is-from' to' is-to' b qb c is_c b' qb' c' is-c' k =
         rw (is-from, is-to ∙ ap₂ (λ (m : Vector3) (y : Hyperplane). Tr.boundary m x.ratio y) is-mid (is_turned ∙ ap (λ (y : HyperplaneSide). Pl.facing y h) is_side), is-from' ∙ ap (λ (m : Vector3). Tr.start m x.ratio) is-mid, is-to')
-        (crossed k (child_of t.table c) (child_of t.table c')
+        (crossed k (onto_child t.table c) (onto_child t.table c')
         (child_goes t.table w (Pl.point_side h s) b (qb ∙ is_side) c is_c)
         (child_goes t.table w (Pl.point_side h e) b' (qb' ∙ is-side') c' is-c'))

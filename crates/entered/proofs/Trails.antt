@@ -12,6 +12,8 @@ use lib.ListN.{length, take, drop, set}
 use lib.Seq.{take-suc-set, take_all, length-take-le}
 use Rattle.format.proofs.Answers.{mapped_answer, mapped_refused}
 use Rattle.format.proofs.Listing.{into_short, into_list}
+use Rattle.std.specs.Prelude.{Result}
+use Rattle.std.proofs.Common.{Ok, Err}
 use Rattle.format.specs.Answer as Ans
 use Rattle.format.specs.Answer.{Answer, answer}
 use Rattle.format.specs.Listed.{listed, into}
@@ -35,10 +37,6 @@ use Rattle.nodes.specs.Fast.{tables_of, words_answer, node_of, word_on, plane_in
 use Rattle.nodes.specs.Fast as Fast
 use Rattle.nodes.specs.declared.table.Tables.{Tables}
 use Rattle.nodes.specs.declared.read.Words.{Words as WordsT}
-use Rattle.nodes.specs.declared.read.ReadWords.{ReadWords}
-use Rattle.nodes.specs.declared.read.ReadWords.TheVariants.{Words, Refused}
-use Rattle.nodes.specs.declared.read.Sided.{Sided}
-use Rattle.nodes.specs.declared.read.Sided.TheVariants as S
 use Rattle.nodes.proofs.Entering.{child_node, child_end, enter_not, enter_is, enter_no_plane}
 use Rattle.entered.proofs.Listing.{Fills, too_short, filled}
 use Rattle.entered.specs.Lists.{nodes_entered}
@@ -189,21 +187,21 @@ module _ (s : List ℕ) (t : Tables) (p : Vector3) (v root : ℕ) (l : List ℕ)
 
 -- ---- the node that a walk goes on to, by what the readers answer
 
-module _ (s : List ℕ) (t : Tables) (p : Vector3) (i : ℕ) (r : ReadWords) (is-r : words_answer t.table r ≡ Fast.node_at s t i) where
+module _ (s : List ℕ) (t : Tables) (p : Vector3) (i : ℕ) (r : Result WordsT Refusal) (is-r : words_answer t.table r ≡ Fast.node_at s t i) where
   abbrev T : Table End BspLeafContents
   T = Fast.table s t
 
-  pub not_read : (x : Refusal) → r ≡ Refused x → 0 ≡ next T p i
+  pub not_read : (x : Refusal) → r ≡ Err x → 0 ≡ next T p i
   unfolding next
   not_read x q = sym (ap (onward p) (enter_not s t T refl refl refl i r is-r x q))
 
-  module _ (w : WordsT) (q : r ≡ Words w) (r2 : Sided) (is-r2 : sided_answer r2 ≡ side_from p (plane_in s t w.plane)) where
-    pub no_plane : (x : Refusal) → r2 ≡ S.Refused x → 0 ≡ next T p i
+  module _ (w : WordsT) (q : r ≡ Ok w) (r2 : Result Bool Refusal) (is-r2 : sided_answer r2 ≡ side_from p (plane_in s t w.plane)) where
+    pub no_plane : (x : Refusal) → r2 ≡ Err x → 0 ≡ next T p i
     unfolding next
     no_plane x q2 =
         sym (ap (onward p) (enter_no_plane s t T refl refl refl i r is-r w q (number_of x) (mapped_refused (λ h. Pl.point_side h p) (plane_in s t w.plane) (number_of x) (sym is-r2 ∙ ap sided_answer q2))))
 
-    module _ (b : Bool) (q2 : r2 ≡ S.Front b) (word : ℕ) (is_word : word ≡ word_on w b) where
+    module _ (b : Bool) (q2 : r2 ≡ Ok b) (word : ℕ) (is_word : word ≡ word_on w b) where
       on_side : (h : Hyperplane) × (plane_in s t w.plane ≡ answer h) × (Pl.point_side h p ≡ Pl.side_if b)
       on_side = mapped_answer (λ h. Pl.point_side h p) (plane_in s t w.plane) (Pl.side_if b) (sym is-r2 ∙ ap sided_answer q2)
 

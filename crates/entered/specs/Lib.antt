@@ -2,4 +2,3 @@
 pub mod Lists
 pub mod Onward
 pub mod Private
-pub mod Answers

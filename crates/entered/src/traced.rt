@@ -1,5 +1,6 @@
 // The nodes that the trace of a segment enters.
 ghost use Rattle.std.specs.Prelude.{◌≡◌, set};
+ghost use Rattle.format.specs.Answers.{answer_of};
 ghost use Rattle.format.specs.Listed.{listed, into};
 ghost use Rattle.phys.specs.Trace as Tr;
 ghost use Rattle.walk.specs.Walk.{ended};
@@ -7,32 +8,19 @@ ghost use Rattle.walk.specs.Private.{after};
 ghost use Rattle.walk.specs.Tracing as Tracing;
 ghost use Rattle.walk.specs.Tracing.{recursive_trace};
 ghost use Rattle.nodes.specs.Fast as Fast;
-ghost use Rattle.nodes.specs.Walks as Walks;
 ghost use Rattle.hull.specs.Hull.{hull_table};
-ghost use Rattle.hull.specs.Answers.{traced_answer};
 ghost use Rattle.entered.specs.Lists as Lists;
-ghost use Rattle.entered.specs.Answers as Answers;
 ghost use Rattle.entered.specs.Onward as Going;
 
-use crate::walked::EnteredAnswer;
-use format::refusal::Refusal;
+use format::refusal::{Answer, Refusal};
 use format::section::BspData;
 use hull::collision::BspCollisionHull;
-use hull::tracing::{Traced, join_far, one_more, stops, trace};
+use hull::tracing::{join_far, one_more, stops, trace};
 use math::Vector3;
-use nodes::read::{
-    Dists, EndContents, ReadWords, Words, dists_at, end_contents, is_front, plane_at, read_words,
-};
-use nodes::segment::SegmentAt;
+use nodes::read::{Onto, Words, end_contents, is_front, plane_at};
+use nodes::segment::segment_any;
 use nodes::table::{Tables, tables_of};
 use phys::{Trace, TraceEnd, TraceStart};
-
-// A child that a trace goes on to: a node, or the end that a word stands for.
-#[derive(Clone, Copy)]
-enum Onward {
-    Node(usize),
-    End(u16),
-}
 
 // A part of a segment: where its trace starts and ends if it lies in one leaf.
 #[derive(Clone, Copy)]
@@ -54,26 +42,16 @@ struct Counts {
 enum Down {
     End(u16, u64),
     Crossing(Words, f32, f32, u32, u64),
-    Refused(Refusal),
 }
 
 // What becomes of a segment that crosses a node's plane: the part up to the crossing goes on to the near child and the part behind it to the
-// far one. Refused: the plane can't be read.
+// far one.
 #[derive(Clone, Copy)]
-enum Crossed {
-    Parts(Onward, Way, Onward, Way),
-    Refused(Refusal),
-}
-
-// The child on a side.
-fn child_on(w: Words, front: bool) -> Onward
-    ensures { result ≡ Going.word_onward (Fast.word_on w front) }
-{
-    let word = w.on(front);
-    if word < 32768 {
-        return Onward::Node(word as usize);
-    }
-    Onward::End(word)
+struct Parts {
+    near: Onto,
+    to_mid: Way,
+    far: Onto,
+    from_mid: Way,
 }
 
 // All of a segment, as a leaf has it.
@@ -85,46 +63,38 @@ fn whole_of(way: Way) -> Way
     Way { from, to }
 }
 
-// The two parts of a segment whose ends are at the distances a and b of a node's plane.
-fn parts_of(s: &[u8], t: Tables, w: Words, a: f32, b: f32, way: Way) -> Crossed
+// The two parts of a segment whose ends are at the distances a and b of a node's plane. Refused where the plane can't be read.
+fn parts_of(s: &[u8], t: Tables, w: Words, a: f32, b: f32, way: Way) -> Answer<Parts>
     ensures { Going.Crosses s.now t w a b way.from.point way.to.point result }
 {
-    match plane_at(s, t, w.plane as usize) {
-        Err(e) => Crossed::Refused(e),
-        Ok(plane) => {
-            let start = way.from.point;
-            let end = way.to.point;
-            let ratio = a / (a - b);
-            let mid = start.add(end.sub(start).scale(ratio));
-            let side = plane.point_side(start);
-            let far_side = plane.point_side(end);
-            let from = TraceStart::new(start, 0.0);
-            let to = TraceEnd::boundary(mid, ratio, plane.facing(side));
-            let from_mid = TraceStart::new(mid, ratio);
-            let to_end = TraceEnd::terminal(end);
-            Crossed::Parts(
-                child_on(w, is_front(side)),
-                Way { from, to },
-                child_on(w, is_front(far_side)),
-                Way {
-                    from: from_mid,
-                    to: to_end,
-                },
-            )
-        }
-    }
+    let plane = plane_at(s, t, w.plane as usize)?;
+    let start = way.from.point;
+    let end = way.to.point;
+    let ratio = a / (a - b);
+    let mid = start.add(end.sub(start).scale(ratio));
+    let side = plane.point_side(start);
+    let far_side = plane.point_side(end);
+    let from = TraceStart::new(start, 0.0);
+    let to = TraceEnd::boundary(mid, ratio, plane.facing(side));
+    let from_mid = TraceStart::new(mid, ratio);
+    let to_end = TraceEnd::terminal(end);
+    Ok(Parts {
+        near: w.onto(is_front(side)),
+        to_mid: Way { from, to },
+        far: w.onto(is_front(far_side)),
+        from_mid: Way {
+            from: from_mid,
+            to: to_end,
+        },
+    })
 }
 
 // The part of a trace that lies in one leaf, by the word of its end.
-fn in_leaf(s: &[u8], t: Tables, word: u16, way: Way, visits: u64) -> Traced
-    ensures { traced_answer result ≡ after visits (ended (Fast.table s.now t) (λ c. Tr.new_trace way.from way.to c) (Fast.contents_met s.now t word)) }
+fn in_leaf(s: &[u8], t: Tables, word: u16, way: Way, visits: u64) -> Answer<(Trace, u64)>
+    ensures { answer_of result ≡ after visits (ended (Fast.table s.now t) (λ c. Tr.new_trace way.from way.to c) (Fast.contents_met s.now t word)) }
 {
-    let from = way.from;
-    let to = way.to;
-    match end_contents(s, t, word) {
-        EndContents::Contents(c) => Traced::Trace(Trace::new(from, to, c), visits),
-        EndContents::Refused(e) => Traced::Refused(e),
-    }
+    let contents = end_contents(s, t, word)?;
+    Ok((Trace::new(way.from, way.to, contents), visits))
 }
 
 // Writes a node at its place, if the list has it.
@@ -136,50 +106,33 @@ fn write_at(list: &mut [u32], place: u64, node: u32)
     }
 }
 
-// A node's words, and how far the segment's ends are from its plane. `segment_any` of `nodes` says the same: with two callers it would be a
-// call in the trace itself, and a trace through a box took a quarter longer.
-fn seen_at(s: &[u8], t: Tables, node: usize, start: Vector3, end: Vector3) -> SegmentAt
-    ensures { Walks.segment_answer t.table result ≡ Walks.made_from (Walks.node_and_dists start end) s.now t node }
-{
-    match read_words(s, t, node) {
-        ReadWords::Refused(e) => SegmentAt::Refused(e),
-        ReadWords::Words(w) => match dists_at(s, t, w.plane as usize, start, end) {
-            Dists::Refused(e) => SegmentAt::Refused(e),
-            Dists::Two(a, b) => SegmentAt::Dists(w, a, b),
-        },
-    }
-}
-
 // Down from a node as long as the segment lies on one side of each plane; each node is written into the list as it is entered, as far as
 // the list goes.
-fn go_down(s: &[u8], t: Tables, node: usize, way: Way, c: Counts, list: &mut [u32]) -> Down
+fn go_down(s: &[u8], t: Tables, node: usize, way: Way, c: Counts, list: &mut [u32]) -> Answer<Down>
     ensures { Going.Goes s.now t way.from.point way.to.point c.left (Going.traced_list c.visits list.old (recursive_trace (Fast.table s.now t) c.left node way.from.point way.to.point)) list.new result }
 {
     let mut i = node;
     let mut left = c.left;
     let mut visits = c.visits;
+    // goes by the nodes' children; the index is tested before the calls left, also where none is left, so no range of numbers fits
     loop {
         if (t.nodes.count as usize) <= i {
-            return Down::Refused(Refusal::IndexOutsideTable);
+            return Err(Refusal::IndexOutsideTable);
         }
         if left == 0 {
-            return Down::Refused(Refusal::TooDeep);
+            return Err(Refusal::TooDeep);
         }
         write_at(list, visits, i as u32);
-        match seen_at(s, t, i, way.from.point, way.to.point) {
-            SegmentAt::Refused(e) => return Down::Refused(e),
-            SegmentAt::Dists(w, a, b) => {
-                visits = one_more(visits);
-                left -= 1;
-                let front = a >= 0.0;
-                if front != (b >= 0.0) {
-                    return Down::Crossing(w, a, b, left, visits);
-                }
-                match child_on(w, front) {
-                    Onward::Node(n) => i = n,
-                    Onward::End(word) => return Down::End(word, visits),
-                }
-            }
+        let (w, a, b) = segment_any(s, t, i, way.from.point, way.to.point)?;
+        visits = one_more(visits);
+        left -= 1;
+        let front = a >= 0.0;
+        if front != (b >= 0.0) {
+            return Ok(Down::Crossing(w, a, b, left, visits));
+        }
+        match w.onto(front) {
+            Onto::Node(n) => i = n,
+            Onto::End(word) => return Ok(Down::End(word, visits)),
         }
     }
 }
@@ -189,39 +142,34 @@ fn go_down(s: &[u8], t: Tables, node: usize, way: Way, c: Counts, list: &mut [u3
 fn write_onward(
     s: &[u8],
     t: Tables,
-    child: Onward,
+    child: Onto,
     way: Way,
     left: u32,
     visits: u64,
     list: &mut [u32],
-) -> Traced
+) -> Answer<(Trace, u64)>
     ensures { Going.says_with list.new result ≡ Going.traced_list visits list.old (Going.part_with s.now t left way child) }
 {
     match child {
-        Onward::End(word) => in_leaf(s, t, word, way, visits),
-        Onward::Node(node) => match go_down(s, t, node, way, Counts { left, visits }, list) {
-            Down::Refused(e) => Traced::Refused(e),
+        Onto::End(word) => in_leaf(s, t, word, way, visits),
+        Onto::Node(node) => match go_down(s, t, node, way, Counts { left, visits }, list)? {
             Down::End(word, v) => in_leaf(s, t, word, whole_of(way), v),
-            Down::Crossing(w, a, b, below, v) => match parts_of(s, t, w, a, b, way) {
-                Crossed::Refused(e) => Traced::Refused(e),
-                Crossed::Parts(near, to_mid, far, from_mid) => {
-                    let part = write_onward(s, t, near, to_mid, below, v, list);
-                    let Traced::Trace(near_trace, n) = part else {
-                        return part;
-                    };
-                    if stops(near_trace, to_mid.to.point) {
-                        return part;
-                    }
-                    let rest = write_onward(s, t, far, from_mid, below, n, list);
-                    join_far(near_trace, rest)
+            Down::Crossing(w, a, b, below, v) => {
+                let parts = parts_of(s, t, w, a, b, way)?;
+                let (near, n) = write_onward(s, t, parts.near, parts.to_mid, below, v, list)?;
+                if stops(near, parts.to_mid.to.point) {
+                    return Ok((near, n));
                 }
-            },
+                let rest = write_onward(s, t, parts.far, parts.from_mid, below, n, list);
+                join_far(near, rest)
+            }
         },
     }
 }
 
 // The nodes that a trace enters: their number, and the nodes in order at the front of the list. Refused as `trace` is, or where the list
 // is too short (22); a refusal leaves the list as it is.
+#[tactic(auto, using(crate::proofs::Listing::declined, crate::proofs::Listing::too_short))]
 pub fn nodes_of_trace(
     s: &[u8],
     map: BspData,
@@ -229,23 +177,20 @@ pub fn nodes_of_trace(
     start: Vector3,
     end: Vector3,
     list: &mut [u32],
-) -> EnteredAnswer
-    ensures { listed (Answers.entered_answer result) list.new ≡ into (Lists.nodes_entered (Tracing.trace (hull_table s.now map hull) hull.node_id start end)) list.old }
+) -> Answer<usize>
+    ensures { listed (answer_of result) list.new ≡ into (Lists.nodes_entered (Tracing.trace (hull_table s.now map hull) hull.node_id start end)) list.old }
 {
-    match trace(s, map, hull, start, end) {
-        Traced::Refused(e) => EnteredAnswer::Refused(e),
-        Traced::Trace(_, visits) => {
-            if (list.len() as u64) < visits {
-                return EnteredAnswer::Refused(Refusal::ListTooShort);
-            }
-            let count = visits as usize;
-            let table = hull.table;
-            let t = tables_of(map, table, hull.mins, hull.maxs);
-            let root = Onward::Node(hull.node_id);
-            let from = TraceStart::new(start, 0.0);
-            let to = TraceEnd::terminal(end);
-            write_onward(s, t, root, Way { from, to }, 512, 0, list);
-            EnteredAnswer::Count(count)
-        }
+    let (_, visits) = trace(s, map, hull, start, end)?;
+    if (list.len() as u64) < visits {
+        return Err(Refusal::ListTooShort);
     }
+    let count = visits as usize;
+    let table = hull.table;
+    let t = tables_of(map, table, hull.mins, hull.maxs);
+    let root = Onto::Node(hull.node_id);
+    let from = TraceStart::new(start, 0.0);
+    let to = TraceEnd::terminal(end);
+    // what it answers is what `trace` answered
+    let _ = write_onward(s, t, root, Way { from, to }, 512, 0, list);
+    Ok(count)
 }

@@ -15,7 +15,7 @@ pub enum BspFaceSide {
     Back,
 }
 
-// The Rust's `light_styles: [u8; 4]`.
+// The Rust's `light_styles: [u8; 4]`, as four fields, since specs and the words of a face name each.
 #[derive(Clone, Copy)]
 pub struct LightStyles {
     pub style_0: u8,
@@ -57,6 +57,8 @@ fn read_side(s: &[u8], at: usize) -> Read<BspFaceSide>
     }
 }
 
+// Set in where it is called: late in a chain of `?` the compiler takes a call for a rare one, and leaves it a call.
+#[inline(always)]
 #[tactic(auto, unfolding(crate::specs::Face::styles_at))]
 fn read_light_styles(s: &[u8], at: usize) -> Read<LightStyles>
     ensures { step_of result ≡ styles_at s.now at }
@@ -77,6 +79,8 @@ fn read_light_styles(s: &[u8], at: usize) -> Read<LightStyles>
 }
 
 // A face. Its plane number and its texture info's may equal their counts; its texture mins and extents are 0 as yet.
+// Set in where it is called: loading needs the tests alone, and there the value is then not made.
+#[inline(always)]
 #[tactic(auto, unfolding(crate::specs::Face::face_at, crate::specs::Face::face_end_at, crate::specs::Face::face_light_at))]
 pub fn read_face(s: &[u8], at: usize, plane_count: u32, texinfo_count: u32) -> Read<BspFace>
     ensures { step_of result ≡ face_at plane_count texinfo_count s.now at }

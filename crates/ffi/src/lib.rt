@@ -1,5 +1,6 @@
 // The map core for C and Rust: numbers and lists of numbers alone. A slice is a pointer and then a length. Each call answers 0, or the
 // number of a refusal of document 01; what it answers goes to the front of a list that the caller lends. A refusal writes nothing.
+// What travels together (a file, its map record, a hull) stands as lists one by one, since the interface has no records.
 // Each hands its arguments on: the calls themselves stand in the crates `ffi_..`, since a static library has the exported functions of one
 // crate alone.
 #![tactic(auto)]

@@ -3,30 +3,32 @@
 
 ghost use Rattle.std.specs.Prelude.{◌≡◌};
 ghost use Rattle.words.specs.Words.{left};
-ghost use Rattle.hull.specs.Answers.{hull_answer};
+ghost use Rattle.format.specs.Answers.{answer_of};
 ghost use Rattle.ffi_hull.specs.Layout.{hull_from};
 ghost use Rattle.ffi_checked.specs.Calls as Calls;
 
 use ffi_hull::layout;
-use format::refusal::Refusal;
-use hull::collision::{HullAnswer, check_hull};
+use format::refusal::{Answer, Refusal};
+use hull::collision::{BspCollisionHull, check_hull};
 use nodes::table::HullTable;
-use words::{LIST_TOO_SHORT, give, map_of, word_at_u64};
+use words::{LIST_TOO_SHORT, give_words, map_of, word_at_u64};
 
 // The hull of a hull's words, with all its fields. 20: its table is above 2.
-fn hull_from(words: &[u64]) -> HullAnswer
-    ensures { hull_answer result ≡ hull_from words.now }
+#[tactic(auto, unfolding(ffi_hull::specs::Layout::hull_from))]
+fn hull_from(words: &[u64]) -> Answer<BspCollisionHull>
+    ensures { answer_of result ≡ hull_from words.now }
 {
     match word_at_u64(words, 0) {
-        0 => HullAnswer::Hull(layout::hull_in(HullTable::Render, words)),
-        1 => HullAnswer::Hull(layout::hull_in(HullTable::Clip, words)),
-        2 => HullAnswer::Hull(layout::hull_in(HullTable::Box, words)),
-        _ => HullAnswer::Refused(Refusal::NoSuchRecord),
+        0 => Ok(layout::hull_in(HullTable::Render, words)),
+        1 => Ok(layout::hull_in(HullTable::Clip, words)),
+        2 => Ok(layout::hull_in(HullTable::Box, words)),
+        _ => Err(Refusal::NoSuchRecord),
     }
 }
 
 // The hull with the size of its root's tree, by the tree check, with one lent mark for each node of its table. 22: a map of fewer than 31
 // words, a hull of fewer than 9 or a list of fewer than 11; 20: a hull of no table; then as the tree check, which leaves the marks.
+#[tactic(auto, using(words::proofs::Giving::told_given), unfolding(crate::specs::Calls::bsp_hull_check))]
 pub fn hull_check(file: &[u8], map: &[u32], hull: &[u64], marks: &mut [u8], out: &mut [u64]) -> u32
     ensures { left result marks.new out.new ≡ Calls.bsp_hull_check file.now map.now hull.now marks.old out.old }
 {
@@ -40,10 +42,10 @@ pub fn hull_check(file: &[u8], map: &[u32], hull: &[u64], marks: &mut [u8], out:
         return LIST_TOO_SHORT;
     }
     match hull_from(hull) {
-        HullAnswer::Refused(e) => e.number(),
-        HullAnswer::Hull(h) => match check_hull(file, map_of(map), h, marks) {
-            HullAnswer::Refused(e) => e.number(),
-            HullAnswer::Hull(filled) => give(&layout::hull_words(filled), out),
-        },
+        Err(e) => e.number(),
+        Ok(h) => give_words(
+            check_hull(file, map_of(map), h, marks).map(layout::hull_words),
+            out,
+        ),
     }
 }

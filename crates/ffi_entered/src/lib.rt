@@ -1,31 +1,19 @@
 // The nodes that point walks, leaf lookups and traces enter, as words in lists that a caller lends.
 #![tactic(auto)]
 
-ghost use Rattle.std.specs.Prelude.{◌≡◌, ◌≤◌, length};
-ghost use Rattle.format.specs.Answer.{mapped};
-ghost use Rattle.words.specs.Words.{written, left, given, number_words};
-ghost use Rattle.entered.specs.Answers.{entered_answer};
+ghost use Rattle.std.specs.Prelude.{◌≡◌};
+ghost use Rattle.words.specs.Words.{left};
 ghost use Rattle.ffi_entered.specs.Calls as Calls;
 
 use entered::traced::nodes_of_trace;
-use entered::walked::{EnteredAnswer, nodes_to_leaf, nodes_to_point};
+use entered::walked::{nodes_to_leaf, nodes_to_point};
 use ffi_hull::layout;
-use hull::collision::HullAnswer;
-use words::{LIST_TOO_SHORT, give};
-
-fn give_count(entered: EnteredAnswer, out: &mut [u64]) -> u32
-    requires { 1 ≤ length out.old }
-    ensures { written result out.new ≡ given (mapped number_words (entered_answer entered)) out.old }
-{
-    match entered {
-        EnteredAnswer::Refused(e) => e.number(),
-        EnteredAnswer::Count(n) => give(&[n as u64], out),
-    }
-}
+use words::{LIST_TOO_SHORT, give_number};
 
 // The nodes entered on the way to the contents at a point of a hull, at the front of `list`, and their count. 22: a map of fewer than 31
 // words, a hull of fewer than 9, a point of fewer than 3 floats or no word for the count; 20: a hull of no table; 22 again, last of all: a
 // list of too few entries.
+#[tactic(auto, unfolding(crate::specs::Calls::bsp_contents_nodes))]
 pub fn contents_nodes(
     file: &[u8],
     map: &[u32],
@@ -49,16 +37,17 @@ pub fn contents_nodes(
         return LIST_TOO_SHORT;
     }
     match layout::walked_hull(hull) {
-        HullAnswer::Refused(e) => e.number(),
-        HullAnswer::Hull(h) => {
+        Err(e) => e.number(),
+        Ok(h) => {
             let m = layout::walked_map(map);
             let p = layout::first_point(point);
-            give_count(nodes_to_point(file, m, h, p, list), out)
+            give_number(nodes_to_point(file, m, h, p, list), out)
         }
     }
 }
 
 // The same on the way to the leaf that a point is in, from a render node on.
+#[tactic(auto, unfolding(crate::specs::Calls::bsp_find_leaf_nodes), using(words::proofs::Giving::counts, ffi_hull::proofs::Walked::same_leaf_table))]
 pub fn find_leaf_nodes(
     file: &[u8],
     map: &[u32],
@@ -80,10 +69,11 @@ pub fn find_leaf_nodes(
     }
     let m = layout::walked_map(map);
     let p = layout::first_point(point);
-    give_count(nodes_to_leaf(file, m, root as usize, p, list), out)
+    give_number(nodes_to_leaf(file, m, root as usize, p, list), out)
 }
 
 // The same for the trace of a segment through a hull, of 6 floats.
+#[tactic(auto, unfolding(crate::specs::Calls::bsp_trace_nodes))]
 pub fn trace_nodes(
     file: &[u8],
     map: &[u32],
@@ -107,12 +97,12 @@ pub fn trace_nodes(
         return LIST_TOO_SHORT;
     }
     match layout::walked_hull(hull) {
-        HullAnswer::Refused(e) => e.number(),
-        HullAnswer::Hull(h) => {
+        Err(e) => e.number(),
+        Ok(h) => {
             let m = layout::walked_map(map);
             let start = layout::first_point(segment);
             let end = layout::second_point(segment);
-            give_count(nodes_of_trace(file, m, h, start, end, list), out)
+            give_number(nodes_of_trace(file, m, h, start, end, list), out)
         }
     }
 }

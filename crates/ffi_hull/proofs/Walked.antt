@@ -1,5 +1,8 @@
 -- A walk or a trace goes by its own sections and, in a node table, by no bounds: what is left out of the map record and of the hull does
 -- not change the table. Assumes nothing.
+use Rattle.std.proofs.Common.{Ok, Err}
+use Rattle.std.specs.Prelude.{Result}
+use Rattle.format.specs.Answers.{answer_of}
 use Prim.Native.Nat.{ℕ, ◌<◌, ◌≤◌}
 use mathlib.Core.Path.{◌≡◌, refl, sym, ap, ◌∙◌}
 use mathlib.Core.Bool.{Bool, true, false, cond}
@@ -26,10 +29,7 @@ use Rattle.nodes.specs.declared.table.HullTable.{HullTable}
 use Rattle.nodes.specs.declared.table.HullTable.TheVariants.{Render, Clip, Box}
 use Rattle.nodes.specs.declared.table.Tables.{Tables}
 use Rattle.hull.specs.Hull.{hull_table}
-use Rattle.hull.specs.Answers.{hull_answer}
 use Rattle.hull.specs.declared.collision.BspCollisionHull.{BspCollisionHull}
-use Rattle.hull.specs.declared.collision.HullAnswer.{HullAnswer}
-use Rattle.hull.specs.declared.collision.HullAnswer.TheVariants.{Hull, Refused}
 use Rattle.ffi_hull.specs.Layout.{hull_asked, hull_in, hull_from, flat_hull, walked_from, walked_map}
 
 -- ---- the map record
@@ -70,26 +70,26 @@ table_flat s ws m false = refl
 
 -- ---- what is asked of a hull that is given by words, through the hull and the map record that are read of them
 
-module _ {A : Type 0} (s ms ws : List ℕ) (ask : Table End BspLeafContents → ℕ → Answer A) (r : HullAnswer) (is-r : hull_answer r ≡ walked_from ws) where
+module _ {A : Type 0} (s ms ws : List ℕ) (ask : Table End BspLeafContents → ℕ → Answer A) (r : Result BspCollisionHull Refusal) (is-r : answer_of r ≡ walked_from ws) where
   abbrev of : BspData → BspCollisionHull → Answer A
   of m h = ask (hull_table s m h) h.node_id
 
-  read : then_answer (hull_answer r) (of (map_of ms)) ≡ then_answer (hull_from ws) (of (map_of ms))
+  read : then_answer (answer_of r) (of (map_of ms)) ≡ then_answer (hull_from ws) (of (map_of ms))
   read =
       ap (λ (x : Answer BspCollisionHull). then_answer x (of (map_of ms))) is-r
       ∙ as_walked ws (of (map_of ms)) (λ b. ap (λ (T : Table End BspLeafContents). ask T (get_or ws 1 0)) (table_flat s ws (map_of ms) b))
 
   -- the words are no hull's
-  pub no_hull : (e : Refusal) → r ≡ Refused e → (k : ℕ) → k ≡ number_of e → refused k ≡ then_answer (hull_from ws) (of (map_of ms))
-  no_hull e q k is-k = ap refused is-k ∙ ap (λ (x : HullAnswer). then_answer (hull_answer x) (of (map_of ms))) (sym q) ∙ read
+  pub no_hull : (e : Refusal) → r ≡ Err e → (k : ℕ) → k ≡ number_of e → refused k ≡ then_answer (hull_from ws) (of (map_of ms))
+  no_hull e q k is-k = ap refused is-k ∙ ap (λ (x : Result BspCollisionHull Refusal). then_answer (answer_of x) (of (map_of ms))) (sym q) ∙ read
 
   -- the words are the hull h's
-  module _ (h : BspCollisionHull) (q : r ≡ Hull h) (m : BspData) (is_m : m ≡ walked_map ms) where
+  module _ (h : BspCollisionHull) (q : r ≡ Ok h) (m : BspData) (is_m : m ≡ walked_map ms) where
     pub the_hull : ask (hull_table s m h) h.node_id ≡ then_answer (hull_from ws) (of (map_of ms))
     the_hull =
         ap (λ (x : BspData). of x h) is_m
         ∙ ap (λ (T : Table End BspLeafContents). ask T h.node_id) (same_hull_table s ms h)
-        ∙ ap (λ (x : HullAnswer). then_answer (hull_answer x) (of (map_of ms))) (sym q) ∙ read
+        ∙ ap (λ (x : Result BspCollisionHull Refusal). then_answer (answer_of x) (of (map_of ms))) (sym q) ∙ read
 
     -- and the tables are made of it
     pub the_tables : (t : Tables) → t ≡ tables_of m h.table h.mins h.maxs → ask (Fast.table s t) h.node_id ≡ then_answer (hull_from ws) (of (map_of ms))
@@ -108,7 +108,7 @@ module _ (ws : List ℕ) (n : ℕ) (is_n : n ≡ get_or ws 0 0) (l : n < 2) wher
   pub flat_tables : {A : Type 0} (s ms : List ℕ) (ask : Table End BspLeafContents → ℕ → Answer A) (t : Tables) → t ≡ tables_of (walked_map ms) (file_table (eqb n 0)) origin origin
       → ask (Fast.table s t) (get_or ws 1 0) ≡ then_answer (hull_from ws) (λ h. ask (hull_table s (map_of ms) h) h.node_id)
   flat_tables s ms ask t is-t =
-      the_tables s ms ws ask (Hull (flat_hull (eqb n 0) ws)) is_flat (flat_hull (eqb n 0) ws) refl (walked_map ms) refl t is-t
+      the_tables s ms ws ask (Ok (flat_hull (eqb n 0) ws)) is_flat (flat_hull (eqb n 0) ws) refl (walked_map ms) refl t is-t
 
 -- ---- a call that asks something of a hull by words: its four lists are long enough
 

@@ -5,12 +5,13 @@ ghost use Rattle.std.specs.Prelude.{◌≡◌};
 ghost use Rattle.words.specs.Words.{written};
 ghost use Rattle.ffi_hull.specs.Calls as Calls;
 
-use words::{LIST_TOO_SHORT, map_of};
+use hull::collision::BspCollisionHull;
+use words::{LIST_TOO_SHORT, give_words, map_of};
 
-mod answer;
 pub mod layout;
 
 // The hull of a model. 22: a map of fewer than 31 words or a list of fewer than 11.
+#[tactic(auto, using(words::proofs::Giving::told_given), unfolding(crate::specs::Calls::bsp_hull))]
 pub fn hull_of_model(file: &[u8], map: &[u32], model: u64, index: u64, hull: &mut [u64]) -> u32
     ensures { written result hull.new ≡ Calls.bsp_hull file.now map.now model index hull.old }
 {
@@ -20,13 +21,16 @@ pub fn hull_of_model(file: &[u8], map: &[u32], model: u64, index: u64, hull: &mu
     if hull.len() < layout::HULL_WORDS {
         return LIST_TOO_SHORT;
     }
-    answer::give_hull(
-        hull::collision::hull(file, map_of(map), model as usize, index as usize),
+    give_words(
+        hull::collision::hull(file, map_of(map), model as usize, index as usize).map(
+            layout::hull_words,
+        ),
         hull,
     )
 }
 
 // The hull of a box: mins, then maxs. 22: bounds of fewer than 6 floats or a list of fewer than 11.
+#[tactic(auto, using(words::proofs::Giving::told_given), unfolding(crate::specs::Calls::bsp_box))]
 pub fn hull_of_box(bounds: &[f32], hull: &mut [u64]) -> u32
     ensures { written result hull.new ≡ Calls.bsp_box bounds.now hull.old }
 {
@@ -38,8 +42,8 @@ pub fn hull_of_box(bounds: &[f32], hull: &mut [u64]) -> u32
     }
     let mins = layout::first_point(bounds);
     let maxs = layout::second_point(bounds);
-    answer::give_hull(
-        hull::collision::BspCollisionHull::for_bounds(mins, maxs),
+    give_words(
+        BspCollisionHull::for_bounds(mins, maxs).map(layout::hull_words),
         hull,
     )
 }

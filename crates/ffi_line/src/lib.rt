@@ -10,9 +10,8 @@ ghost use Rattle.ffi_line.specs.Calls as Calls;
 
 use ffi_hull::layout;
 use format::section::BspData;
-use hull::collision::{BspCollisionHull, HullAnswer};
+use hull::collision::BspCollisionHull;
 use line::state::LineTrace;
-use line::tracing::LineAnswer;
 use math::Vector3;
 use words::{LIST_TOO_SHORT, flag_word, float_word, give};
 
@@ -50,8 +49,8 @@ fn give_line(
     ensures { written result out.new ≡ given (mapped Calls.line_words (whole_line (hull_table file.now map hull) hull.node_id start end)) out.old }
 {
     match line::tracing::trace_line(file, map, hull, start, end) {
-        LineAnswer::Refused(e) => e.number(),
-        LineAnswer::Line(value) => give(&line_words(value), out),
+        Err(e) => e.number(),
+        Ok(value) => give(&line_words(value), out),
     }
 }
 
@@ -73,8 +72,8 @@ pub fn trace_line(file: &[u8], map: &[u32], hull: &[u64], segment: &[f32], out: 
         return LIST_TOO_SHORT;
     }
     match layout::walked_hull(hull) {
-        HullAnswer::Refused(e) => e.number(),
-        HullAnswer::Hull(h) => give_line(
+        Err(e) => e.number(),
+        Ok(h) => give_line(
             file,
             layout::walked_map(map),
             h,

@@ -9,6 +9,7 @@ use math::{
     Alignment, Axis, Hyperplane, HyperplaneSide, LinePlaneIntersect, PointIntersection, Vector3,
 };
 
+#[tactic(auto, unfolding(crate::specs::FloatWords::axis_plane))]
 fn axis_plane(axis: u32, dist: f32) -> Hyperplane
     ensures { result ≡ Words.axis_plane axis dist }
 {
@@ -21,6 +22,7 @@ fn axis_plane(axis: u32, dist: f32) -> Hyperplane
     Hyperplane::axis_z(dist)
 }
 
+#[tactic(auto, unfolding(crate::specs::FloatWords::plane_given))]
 pub fn plane_given(kind: u32, nx: f32, ny: f32, nz: f32, dist: f32) -> Hyperplane
     ensures { result ≡ Words.plane_given kind nx ny nz dist }
 {
@@ -57,6 +59,7 @@ fn kind_of(alignment: Alignment) -> u32
     }
 }
 
+// By a match, as the other words: the number is the interface's and no discriminant.
 fn side_word(side: HyperplaneSide) -> u32
     ensures { result ≡ Words.side_word side }
 {
@@ -67,6 +70,7 @@ fn side_word(side: HyperplaneSide) -> u32
 }
 
 // Word number `word` of a plane.
+#[tactic(auto, unfolding(crate::specs::FloatWords::plane_words))]
 pub fn plane_word(plane: Hyperplane, word: u32) -> u32
     ensures { result ≡ get_or (Words.plane_words plane) word 0 }
 {
@@ -83,6 +87,7 @@ pub fn plane_word(plane: Hyperplane, word: u32) -> u32
 }
 
 // Word number `word` of a crossing at a point.
+#[tactic(auto, unfolding(crate::specs::FloatWords::point_words))]
 fn point_word(crossing: PointIntersection, word: u32) -> u32
     ensures { result ≡ get_or (Words.point_words crossing) word 0 }
 {
@@ -114,6 +119,7 @@ pub extern "C" fn plane_axis_word(axis: u32, dist: f32, word: u32) -> u32
     plane_word(axis_plane(axis, dist), word)
 }
 
+// Each exported name is a function of its own: the interface for C asks it.
 #[unsafe(no_mangle)]
 pub extern "C" fn plane_new_word(nx: f32, ny: f32, nz: f32, dist: f32, word: u32) -> u32
     ensures { result ≡ get_or (Words.plane_words (Pl.new_plane (Vec.vector nx ny nz) dist)) word 0 }

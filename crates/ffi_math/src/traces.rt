@@ -24,6 +24,7 @@ fn float_at(words: &[u32], at: usize) -> f32
     from_bits(word_at(words, at))
 }
 
+// (Other words: a float of 32 bits each; `vector_at` of `ffi_hull` takes words of 64.)
 fn point_at(words: &[u32], at: usize) -> Vector3
     requires { at ≤ 13 }
     ensures { result ≡ Traces.point_at words.now at }
@@ -35,18 +36,21 @@ fn point_at(words: &[u32], at: usize) -> Vector3
     }
 }
 
+#[tactic(auto, unfolding(crate::specs::TraceWords::contents_given))]
 fn contents_given(words: &[u32]) -> BspLeafContents
     ensures { result ≡ Traces.contents_given words.now }
 {
     contents_of(word_at(words, 0)).unwrap_or(BspLeafContents::Empty)
 }
 
+#[tactic(auto, unfolding(crate::specs::TraceWords::start_given))]
 fn start_given(words: &[u32]) -> TraceStart
     ensures { result ≡ Traces.start_given words.now }
 {
     TraceStart::new(point_at(words, 2), float_at(words, 5))
 }
 
+#[tactic(auto, unfolding(crate::specs::TraceWords::end_given))]
 fn end_given(words: &[u32]) -> TraceEnd
     ensures { result ≡ Traces.end_given words.now }
 {
@@ -64,6 +68,7 @@ fn end_given(words: &[u32]) -> TraceEnd
     TraceEnd::boundary(point, float_at(words, 10), plane)
 }
 
+#[tactic(auto, unfolding(crate::specs::TraceWords::trace_given))]
 fn trace_given(words: &[u32]) -> Trace
     ensures { result ≡ Traces.trace_given words.now }
 {
@@ -76,6 +81,7 @@ fn trace_given(words: &[u32]) -> Trace
 }
 
 // Word number `word` of an end on a plane.
+#[tactic(auto, unfolding(crate::specs::TraceWords::boundary_words))]
 fn boundary_word(boundary: TraceEndBoundary, word: u32) -> u32
     ensures { result ≡ get_or (Traces.boundary_words boundary) word 0 }
 {
@@ -98,6 +104,7 @@ fn kind_word(kind: TraceEndKind, word: u32) -> u32
 }
 
 // Word number `word` of a trace's end.
+#[tactic(auto, unfolding(crate::specs::TraceWords::end_words))]
 fn end_word(end: TraceEnd, word: u32) -> u32
     ensures { result ≡ get_or (Traces.end_words end) word 0 }
 {
@@ -117,6 +124,7 @@ fn flag_word(flag: bool) -> u32
 }
 
 // Word number `word` of a trace.
+#[tactic(auto, unfolding(crate::specs::TraceWords::trace_words))]
 fn trace_word(trace: Trace, word: u32) -> u32
     ensures { result ≡ get_or (Traces.trace_words trace) word 0 }
 {

@@ -6,6 +6,7 @@ ghost use Rattle.ffi_math.specs.FloatWords.{coordinate_of};
 use math::Vector3;
 
 // The coordinate number `part`.
+#[tactic(auto, unfolding(crate::specs::FloatWords::coordinate_of))]
 pub fn part_of(v: Vector3, part: u32) -> f32
     ensures { result ≡ coordinate_of v part }
 {

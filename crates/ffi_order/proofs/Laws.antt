@@ -1,11 +1,5 @@
 -- A walk or a trace over a lent table goes by the planes alone: what is left out of the map record does not change it. Assumes nothing.
-use Prim.Native.Nat.{ℕ, ◌≤◌}
-use native.Mathlib.Omega.{arith}
-use lib.ListN.{length}
-use Rattle.phys.specs.declared.Trace.{Trace}
-use Rattle.phys.specs.declared.TraceEndKind.{TraceEndKind}
-use Rattle.phys.specs.declared.TraceEndKind.TheVariants.{Terminal, Boundary}
-use Rattle.walk_words.specs.Layout.{kind_words, trace_words}
+use Prim.Native.Nat.{ℕ}
 use mathlib.Core.Path.{◌≡◌, refl, sym, ap, ◌∙◌}
 use mathlib.Core.List.{List}
 use lib.IntN.{ℤ}
@@ -36,11 +30,3 @@ module _ (s ws : List ℕ) (list : List ℤ) where
     where
       planes_same : ordered (Fast.table s (tables_of (planes_map ws) Clip none none)) list ≡ ordered (Fast.table s (tables_of (map_of ws) Clip none none)) list
       planes_same = refl
-
--- a trace has seventeen words
-seven : (k : TraceEndKind) → length (kind_words k) ≡ 7
-seven Terminal = refl
-seven (Boundary b) = refl
-
-pub long : (a : Trace × ℕ) (n : ℕ) → 17 ≤ n → length (trace_words a) ≤ n
-long a n h = let e = seven a.0.end.kind in omega arith

@@ -1,36 +1,21 @@
 // Nodes in walking order, and contents and traces taken from them, over numbers and lists that a caller lends.
 #![tactic(auto)]
 
-ghost use Rattle.std.specs.Prelude.{◌≡◌, ◌≤◌, length};
-ghost use Rattle.format.specs.Answer.{mapped};
-ghost use Rattle.words.specs.Words.{written, given, number_words};
-ghost use Rattle.nodes.specs.Tables.{file_table};
-ghost use Rattle.hull.specs.Answers.{traced_answer, contents_answer};
-ghost use Rattle.order.specs.Answers.{ordered_answer};
-ghost use Rattle.walk_words.specs.Layout.{contents_words, trace_words};
+ghost use Rattle.std.specs.Prelude.{◌≡◌};
+ghost use Rattle.words.specs.Words.{written};
+ghost use Rattle.walk_words.specs.Layout as Layout;
 ghost use Rattle.ffi_order.specs.Calls as Calls;
 ghost use Rattle.ffi_order.specs.Private as Private;
 
 use ffi_hull::layout;
 use format::section::{BspData, BspFileSection};
-use hull::point::PointContents;
-use hull::tracing::Traced;
 use nodes::table::HullTable;
-use order::{Ordered, order_nodes};
+use order::order_nodes;
 use ordered::contents::contents_in_order;
 use ordered::tracing::trace_in_order;
-use walk_words::trace_words;
-use words::{LIST_TOO_SHORT, NO_SUCH_RECORD, give, map_of, word_at};
-
-fn node_table(render: bool) -> HullTable
-    ensures { result ≡ file_table render }
-{
-    if render {
-        HullTable::Render
-    } else {
-        HullTable::Clip
-    }
-}
+use phys::Trace;
+use walk_words::{contents_words, trace_words};
+use words::{LIST_TOO_SHORT, NO_SUCH_RECORD, give_number, give_words, map_of, word_at};
 
 // The section of the planes, from a map record's words; the others are left empty.
 fn planes_map(words: &[u32]) -> BspData
@@ -60,18 +45,9 @@ fn planes_map(words: &[u32]) -> BspData
     }
 }
 
-fn give_count(ordered: Ordered, out: &mut [u64]) -> u32
-    requires { 1 ≤ length out.old }
-    ensures { written result out.new ≡ given (mapped number_words (ordered_answer ordered)) out.old }
-{
-    match ordered {
-        Ordered::Refused(e) => e.number(),
-        Ordered::Nodes(n) => give(&[n as u64], out),
-    }
-}
-
 // Writes the nodes of a root's tree in walking order into `list`, and their number. 22: a map of fewer than 31 words or no word for the
 // number; 20: a table above 1; then the call's own refusals.
+#[tactic(auto, unfolding(crate::specs::Calls::bsp_order))]
 pub fn order(
     file: &[u8],
     map: &[u32],
@@ -93,22 +69,13 @@ pub fn order(
         return NO_SUCH_RECORD;
     }
     let m = map_of(map);
-    let kind = node_table(table == 0);
-    give_count(order_nodes(file, m, kind, root as usize, marks, list), out)
-}
-
-fn give_contents(contents: PointContents, out: &mut [u64]) -> u32
-    requires { 2 ≤ length out.old }
-    ensures { written result out.new ≡ given (mapped contents_words (contents_answer contents)) out.old }
-{
-    match contents {
-        PointContents::Refused(e) => e.number(),
-        PointContents::Contents(c, visits) => give(&[c.code() as u64, visits], out),
-    }
+    let kind = HullTable::of_nodes(table == 0);
+    give_number(order_nodes(file, m, kind, root as usize, marks, list), out)
 }
 
 // The contents at a point, from a place of a table in walking order. 22: a map of fewer than 31 words, a point of fewer than 3 floats or a
 // list of fewer than 2.
+#[tactic(auto, unfolding(crate::specs::Calls::bsp_order_contents), using(crate::proofs::Laws::same_rows, words::proofs::Giving::told_given))]
 pub fn contents(
     file: &[u8],
     map: &[u32],
@@ -129,24 +96,22 @@ pub fn contents(
         return LIST_TOO_SHORT;
     }
     let p = layout::first_point(point);
-    give_contents(
-        contents_in_order(file, planes_map(map), list, root as usize, p),
+    give_words(
+        contents_in_order(file, planes_map(map), list, root as usize, p).map(contents_words),
         out,
     )
 }
 
-fn give_trace(traced: Traced, out: &mut [u64]) -> u32
-    requires { 17 ≤ length out.old }
-    ensures { written result out.new ≡ given (mapped trace_words (traced_answer traced)) out.old }
+fn words_of(traced: (Trace, u64)) -> [u64; 17]
+    ensures { result ≡ Layout.trace_words traced }
 {
-    match traced {
-        Traced::Refused(e) => e.number(),
-        Traced::Trace(value, visits) => give(&trace_words(value, visits), out),
-    }
+    let (trace, visits) = traced;
+    trace_words(trace, visits)
 }
 
 // The trace of a segment, from a place of a table in walking order. 22: a map of fewer than 31 words, a segment of fewer than 6 floats or a
 // list of fewer than 17.
+#[tactic(auto, unfolding(crate::specs::Calls::bsp_order_trace), using(crate::proofs::Laws::same_rows, words::proofs::Giving::told_given))]
 pub fn trace(
     file: &[u8],
     map: &[u32],
@@ -168,8 +133,8 @@ pub fn trace(
     }
     let a = layout::first_point(segment);
     let b = layout::second_point(segment);
-    give_trace(
-        trace_in_order(file, planes_map(map), list, root as usize, a, b),
+    give_words(
+        trace_in_order(file, planes_map(map), list, root as usize, a, b).map(words_of),
         out,
     )
 }

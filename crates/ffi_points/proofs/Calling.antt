@@ -16,12 +16,13 @@ use Rattle.points.proofs.Finished.{points_count}
 use Rattle.ffi_hull.specs.Layout.{hull_asked, hull_from}
 use Rattle.ffi_points.specs.Calls.{bsp_contents_points}
 
+-- what is asked of a hull
+abbrev pub asked : List ℕ → List ℕ → List ℕ → List Float → Answer (List ℕ × ℕ)
+asked s map hull cs = then_answer (hull_from hull) (λ h. codes_and_reads (hull_table s (map_of map) h) h.node_id (points_of cs))
+
 module _ (s map hull : List ℕ) (cs : List Float) (list out : List ℕ) where
   abbrev call : Left
   call = bsp_contents_points s map hull cs list out
-
-  abbrev asked : Answer (List ℕ × ℕ)
-  asked = then_answer (hull_from hull) (λ h. codes_and_reads (hull_table s (map_of map) h) h.node_id (points_of cs))
 
   pub too_many : 3072 < length cs → left 24 list out ≡ call
   unfolding bsp_contents_points
@@ -34,7 +35,7 @@ module _ (s map hull : List ℕ) (cs : List Float) (list out : List ℕ) where
 
     module _ (in-threes : length cs % 3 ≡ 0) where
       abbrev rest : Left
-      rest = enough 31 map list out (enough hull_asked hull list out (enough 1 out list out (enough (length (points_of cs)) list list out (listed_in (filled asked list) out))))
+      rest = enough 31 map list out (enough hull_asked hull list out (enough 1 out list out (enough (length (points_of cs)) list list out (listed_in (filled (asked s map hull cs) list) out))))
 
       are_points : not_points cs ≡ false
       are_points = rw (le-ltb 3072 (length cs) few, eq-eqb (length cs % 3) 0 in-threes)
@@ -61,7 +62,7 @@ module _ (s map hull : List ℕ) (cs : List Float) (list out : List ℕ) where
             pub short_list : length list < length cs / 3 → left 22 list out ≡ call
             short_list e = let e' : length list < length (points_of cs) = omega (arith, count) in sym (opened ∙ (simp (le-ltb _ _ a, le-ltb _ _ b, le-ltb _ _ d, lt-ltb _ _ e')))
 
-            pub at_hull : length cs / 3 ≤ length list → (x : Answer (List ℕ × ℕ)) → x ≡ asked → listed_in (filled x list) out ≡ call
+            pub at_hull : length cs / 3 ≤ length list → (x : Answer (List ℕ × ℕ)) → x ≡ asked s map hull cs → listed_in (filled x list) out ≡ call
             at_hull e x q =
                 let e' : length (points_of cs) ≤ length list = omega (arith, count) in
                 ap (λ (y : Answer (List ℕ × ℕ)). listed_in (filled y list) out) q ∙ sym (opened ∙ (simp (le-ltb _ _ a, le-ltb _ _ b, le-ltb _ _ d, le-ltb _ _ e')))

@@ -5,7 +5,6 @@ ghost use Rattle.std.specs.Prelude.{◌≡◌};
 ghost use Rattle.words.specs.Words.{written};
 ghost use Rattle.ffi_records.specs.Calls as Calls;
 
-use answer::{give_found, number_words};
 use faces::extents::face;
 use models::model::model;
 use record_words::{
@@ -17,13 +16,11 @@ use records::leaf::leaf;
 use records::node::{collision_node, render_node};
 use records::plane::{plane, vertex};
 use textures::access::texture_info;
-use words::{LIST_TOO_SHORT, NO_SUCH_RECORD, map_of, plane_words};
-
-mod answer;
+use words::{LIST_TOO_SHORT, NO_SUCH_RECORD, give_number, give_words, map_of, plane_words};
 
 // The record of an index, in the words of its section. 22: a map of fewer than 31 words or a list of fewer than 20; 20: a section that has
 // no records here.
-#[tactic(auto, unfolding(crate::specs::Calls::record_in, crate::specs::Calls::bsp_record))]
+#[tactic(auto, using(words::proofs::Giving::told_given), unfolding(crate::specs::Calls::record_in, crate::specs::Calls::bsp_record))]
 pub fn record(file: &[u8], map: &[u32], section: u32, index: u64, out: &mut [u64]) -> u32
     ensures { written result out.new ≡ Calls.bsp_record file.now map.now section index out.old }
 {
@@ -36,20 +33,20 @@ pub fn record(file: &[u8], map: &[u32], section: u32, index: u64, out: &mut [u64
     let data = map_of(map);
     let at = index as usize;
     match section {
-        1 => give_found(plane(file, data, at).map(plane_words), out),
-        3 => give_found(vertex(file, data, at).map(vector_words), out),
-        5 => give_found(render_node(file, data, at).map(render_node_words), out),
-        6 => give_found(texture_info(file, data, at).map(texinfo_words), out),
-        7 => give_found(face(file, data, at).map(face_words), out),
-        9 => give_found(
+        1 => give_words(plane(file, data, at).map(plane_words), out),
+        3 => give_words(vertex(file, data, at).map(vector_words), out),
+        5 => give_words(render_node(file, data, at).map(render_node_words), out),
+        6 => give_words(texture_info(file, data, at).map(texinfo_words), out),
+        7 => give_words(face(file, data, at).map(face_words), out),
+        9 => give_words(
             collision_node(file, data, at).map(collision_node_words),
             out,
         ),
-        10 => give_found(leaf(file, data, at).map(leaf_words), out),
-        11 => give_found(facelist(file, data, at).map(number_words), out),
-        12 => give_found(edge(file, data, at).map(edge_words), out),
-        13 => give_found(edgelist(file, data, at).map(edge_index_words), out),
-        14 => give_found(model(file, data, at).map(model_words), out),
+        10 => give_words(leaf(file, data, at).map(leaf_words), out),
+        11 => give_number(facelist(file, data, at), out),
+        12 => give_words(edge(file, data, at).map(edge_words), out),
+        13 => give_words(edgelist(file, data, at).map(edge_index_words), out),
+        14 => give_words(model(file, data, at).map(model_words), out),
         _ => NO_SUCH_RECORD,
     }
 }

@@ -1,32 +1,13 @@
 // Body sizes as words, and from words.
-ghost use Rattle.std.specs.Prelude.{◌≡◌, get_or, ◌+◌, ◌≤◌};
-ghost use Rattle.ffi_hull.specs.Layout.{float_of, vector_at};
+ghost use Rattle.std.specs.Prelude.{◌≡◌};
 ghost use Rattle.ffi_sizes.specs.Layout as Layout;
 
-use math::Vector3;
+use ffi_hull::layout::vector_at;
 use sizes::{BodySizes, Bounds};
-use words::{float_word, word_at_u64};
+use words::float_word;
 
 // How many words body sizes have.
 pub const SIZES_WORDS: usize = 12;
-
-// The float of the low 32 bits of the word at a place.
-fn float_of(words: &[u64], at: usize) -> f32
-    ensures { result ≡ float_of (get_or words.now at 0) }
-{
-    float::num::from_bits((word_at_u64(words, at) % 4294967296) as u32)
-}
-
-fn vector_of(words: &[u64], at: usize) -> Vector3
-    requires { at ≤ 9 }
-    ensures { result ≡ vector_at words.now at }
-{
-    Vector3 {
-        x: float_of(words, at),
-        y: float_of(words, at + 1),
-        z: float_of(words, at + 2),
-    }
-}
 
 // Twelve words as body sizes, as they stand.
 pub fn sizes_in(words: &[u64]) -> BodySizes
@@ -34,12 +15,12 @@ pub fn sizes_in(words: &[u64]) -> BodySizes
 {
     BodySizes {
         hull_1: Bounds {
-            mins: vector_of(words, 0),
-            maxs: vector_of(words, 3),
+            mins: vector_at(words, 0),
+            maxs: vector_at(words, 3),
         },
         hull_2: Bounds {
-            mins: vector_of(words, 6),
-            maxs: vector_of(words, 9),
+            mins: vector_at(words, 6),
+            maxs: vector_at(words, 9),
         },
     }
 }

@@ -5,10 +5,11 @@ ghost use Rattle.std.specs.Prelude.{◌≡◌};
 ghost use Rattle.words.specs.Words.{left};
 ghost use Rattle.ffi_team.specs.Calls as Calls;
 
-use words::{LIST_TOO_SHORT, give, map_of};
+use words::{LIST_TOO_SHORT, give_number, map_of};
 
 // The leaves that one of the players sees, at the front of `list`, and their count. 22: a map of fewer than 31 words or no word for the
 // count; 22 again, last of all: a list of too few entries.
+#[tactic(auto, using(words::proofs::Giving::counts, words::proofs::Giving::told_given), unfolding(crate::specs::Calls::bsp_pvs_team))]
 pub fn pvs_team(
     file: &[u8],
     map: &[u32],
@@ -22,8 +23,8 @@ pub fn pvs_team(
     if map.len() < 31 || out.is_empty() {
         return LIST_TOO_SHORT;
     }
-    match team::pvs_team(file, map_of(map), leaves, leaf_count as usize, list) {
-        Ok(n) => give(&[n as u64], out),
-        Err(e) => e.number(),
-    }
+    give_number(
+        team::pvs_team(file, map_of(map), leaves, leaf_count as usize, list),
+        out,
+    )
 }

@@ -1,27 +1,14 @@
 // The textures of a map by their new numbers and by their numbers in the file, as words in a list that a caller lends.
 #![tactic(auto)]
 
-ghost use Rattle.std.specs.Prelude.{◌≡◌, ◌≤◌, length};
-ghost use Rattle.format.specs.Answers.{answer_of};
-ghost use Rattle.format.specs.Answer.{mapped};
-ghost use Rattle.words.specs.Words.{written, left, given, number_words};
+ghost use Rattle.std.specs.Prelude.{◌≡◌};
+ghost use Rattle.words.specs.Words.{written, left};
 ghost use Rattle.ffi_textures.specs.Calls as Calls;
 
-use format::refusal::Answer;
 use texture_list::answer::BspTexture;
 use texture_numbers::texture_numbers;
 use textures::access::{frame_texture, static_texture};
-use words::{LIST_TOO_SHORT, flag_word, give, map_of};
-
-fn give_number(number: Answer<u32>, out: &mut [u64]) -> u32
-    requires { 1 ≤ length out.old }
-    ensures { written result out.new ≡ given (mapped number_words (answer_of number)) out.old }
-{
-    match number {
-        Err(e) => e.number(),
-        Ok(n) => give(&[n as u64], out),
-    }
-}
+use words::{LIST_TOO_SHORT, flag_word, give, give_number, map_of};
 
 // The words of a texture: whether it is there, its name, its width and height.
 fn texture_words(texture: BspTexture) -> [u64; 5]
@@ -34,16 +21,6 @@ fn texture_words(texture: BspTexture) -> [u64; 5]
         texture.width as u64,
         texture.height as u64,
     ]
-}
-
-fn give_texture(texture: Answer<BspTexture>, out: &mut [u64]) -> u32
-    requires { 5 ≤ length out.old }
-    ensures { written result out.new ≡ given (mapped Calls.texture_words (answer_of texture)) out.old }
-{
-    match texture {
-        Err(e) => e.number(),
-        Ok(x) => give(&texture_words(x), out),
-    }
 }
 
 // The file's number of the frame at a place of a group, 0 the primary one and 1 the alternate one, of the texture of a new number. 22: a map
@@ -61,6 +38,7 @@ pub fn frame(file: &[u8], map: &[u32], number: u64, group: u32, place: u64, out:
 }
 
 // The file's number of the static texture of a new number. 22: a map of fewer than 31 words or no word for the answer.
+// In the shape of `numbers`: were the call that each hands on a closure, it would need clauses of its own for these few lines.
 pub fn static_number(file: &[u8], map: &[u32], number: u64, out: &mut [u64]) -> u32
     ensures { written result out.new ≡ Calls.bsp_texture_static file.now map.now number out.old }
 {
@@ -83,10 +61,10 @@ pub fn texture(file: &[u8], map: &[u32], index: u64, out: &mut [u64]) -> u32
     if out.len() < 5 {
         return LIST_TOO_SHORT;
     }
-    give_texture(
-        texture_list::section::texture(file, map_of(map), index),
-        out,
-    )
+    match texture_list::section::texture(file, map_of(map), index) {
+        Ok(texture) => give(&texture_words(texture), out),
+        Err(refusal) => refusal.number(),
+    }
 }
 
 // The new numbers of all textures, by their numbers in the file, at the front of `list`, and their count. 22: a map of fewer than 31 words or

@@ -13,8 +13,8 @@ ghost use Rattle.ffi_traces.specs.Calls as Calls;
 
 use ffi_hull::layout;
 use format::section::BspData;
-use hull::collision::{BspCollisionHull, HullAnswer};
-use hull::tracing::{Way, Went, plane_met, trace_way};
+use hull::collision::BspCollisionHull;
+use hull::tracing::{Went, plane_met, trace_way};
 use math::Vector3;
 use nodes::table::{Tables, tables_of};
 use words::{LIST_TOO_SHORT, flag_word, float_word, give};
@@ -72,13 +72,14 @@ fn give_trace(
     let table = hull.table;
     let t = tables_of(map, table, hull.mins, hull.maxs);
     match trace_way(file, t, hull.node_id, start, end) {
-        Way::Refused(e) => e.number(),
-        Way::Went(part) => give(&went_words(file, t, start, part), out),
+        Err(e) => e.number(),
+        Ok(part) => give(&went_words(file, t, start, part), out),
     }
 }
 
 // The trace of a segment through a hull. 22: a map of fewer than 31 words, a hull of fewer than 9, a segment of fewer than 6 floats or a
 // list of fewer than 17; 20: a hull of no table.
+#[tactic(auto, unfolding(crate::specs::Calls::bsp_trace))]
 pub fn trace(file: &[u8], map: &[u32], hull: &[u64], segment: &[f32], out: &mut [u64]) -> u32
     ensures { written result out.new ≡ Calls.bsp_trace file.now map.now hull.now segment.now out.old }
 {
@@ -95,8 +96,8 @@ pub fn trace(file: &[u8], map: &[u32], hull: &[u64], segment: &[f32], out: &mut 
         return LIST_TOO_SHORT;
     }
     match layout::walked_hull(hull) {
-        HullAnswer::Refused(e) => e.number(),
-        HullAnswer::Hull(h) => give_trace(
+        Err(e) => e.number(),
+        Ok(h) => give_trace(
             file,
             layout::walked_map(map),
             h,

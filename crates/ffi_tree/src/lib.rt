@@ -1,17 +1,15 @@
 // The tree check, as words in lists that a caller lends.
 #![tactic(auto)]
 
-ghost use Rattle.std.specs.Prelude.{◌≡◌, ◌≤◌, length};
-ghost use Rattle.format.specs.Answer.{mapped};
-ghost use Rattle.words.specs.Words.{written, left, given, number_words};
-ghost use Rattle.tree.specs.Answers.{height_answer};
+ghost use Rattle.std.specs.Prelude.{◌≡◌};
+ghost use Rattle.words.specs.Words.{left};
 ghost use Rattle.ffi_tree.specs.Calls as Calls;
 
 use nodes::table::HullTable;
-use tree::TreeChecked;
-use words::{LIST_TOO_SHORT, NO_SUCH_RECORD, give, map_of};
+use words::{LIST_TOO_SHORT, NO_SUCH_RECORD, give_number, map_of};
 
 // The node table of a number.
+#[tactic(auto, unfolding(crate::specs::Calls::table_numbered))]
 fn table_numbered(n: u32) -> Option<HullTable>
     ensures { result ≡ Calls.table_numbered n }
 {
@@ -20,16 +18,6 @@ fn table_numbered(n: u32) -> Option<HullTable>
         1 => Some(HullTable::Clip),
         2 => Some(HullTable::Box),
         _ => None,
-    }
-}
-
-fn give_height(checked: TreeChecked, out: &mut [u64]) -> u32
-    requires { 1 ≤ length out.old }
-    ensures { written result out.new ≡ given (mapped number_words (height_answer checked)) out.old }
-{
-    match checked {
-        TreeChecked::Refused(e) => e.number(),
-        TreeChecked::Height(h) => give(&[h as u64], out),
     }
 }
 
@@ -53,7 +41,7 @@ pub fn tree_check(
     }
     match table_numbered(table) {
         None => NO_SUCH_RECORD,
-        Some(t) => give_height(
+        Some(t) => give_number(
             tree::tree_check(file, map_of(map), t, root as usize, marks),
             out,
         ),

@@ -5,10 +5,11 @@ ghost use Rattle.std.specs.Prelude.{◌≡◌};
 ghost use Rattle.words.specs.Words.{left};
 ghost use Rattle.ffi_vis.specs.Calls as Calls;
 
-use words::{LIST_TOO_SHORT, give, map_of};
+use words::{LIST_TOO_SHORT, give_number, map_of};
 
 // The leaves that can be seen from a leaf, at the front of `list`, and their count. 22: a map of fewer than 31 words or no word for the
 // count; 22 again, last of all: a list of too few entries.
+#[tactic(auto, using(words::proofs::Giving::counts, words::proofs::Giving::told_given), unfolding(crate::specs::Calls::bsp_pvs))]
 pub fn pvs(
     file: &[u8],
     map: &[u32],
@@ -22,8 +23,8 @@ pub fn pvs(
     if map.len() < 31 || out.is_empty() {
         return LIST_TOO_SHORT;
     }
-    match vis::get_pvs(file, map_of(map), leaf as usize, leaf_count as usize, list) {
-        Ok(n) => give(&[n as u64], out),
-        Err(e) => e.number(),
-    }
+    give_number(
+        vis::get_pvs(file, map_of(map), leaf as usize, leaf_count as usize, list),
+        out,
+    )
 }

@@ -1,5 +1,6 @@
 -- What is said at once, where the file has all nodes and planes, is what is asked; and the words of an answer that is there.
 -- Assumes nothing.
+use Rattle.std.proofs.Common.{Ok}
 use Prim.Native.Nat.{ℕ, ◌+◌, ◌-◌, ◌*◌, ◌/◌, ◌%◌, ◌<◌, ◌≤◌}
 use native.Mathlib.Omega.{arith}
 use mathlib.Core.Bool.{true}
@@ -19,16 +20,14 @@ use Rattle.nodes.specs.Tables.{End, file_table, leaf_table}
 use Rattle.nodes.specs.Fast as Fast
 use Rattle.nodes.specs.Fast.{contents_met, tables_of}
 use Rattle.nodes.specs.Quick.{end_code, quick_answer, quick_walk, tables_by}
-use Rattle.nodes.specs.declared.read.EndContents.TheVariants as E
 use Rattle.nodes.specs.declared.table.Tables.{Tables}
-use Rattle.nodes.specs.declared.walking.WalkEnd.TheVariants.{Word}
 use Rattle.nodes.proofs.QuickTables.{quick_end, quick_code}
 use Rattle.hull.specs.Hull.{hull_table}
 use Rattle.hull.proofs.Founds.{contents_met_lem, leaf_met}
 use Rattle.ffi_hull.specs.Layout.{hull_from, walked_map}
 use Rattle.ffi_hull.proofs.Walked.{flat_tables, origin, same_leaf_table}
 use Rattle.ffi_walks.specs.Calls.{contents_words, leaf_words}
-use Rattle.ffi_walks.specs.Private.{Found}
+use Rattle.ffi_walks.specs.Quick.{Found}
 
 -- two words as one number
 pub two : {A : Type 0} (words : A → List ℕ) (a : Answer A) (x y r : ℕ) → y < 4294967296 → r ≡ x * 4294967296 + y → mapped words a ≡ answer (x ∷ y ∷ []) → Found words a r
@@ -59,7 +58,7 @@ module _ (s ms : List ℕ) (p : Vector3) (t : Tables) (root end : ℕ) (some : e
 
     by_walk : answer (met.0, v) ≡ with_visits (point_walk (Fast.table s t) root p)
     by_walk =
-        contents_met_lem s t root p (Word w v) (quick_end s (walked_map ms) origin origin (eqb n 0) t is-t root p end is_end some) w v refl (E.Contents met.0) met.1 met.0 refl
+        contents_met_lem s t root p (Ok (w, v)) (quick_end s (walked_map ms) origin origin (eqb n 0) t is-t root p end is_end some) w v refl (Ok met.0) met.1 met.0 refl
 
     pub contents_found : mapped contents_words (then_answer (hull_from ws) (λ h. with_visits (point_walk (hull_table s (map_of ms) h) h.node_id p))) ≡ answer (code ∷ v ∷ [])
     contents_found =
@@ -70,5 +69,5 @@ module _ (s ms : List ℕ) (p : Vector3) (t : Tables) (root end : ℕ) (some : e
       (is_end : quick_answer (file_table true) end ≡ quick_walk s (tables_by true t.nodes.at t.nodes.count t.planes.at t.planes.count) root p) where
     pub leaf_found : 65535 - w < t.leaves.count → mapped leaf_words (with_visits (point_walk (leaf_table s (map_of ms)) root p)) ≡ answer ((65535 - w) ∷ v ∷ [])
     leaf_found h =
-        sym (ap (mapped leaf_words) (leaf_met s (walked_map ms) origin origin t is-t root p (Word w v) (quick_end s (walked_map ms) origin origin true t is-t root p end is_end some) w v refl h
+        sym (ap (mapped leaf_words) (leaf_met s (walked_map ms) origin origin t is-t root p (Ok (w, v)) (quick_end s (walked_map ms) origin origin true t is-t root p end is_end some) w v refl h
         ∙ ap (λ (T : Table End ℕ). with_visits (point_walk T root p)) (same_leaf_table s ms p)))

@@ -1,3 +1,4 @@
 -- What the contracts of `ffi_walks` cite.
 pub mod Calls
 pub mod Private
+pub mod Quick

@@ -1,10 +1,12 @@
--- What `Root` says: `nearest_root n` is the one q with (2q - 1)² < 4n < (2q + 1)², and the bit pattern of a root. Assumes nothing.
-use Rattle.std.proofs.Common.{◌≡◌, ℕ, zero, suc, ◌+◌, ◌-◌, ◌*◌, ◌^◌, ◌<◌, ◌≤◌, Bool, true, false, cond, not, T, sym, refl, ap, ◌∙◌, subst, inl, inr, add_assoc, suc-mul, add-mul, mul-le-mul, le_antisymm, mul-suc, mul-add, arith, ltb→lt, lt→ltb, nltb→le}
+-- What `Root` says: `nearest_root n` is the one q with (2q - 1)² < 4n < (2q + 1)²; and what n is for m * 2 ^ j units, and that its root has 24 digits. Assumes nothing.
+use Rattle.std.proofs.Common.{◌≡◌, ℕ, zero, suc, ◌+◌, ◌-◌, ◌*◌, ◌/◌, ◌^◌, ◌<◌, ◌≤◌, Bool, true, false, cond, not, T, sym, refl, ap, ◌∙◌, subst, inl, inr, le_trans, le_of_eq, lt_of_lt_of_le, lt_of_not-le, not-le_of_lt, le_of_mul-le-mul_right, lt_of_mul-lt-mul_right, mul-le-mul_right, mul-lt-mul_of_pos_right, mul_assoc, mul-div_cancel, add_assoc, add-mul, mul-le-mul, le_antisymm, mul-add, arith, ltb→lt, lt→ltb, nltb→le, pow_pos, pow_mono, pow-add}
 use native.Mathlib.Nat.{mul-mul-mul_comm, pow-succ'}
 use lib.Arith.{le→nltb}
 use lib.Ieee.Bits.{is_true, is_false}
+use lib.Ieee.{size, odd}
+use lib.Ieee.Digits.{size-lt, size-le}
 use Rattle.float.proofs.Compare.{T_of, order}
-use Rattle.float.specs.Root.{below_root, digits, nearest_root}
+use Rattle.float.specs.Root.{below_root, digits, nearest_root, root_of_units}
 
 -- ---- the digits: whatever the test, it passes at the result and fails at the number after it
 
@@ -86,33 +88,71 @@ nearest_unique n q r x y = le_antisymm (under q r (no_less n r q y x)) (under r 
     under : (a b : ℕ) → (b < a → ⊥) → a ≤ b
     under a b f = elim (order b a) [ inl h ↦ absurd (f h) | inr h ↦ h ]
 
--- as the code tests it
-pub nearest_of : (n q : ℕ) → q * q < n + q → n ≤ q * q + q → Nearest n q
-nearest_of n zero a b = absurd (none n a b)
-  where
-    none : (n : ℕ) → 0 * 0 < n + 0 → n ≤ 0 * 0 + 0 → ⊥
-    none n a b = omega arith
-nearest_of n (suc p) a b =
-    let e : suc p * suc p ≡ p * p + 2 * p + 1 = square p in
-    record {
-      above = subst (λ (x : ℕ). x * x < 4 * n) (sym (odd p)) (subst (λ (x : ℕ). x < 4 * n) (sym (odd_square p)) (lower (p * p) p n (suc p * suc p) e a));
-      under = subst (λ (x : ℕ). 4 * n < x) (sym (odd_square (suc p))) (upper (suc p * suc p) (suc p) n b);
-    }
-  where
-    square : (p : ℕ) → suc p * suc p ≡ p * p + 2 * p + 1
-    square p =
-        let x = suc-mul p (suc p) in
-        let y = mul-suc p p in
-        omega arith
+-- ---- how many digits a number has
 
-    odd : (p : ℕ) → 2 * suc p - 1 ≡ 2 * p + 1
-    odd p = omega arith
+pub size_exact : (a n : ℕ) → 2 ^ a ≤ n → n < 2 ^ suc a → size n ≡ suc a
+size_exact a n lo hi = le_antisymm (size-le n (suc a) hi) (lt_of_not-le (λ (g : size n ≤ a). not-le_of_lt (lt_of_lt_of_le (size-lt n) (pow_mono g)) lo))
 
-    lower : (s p n t : ℕ) → t ≡ s + 2 * p + 1 → t < n + suc p → 4 * s + 4 * p + 1 < 4 * n
-    lower s p n t e h = omega arith
+-- ---- m * 2 ^ j units, with suc a digits: h is half of them, and n = m * 2 ^ w is the number whose root is taken
 
-    upper : (s q n : ℕ) → n ≤ s + q → 4 * n < 4 * s + 4 * q + 1
-    upper s q n h = omega arith
+module _ (m j a h w : ℕ) (lo : 2 ^ a ≤ m * 2 ^ j) (hi : m * 2 ^ j < 2 ^ suc a) (H : h ≡ suc a / 2) (W : w + 2 * h ≡ j + 47) where
+  pub scaled : m * 2 ^ w * 2 ^ (2 * h) ≡ m * 2 ^ j * 2 ^ 47
+  scaled =
+      mul_assoc m (2 ^ w) (2 ^ (2 * h))
+      ∙ ap (λ (x : ℕ). m * x) (sym (pow-add 2 w (2 * h)) ∙ ap (λ (x : ℕ). 2 ^ x) W ∙ pow-add 2 j 47)
+      ∙ sym (mul_assoc m (2 ^ j) (2 ^ 47))
 
-pub nearest_is : (n q : ℕ) → 0 < n → n < 2 ^ 48 → q * q < n + q → n ≤ q * q + q → q ≡ nearest_root n
-nearest_is n q lo hi a b = nearest_unique n q (nearest_root n) (nearest_of n q a b) (nearest_root_law n lo hi)
+  pub n_lo : 2 ^ 46 ≤ m * 2 ^ w
+  n_lo =
+      le_of_mul-le-mul_right
+      (le_trans (le_of_eq (sym (pow-add 2 46 (2 * h))))
+      (le_trans (pow_mono {i = 46 + 2 * h} {j = a + 47} (room a h H))
+      (le_trans (le_of_eq (pow-add 2 a 47))
+      (le_trans (mul-le-mul_right (2 ^ 47) lo) (le_of_eq (sym scaled))))))
+      (pow_pos (2 * h))
+    where
+      room : (a h : ℕ) → h ≡ suc a / 2 → 46 + 2 * h ≤ a + 47
+      room a h e = omega arith
+
+  pub n_hi : m * 2 ^ w < 2 ^ 48
+  n_hi =
+      lt_of_mul-lt-mul_right (2 ^ (2 * h))
+      (subst (λ (x : ℕ). x < 2 ^ 48 * 2 ^ (2 * h)) (sym scaled)
+      (lt_of_lt_of_le (mul-lt-mul_of_pos_right hi (pow_pos 47))
+      (le_trans (le_of_eq (sym (pow-add 2 (suc a) 47))) (le_trans (pow_mono {i = suc a + 47} {j = 48 + 2 * h} (room a h H)) (le_of_eq (pow-add 2 48 (2 * h)))))))
+    where
+      room : (a h : ℕ) → h ≡ suc a / 2 → suc a + 47 ≤ 48 + 2 * h
+      room a h e = omega arith
+
+  pub root_is : root_of_units (m * 2 ^ j) ≡ odd 24 false (nearest_root (m * 2 ^ w)) (h + 51) 149
+  unfolding root_of_units
+  root_is =
+      ap (λ (z : ℕ). odd 24 false (nearest_root (m * 2 ^ j * 2 ^ 47 / 2 ^ (2 * z))) (z + 51) 149) (ap (λ (x : ℕ). x / 2) (size_exact a (m * 2 ^ j) lo hi) ∙ sym H)
+      ∙ ap (λ (z : ℕ). odd 24 false (nearest_root z) (h + 51) 149) (ap (λ (z : ℕ). z / 2 ^ (2 * h)) (sym scaled) ∙ mul-div_cancel (m * 2 ^ w) (pow_pos (2 * h)))
+
+-- ---- the root of such an n has 24 digits
+
+module _ (n : ℕ) (lo : 2 ^ 46 ≤ n) (hi : n ≤ 281474959933440) where
+  law : Nearest n (nearest_root n)
+  law = nearest_root_law n (omega arith) (omega arith)
+
+  pub root_lo : 8388608 ≤ nearest_root n
+  root_lo = le_of_lt_suc (lt_of_not-le (λ (g : suc (nearest_root n) ≤ 8388608). clash n (mul-le-mul (odd_le (nearest_root n) g) (odd_le (nearest_root n) g)) law.under lo))
+    where
+      le_of_lt_suc : 8388608 < suc (nearest_root n) → 8388608 ≤ nearest_root n
+      le_of_lt_suc h = omega arith
+
+      odd_le : (q : ℕ) → suc q ≤ 8388608 → 2 * q + 1 ≤ 16777215
+      odd_le q h = omega arith
+
+      clash : (n : ℕ) {s : ℕ} → s ≤ 281474943156225 → 4 * n < s → 70368744177664 ≤ n → ⊥
+      clash n a b c = omega arith
+
+  pub root_hi : nearest_root n < 16777216
+  root_hi = lt_of_not-le (λ (g : 16777216 ≤ nearest_root n). clash n (mul-le-mul (odd_ge (nearest_root n) g) (odd_ge (nearest_root n) g)) law.above hi)
+    where
+      odd_ge : (q : ℕ) → 16777216 ≤ q → 33554431 ≤ 2 * q - 1
+      odd_ge q h = omega arith
+
+      clash : (n : ℕ) {s : ℕ} → 1125899839733761 ≤ s → s < 4 * n → n ≤ 281474959933440 → ⊥
+      clash n a b c = omega arith

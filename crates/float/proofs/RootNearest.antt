@@ -1,6 +1,6 @@
 -- `sqrt x` is the `f32` nearest to the root of x: for every other `f32` y, the root of x lies on the side of `sqrt x` of the middle between the two.
 -- With each in units of 2 ^ -149, as N, R and Y, that is said by whole-number squares: (Y + R)² < 4 * N * 2 ^ 149 for Y below R, and the other way round above it. Assumes nothing.
-use Rattle.std.proofs.Common.{◌≡◌, ℕ, zero, suc, ◌+◌, ◌-◌, ◌*◌, ◌/◌, ◌%◌, ◌^◌, ◌<◌, ◌≤◌, Bool, true, false, ◌&&◌, T, eqb, ltb, leb, ◌⊎◌, ℤ, pos, negsuc, sym, refl, ap, ◌∙◌, subst, inl, inr, zero-le, le_trans, le_of_eq, lt_of_lt_of_le, le_of_suc-le-suc, lt_of_le_of_lt, le_of_lt, lt_irrefl, mul-le-mul_right, zero-lt-suc, mul_assoc, lt-suc_self, suc-mul, add-mul, mul-le-mul, lt_of_mul-lt-mul_right, eq-or-lt_of_le, mul-le-mul_left, mul-lt-mul_of_pos_right, mul-pos, one-mul, pow-suc, lt_of_not-le, mul-one, not-le_of_lt, div-one, mul-div_cancel, arith, lit<, lit≤, ltb→lt, pow_pos, pow_mono, pow-add, shl_lt}
+use Rattle.std.proofs.Common.{◌≡◌, ℕ, zero, suc, ◌+◌, ◌-◌, ◌*◌, ◌/◌, ◌%◌, ◌^◌, ◌<◌, ◌≤◌, Bool, true, false, ◌&&◌, T, eqb, ltb, leb, ◌⊎◌, ℤ, pos, negsuc, sym, refl, ap, ◌∙◌, subst, inl, inr, zero-le, le_trans, le_of_eq, lt_of_lt_of_le, le_of_suc-le-suc, lt_of_le_of_lt, le_of_lt, lt_irrefl, mul-le-mul_right, zero-lt-suc, mul_assoc, lt-suc_self, suc-mul, add-mul, mul-le-mul, lt_of_mul-lt-mul_right, eq-or-lt_of_le, mul-le-mul_left, mul-lt-mul_of_pos_right, mul-pos, one-mul, pow-suc, lt_of_not-le, mul-one, not-le_of_lt, mul-div_cancel, arith, lit<, lit≤, ltb→lt, pow_pos, pow_mono, pow-add, shl_lt}
 use native.Mathlib.Nat.{mul-mul-mul_comm}
 use lib.Pow.{pow-lt}
 use lib.Ieee.{Float, nan, inf, fin, binary32, up, down, size, odd, fits}
@@ -10,8 +10,7 @@ use lib.Ieee.Exact.{HasValue, odd_sign}
 use lib.Ieee.Positive.{positive}
 use Rattle.float.proofs.Compare.{order, fits_down}
 use Rattle.float.specs.Root.{nearest_root, root_of_units, sqrt}
-use Rattle.float.proofs.RootLaws.{Nearest, nearest_root_law}
-use Rattle.float.proofs.RootPattern.{n_lo, n_hi, root_is, root_lo}
+use Rattle.float.proofs.RootLaws.{Nearest, nearest_root_law, n_lo, n_hi, scaled, root_is, root_lo}
 
 -- a finite value's size in units of 2 ^ -149
 abbrev pub in_units : Float → ℕ
@@ -24,7 +23,7 @@ in_units (fin s m e) = m * up e * 2 ^ 149 / down e
 pow_le_back : (a l : ℕ) → 2 ^ a ≤ 2 ^ l → a ≤ l
 pow_le_back a l h = le_of_suc-le-suc (lt_of_not-le (λ (g : suc l ≤ a). lt_irrefl (2 ^ l) (lt_of_lt_of_le (pow-lt g) h)))
 
-fits_digits : (s : Bool) (m : ℕ) (e : ℤ) → T (fits binary32 (fin s m e)) → m < 16777216
+pub fits_digits : (s : Bool) (m : ℕ) (e : ℤ) → T (fits binary32 (fin s m e)) → m < 16777216
 unfolding fits
 fits_digits s zero e t = lit< tt
 fits_digits s (suc m) e t =
@@ -33,19 +32,21 @@ fits_digits s (suc m) e t =
     let c = leb (down e) (2 ^ 149) in
     ltb→lt (suc m) 16777216 (and_r a b (and_l (a && b) c (and_l (a && b && c) (ltb (suc m * up e) (2 ^ 128 * down e)) t)))
 
-placed : (m : ℕ) (e : ℤ) → down e ≤ 2 ^ 149 → (j : ℕ) × (m * up e * 2 ^ 149 / down e ≡ m * 2 ^ j)
-placed m (pos k) h = (k + 149, div-one (m * 2 ^ k * 2 ^ 149) ∙ mul_assoc m (2 ^ k) (2 ^ 149) ∙ ap (λ (x : ℕ). m * x) (sym (pow-add 2 k 149)))
-placed m (negsuc k) h =
+pub placed_value : (m : ℕ) (e : ℤ) → down e ≤ 2 ^ 149 → (j : ℕ) × (m * up e * 2 ^ 149 ≡ m * 2 ^ j * down e)
+placed_value m (pos k) h = (k + 149, mul_assoc m (2 ^ k) (2 ^ 149) ∙ ap (λ (x : ℕ). m * x) (sym (pow-add 2 k 149)) ∙ sym (mul-one (m * 2 ^ (k + 149))))
+placed_value m (negsuc k) h =
     let g : suc k ≤ 149 = pow_le_back (suc k) 149 h in (
       149 - suc k,
-      ap (λ (x : ℕ). x / 2 ^ suc k)
-          (ap (λ (x : ℕ). m * 1 * x) (ap (λ (x : ℕ). 2 ^ x) (sym (back k g)) ∙ pow-add 2 (149 - suc k) (suc k)) ∙ sym (mul_assoc (m * 1) (2 ^ (149 - suc k)) (2 ^ suc k)))
-          ∙ mul-div_cancel (m * 1 * 2 ^ (149 - suc k)) (pow_pos (suc k))
-          ∙ ap (λ (x : ℕ). x * 2 ^ (149 - suc k)) (mul-one m),
+      ap (λ (x : ℕ). x * 2 ^ 149) (mul-one m)
+          ∙ ap (λ (x : ℕ). m * x) (ap (λ (x : ℕ). 2 ^ x) (sym (back k g)) ∙ pow-add 2 (149 - suc k) (suc k))
+          ∙ sym (mul_assoc m (2 ^ (149 - suc k)) (2 ^ suc k)),
     )
   where
     back : (k : ℕ) → suc k ≤ 149 → 149 - suc k + suc k ≡ 149
     back k h = omega arith
+
+placed : (m : ℕ) (e : ℤ) → down e ≤ 2 ^ 149 → (j : ℕ) × (m * up e * 2 ^ 149 / down e ≡ m * 2 ^ j)
+placed m e h = let p = placed_value m e h in (p.0, ap (λ (x : ℕ). x / down e) p.1 ∙ mul-div_cancel (m * 2 ^ p.0) (down_pos e))
 
 -- ---- the grid: at 2 ^ 23 steps of size G and above, every such value is a multiple of G
 
@@ -184,7 +185,7 @@ module _ (m j : ℕ) (M : m < 16777216) (P : 0 < m) where
   abbrev N : ℕ
   N = m * 2 ^ j
 
-  abbrev a : ℕ
+  abbrev pub a : ℕ
   a = size N - 1
 
   above : 0 < size N
@@ -196,16 +197,16 @@ module _ (m j : ℕ) (M : m < 16777216) (P : 0 < m) where
       pred : (z : ℕ) → 0 < z → suc (z - 1) ≡ z
       pred z h = omega arith
 
-  N-lo : 2 ^ a ≤ N
+  pub N-lo : 2 ^ a ≤ N
   N-lo = size_reaches N a (subst (λ (x : ℕ). a < x) is_size (lt-suc_self a))
 
-  N-hi : N < 2 ^ suc a
+  pub N-hi : N < 2 ^ suc a
   N-hi = subst (λ (x : ℕ). N < 2 ^ x) (sym is_size) (size-lt N)
 
-  abbrev h : ℕ
+  abbrev pub h : ℕ
   h = suc a / 2
 
-  abbrev w : ℕ
+  abbrev pub w : ℕ
   w = j + 47 - 2 * h
 
   a_le : suc a ≤ 24 + j
@@ -214,13 +215,13 @@ module _ (m j : ℕ) (M : m < 16777216) (P : 0 < m) where
       lt_of_not_le' : (24 + j ≤ a → ⊥) → a < 24 + j
       lt_of_not_le' f = lt_of_not-le f
 
-  W : w + 2 * h ≡ j + 47
+  pub W : w + 2 * h ≡ j + 47
   W = rest a j h refl a_le
     where
       rest : (a j h : ℕ) → suc a / 2 ≡ h → suc a ≤ 24 + j → j + 47 - 2 * h + 2 * h ≡ j + 47
       rest a j h e l = omega arith
 
-  top : m * 2 ^ w ≤ 281474959933440
+  pub top : m * 2 ^ w ≤ 281474959933440
   top = elim (order 24 w) [
     | inl g ↦ multiple (m * 2 ^ w) (m * 2 ^ (w - 24)) (ap (λ (x : ℕ). m * 2 ^ x) (sym (back w g)) ∙ ap (λ (x : ℕ). m * x) (pow-add 2 (w - 24) 24) ∙ sym (mul_assoc m (2 ^ (w - 24)) (2 ^ 24))) (n_hi m j a h w N-lo N-hi refl W)
     | inr g ↦ le_trans (mul-le-mul (le_of_suc-le-suc M) (pow_mono {i = w} {j = 24} g)) (lit≤ {m = 16777215 * 2 ^ 24} {n = 281474959933440} tt)
@@ -238,7 +239,7 @@ module _ (m j : ℕ) (M : m < 16777216) (P : 0 < m) where
       let lo = n_lo m j a h w N-lo N-hi refl W in
       subst (λ (R : ℕ). Closer N R (k * 2 ^ i)) (sym (ap in_units (root_is m j a h w N-lo N-hi refl W) ∙ odd_units (nearest_root n) (h + 51)))
       (closer N n h (nearest_root n)
-      (mul_assoc m (2 ^ w) (2 ^ (2 * h)) ∙ ap (λ (x : ℕ). m * x) (sym (pow-add 2 w (2 * h)) ∙ ap (λ (x : ℕ). 2 ^ x) W ∙ pow-add 2 j 47) ∙ sym (mul_assoc m (2 ^ j) (2 ^ 47)))
+      (scaled m j a h w N-lo N-hi refl W)
       (nearest_root_law n (lt_of_lt_of_le (lit< {m = 0} {n = 2 ^ 46} tt) lo) (n_hi m j a h w N-lo N-hi refl W))
       (root_lo n lo top)
       lo

@@ -1,5 +1,5 @@
-// What `f32` lacks in Rattle and the map code of the Rust uses: minimum, maximum, floor, ceiling, the
-// casts, the bit patterns and the square root. Each has a result for every operand.
+// What the map code of the Rust uses of `f32`: minimum, maximum, floor, ceiling, the casts, the bit
+// patterns and the square root, in the words of `specs/`. Each has a result for every operand.
 #![tactic(auto)]
 
 pub mod num;

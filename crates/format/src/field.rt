@@ -10,20 +10,24 @@ use crate::refusal::{Answer, Refusal};
 // What a reader gives: a value and the position after it, or a refusal.
 pub type Read<T> = Result<(T, usize), Refusal>;
 
-// The `N` bytes at a position.
+// The `N` bytes at a position, of which one test says whether they are there: loading a file is for the most part such tests.
+#[inline(always)]
 fn bytes_at<const N: usize>(s: &[u8], at: usize) -> Answer<[u8; N]>
     ensures ok { IfOk result (λ b. (at + N ≤ length s.now) × (b ≡ take N (drop at s.now))) }
     ensures err { IfErr result (λ e. (e ≡ EndOfFile) × (length s.now < at + N)) }
 {
-    let Some(rest) = s.get(at..) else {
-        return Err(Refusal::EndOfFile);
-    };
-    let Some(bytes) = rest.first_chunk::<N>() else {
-        return Err(Refusal::EndOfFile);
-    };
-    Ok(*bytes)
+    match s.len().checked_sub(N) {
+        Some(last) if at <= last => {
+            let Some(bytes) = s[at..at + N].as_array::<N>() else {
+                return Err(Refusal::EndOfFile);
+            };
+            Ok(*bytes)
+        }
+        _ => Err(Refusal::EndOfFile),
+    }
 }
 
+// A reader for each width: one for all would need a trait of its own for `from_le_bytes`, and be no plainer than the three.
 pub fn read_u8(s: &[u8], at: usize) -> Read<u8>
     ensures { step_of result ≡ u8_at s.now at }
 {

@@ -1,5 +1,7 @@
 -- What the readers of `nodes` say of a node, of a child and of a plane, as the laws of Descents.antt and Crossings.antt ask for it.
 -- Assumes nothing.
+use Rattle.std.proofs.Common.{Ok, Err}
+use Rattle.std.specs.Prelude.{Result}
 use Prim.Native.Nat.{ℕ, ◌/◌, ◌<◌, ◌≤◌}
 use mathlib.Core.Path.{◌≡◌, refl, sym, ap, ◌∙◌}
 use mathlib.Core.Bool.{Bool, true, false, cond}
@@ -26,10 +28,6 @@ use Rattle.nodes.specs.Owned as Owned
 use Rattle.nodes.specs.Owned.{two_sides, sides_answer, all_whole, leaf_bytes, Owned}
 use Rattle.nodes.specs.declared.table.Tables.{Tables}
 use Rattle.nodes.specs.declared.read.Words.{Words as WordsT}
-use Rattle.nodes.specs.declared.segment.SegmentAt.{SegmentAt}
-use Rattle.nodes.specs.declared.segment.SegmentAt.TheVariants as G
-use Rattle.nodes.specs.declared.crossing.Sides.{Sides}
-use Rattle.nodes.specs.declared.crossing.Sides.TheVariants as S
 use Rattle.nodes.proofs.Entering.{child_node, child_end}
 use Rattle.nodes.proofs.Owning.{own_plane}
 use Rattle.hull.specs.Traces.{Met, met_node, met_answer, met_end, met_child, met_on}
@@ -50,11 +48,11 @@ unfolding plane_in
 plane_same f t i = refl
 
 -- a node and the distances
-module _ (f : List ℕ) (t : Tables) (i : ℕ) (s e : Vector3) (r : SegmentAt) (is-r : segment_answer t.table r ≡ made_from (node_and_dists s e) f t i) where
-  pub not_seen : (x : Refusal) → r ≡ G.Refused x → Ans.refused (number_of x) ≡ mapped (seen_of s e) (enter (Fast.table f t) i)
+module _ (f : List ℕ) (t : Tables) (i : ℕ) (s e : Vector3) (r : Result (WordsT × Float × Float) Refusal) (is-r : segment_answer t.table r ≡ made_from (node_and_dists s e) f t i) where
+  pub not_seen : (x : Refusal) → r ≡ Err x → Ans.refused (number_of x) ≡ mapped (seen_of s e) (enter (Fast.table f t) i)
   not_seen x q = sym (ap (segment_answer t.table) q) ∙ is-r
 
-  pub seen : (w : WordsT) (a b : Float) → r ≡ G.Dists w a b → answer (node_of t.table w, (a, b)) ≡ mapped (seen_of s e) (enter (Fast.table f t) i)
+  pub seen : (w : WordsT) (a b : Float) → r ≡ Ok (w, a, b) → answer (node_of t.table w, (a, b)) ≡ mapped (seen_of s e) (enter (Fast.table f t) i)
   seen w a b q = sym (ap (segment_answer t.table) q) ∙ is-r
 
 -- the child on a side
@@ -62,7 +60,7 @@ module _ (f : List ℕ) (t : Tables) (w : WordsT) (b : Bool) where
   abbrev child : Met
   child = met_child (Fast.table f t) (child_on (node_of t.table w) (Pl.side_if b))
 
-  pub meets : (m y : MetChild) → met_answer m ≡ met_on f t w b → m ≡ y → child ≡ met_answer y
+  pub meets : (m y : Result MetChild Refusal) → met_answer m ≡ met_on f t w b → m ≡ y → child ≡ met_answer y
   unfolding met_on
   meets m y is_m q = sym is_m ∙ ap met_answer q
 
@@ -75,14 +73,14 @@ module _ (f : List ℕ) (t : Tables) (w : WordsT) (b : Bool) where
     meets_end h x is_x = ap (met_child (Fast.table f t)) (child_end t.table w b word is_word h) ∙ ap met_end (sym is_x)
 
 -- the sides of two points, by the bytes of a table that is whole
-module _ (f : List ℕ) (t : Tables) (render : Bool) (n m l : List ℕ) (own : Owned f t render n m l) (i : ℕ) (p q : Vector3) (r : Sides) (is-r : sides_answer r ≡ mapped (two_sides p q) (Owned.plane_of m i)) where
+module _ (f : List ℕ) (t : Tables) (render : Bool) (n m l : List ℕ) (own : Owned f t render n m l) (i : ℕ) (p q : Vector3) (r : Result (Bool × Bool) Refusal) (is-r : sides_answer r ≡ mapped (two_sides p q) (Owned.plane_of m i)) where
   there : sides_answer r ≡ mapped (two_sides p q) (plane_in f t i)
   there = is-r ∙ ap (mapped (two_sides p q)) (own_plane f t render n m l own i)
 
-  pub no_sides : (x : Refusal) → r ≡ S.Refused x → plane_in f t i ≡ Ans.refused (number_of x)
+  pub no_sides : (x : Refusal) → r ≡ Err x → plane_in f t i ≡ Ans.refused (number_of x)
   no_sides x u = mapped_refused (two_sides p q) (plane_in f t i) (number_of x) (sym there ∙ ap sides_answer u)
 
-  pub two_sides_lem : (a b : Bool) → r ≡ S.Two a b → (h : Hyperplane) × (plane_in f t i ≡ answer h) × (Pl.side_if a ≡ Pl.point_side h p) × (Pl.side_if b ≡ Pl.point_side h q)
+  pub two_sides_lem : (a b : Bool) → r ≡ Ok (a, b) → (h : Hyperplane) × (plane_in f t i ≡ answer h) × (Pl.side_if a ≡ Pl.point_side h p) × (Pl.side_if b ≡ Pl.point_side h q)
   two_sides_lem a b u =
       let g = mapped_answer (two_sides p q) (plane_in f t i) (Pl.side_if a, Pl.side_if b) (sym there ∙ ap sides_answer u) in
       (g.0, g.1, sym (ap (λ (z : HyperplaneSide × HyperplaneSide). z.0) g.2), sym (ap (λ (z : HyperplaneSide × HyperplaneSide). z.1) g.2))

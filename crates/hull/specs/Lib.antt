@@ -2,4 +2,3 @@
 pub mod Hull
 pub mod Traces
 pub mod Sizes
-pub mod Answers

@@ -1,11 +1,12 @@
 -- For the contracts of functions below the calls; a reader of the calls may leave this file out.
 -- The parts of a trace: the child that is met on a side, the traces of a leaf, the near part joined with the far one, and a trace taken up again at
--- a crossing, with the nodes entered before. What `trace` answers stands in Answers.antt.
-use Rattle.std.specs.Prelude.{ℕ, suc, ◌≤◌, ◌≡◌, Bool, true, false, cond, not, ◌||◌, ◌&&◌, List, Float}
+-- a crossing, with the nodes entered before.
+use Rattle.std.specs.Prelude.{ℕ, suc, ◌≤◌, ◌≡◌, Bool, true, false, cond, not, ◌||◌, ◌&&◌, List, Float, Result, Ok, Err}
 use Rattle.format.specs.Answer as Ans
 use Rattle.format.specs.Answer.{Answer, answer}
 use Rattle.format.specs.Refusal.{number_of}
 use Rattle.format.specs.declared.contents.BspLeafContents.{BspLeafContents}
+use Rattle.format.specs.declared.refusal.Refusal.{Refusal}
 use Rattle.math.specs.Vector as Vec
 use Rattle.math.specs.Vector.{zero32}
 use Rattle.math.specs.Plane as Pl
@@ -26,8 +27,6 @@ use Rattle.nodes.specs.Owned.{Owned}
 use Rattle.nodes.specs.declared.table.Tables.{Tables}
 use Rattle.nodes.specs.declared.read.Words.{Words}
 use Rattle.hull.specs.declared.tracing.Went.{Went}
-use Rattle.hull.specs.declared.tracing.Way.{Way}
-use Rattle.hull.specs.declared.tracing.Way.TheVariants as Y
 use Rattle.hull.specs.declared.tracing.MetChild.{MetChild}
 use Rattle.hull.specs.declared.tracing.MetChild.TheVariants as M
 use Rattle.hull.specs.declared.tracing.Descent.{Descent}
@@ -55,9 +54,9 @@ end_of f t g = cond g.met (Tr.boundary g.end g.ratio (plane_met f t g.plane g.fr
 abbrev pub went_trace : List ℕ → Tables → TraceStart → Went → TraceT
 went_trace f t s g = Tr.trace s (end_of f t g) g.contents g.start_solid
 
-abbrev pub way_answer : List ℕ → Tables → TraceStart → Way → Answer (TraceT × ℕ)
-way_answer f t s (Y.Went g) = answer (went_trace f t s g, g.visits)
-way_answer f t s (Y.Refused e) = Ans.refused (number_of e)
+abbrev pub way_answer : List ℕ → Tables → TraceStart → Result Went Refusal → Answer (TraceT × ℕ)
+way_answer f t s (Ok g) = answer (went_trace f t s g, g.visits)
+way_answer f t s (Err e) = Ans.refused (number_of e)
 
 -- all in one leaf
 abbrev pub ended_in : Vector3 → BspLeafContents → ℕ → Went
@@ -87,20 +86,16 @@ join_parts g u =
     cond (Contents.equal g.contents u.contents) (carried_to u g.contents g.start_solid)
     (cond (Contents.equal g.contents Solid && not (Contents.equal u.contents Solid)) (carried_to u u.contents true) (counted_as g u.visits))
 
-abbrev pub join_way : Went → Way → Way
-join_way g (Y.Went u) = Y.Went (join_parts g u)
-join_way g (Y.Refused e) = Y.Refused e
-
 -- a child that was met
 pub data Met : Type 0 where
   met_node : ℕ → Met
   met_contents : BspLeafContents → Met
   met_refused : ℕ → Met
 
-abbrev pub met_answer : MetChild → Met
-met_answer (M.Node n) = met_node n
-met_answer (M.Contents c) = met_contents c
-met_answer (M.Refused e) = met_refused (number_of e)
+abbrev pub met_answer : Result MetChild Refusal → Met
+met_answer (Ok (M.Node n)) = met_node n
+met_answer (Ok (M.Contents c)) = met_contents c
+met_answer (Err e) = met_refused (number_of e)
 
 abbrev pub met_end : Answer BspLeafContents → Met
 met_end (answer c) = met_contents c
@@ -144,41 +139,41 @@ crossed_at T k nd s e a b (answer h) =
 crossed_at T k nd s e a b (Ans.refused n) = refused n
 
 -- the trace taken up again where a way down came to
-abbrev pub resumed : List ℕ → Tables → Vector3 → Vector3 → Descent → Answer (TraceT × ℕ)
-resumed f t s e (D.Leaf c v) = answer (within_leaf s zero32 e c, v)
-resumed f t s e (D.Crossing w a b k v) =
+abbrev pub resumed : List ℕ → Tables → Vector3 → Vector3 → Result Descent Refusal → Answer (TraceT × ℕ)
+resumed f t s e (Ok (D.Leaf c v)) = answer (within_leaf s zero32 e c, v)
+resumed f t s e (Ok (D.Crossing w a b k v)) =
     after v (crossed_at (Fast.table f t) k (Fast.node_of t.table w) s e a b (Fast.plane_in f t w.plane))
-resumed f t s e (D.Refused n) = Ans.refused (number_of n)
+resumed f t s e (Err n) = Ans.refused (number_of n)
 
 -- the calls that a crossing has taken are at least one
-abbrev pub with_one_more : Descent → ℕ
-with_one_more (D.Leaf c v) = 0
-with_one_more (D.Crossing w a b k v) = suc k
-with_one_more (D.Refused n) = 0
+abbrev pub with_one_more : Result Descent Refusal → ℕ
+with_one_more (Ok (D.Leaf c v)) = 0
+with_one_more (Ok (D.Crossing w a b k v)) = suc k
+with_one_more (Err n) = 0
 
 -- taken up again, it says what the whole trace says
-pub record Descends (f : List ℕ) (t : Tables) (s e : Vector3) (left : ℕ) (all : Answer (TraceT × ℕ)) (r : Descent) : Type 0 where
+pub record Descends (f : List ℕ) (t : Tables) (s e : Vector3) (left : ℕ) (all : Answer (TraceT × ℕ)) (r : Result Descent Refusal) : Type 0 where
   pub says : resumed f t s e r ≡ all
   pub falls : with_one_more r ≤ left
 
 -- ---- the same by the bytes of nodes, planes and leaves: for every file and table whose own bytes they are
 
-pub record GoesDown (render : Bool) (n m l : List ℕ) (left i : ℕ) (s e : Vector3) (v : ℕ) (r : Descent) : Type 0 where
+pub record GoesDown (render : Bool) (n m l : List ℕ) (left i : ℕ) (s e : Vector3) (v : ℕ) (r : Result Descent Refusal) : Type 0 where
   pub says : (f : List ℕ) (t : Tables) → Owned f t render n m l → resumed f t s e r ≡ after v (recursive_trace (Fast.table f t) left i s e)
   pub falls : with_one_more r ≤ left
 
-abbrev pub GoesOn : Bool → List ℕ → List ℕ → List ℕ → ℕ → ℕ → Vector3 → Vector3 → ℕ → Way → Type 0
+abbrev pub GoesOn : Bool → List ℕ → List ℕ → List ℕ → ℕ → ℕ → Vector3 → Vector3 → ℕ → Result Went Refusal → Type 0
 GoesOn render n m l left i s e v r =
     (f : List ℕ) (t : Tables) → Owned f t render n m l → way_answer f t (at_start s) r ≡ after v (recursive_trace (Fast.table f t) left i s e)
 
 -- a way down, a far part and a near part that come to an end, which says x
-abbrev pub EndsDown : ℕ → Answer BspLeafContents → Descent → Type 0
+abbrev pub EndsDown : ℕ → Answer BspLeafContents → Result Descent Refusal → Type 0
 EndsDown v x r = ((f : List ℕ) (t : Tables) (s e : Vector3) → resumed f t s e r ≡ ended_as (within_leaf s zero32 e) v x) × (with_one_more r ≤ 0)
 
-abbrev pub EndsFar : Vector3 → ℕ → Answer BspLeafContents → Way → Type 0
+abbrev pub EndsFar : Vector3 → ℕ → Answer BspLeafContents → Result Went Refusal → Type 0
 EndsFar e v x r = (f : List ℕ) (t : Tables) (s : Vector3) (k : Float) → way_answer f t (Tr.start s k) r ≡ ended_as (within_leaf s k e) v x
 
-abbrev pub EndsNear : Vector3 → Float → ℕ → Bool → ℕ → Answer BspLeafContents → Way → Type 0
+abbrev pub EndsNear : Vector3 → Float → ℕ → Bool → ℕ → Answer BspLeafContents → Result Went Refusal → Type 0
 EndsNear e k i front v x r =
     (f : List ℕ) (t : Tables) (s : Vector3) (h : Hyperplane) → Fast.plane_in f t i ≡ answer h → Pl.side_if front ≡ Pl.point_side h s
     → way_answer f t (at_start s) r ≡ ended_as (out_of_leaf s e k (Pl.facing (Pl.point_side h s) h)) v x

@@ -4,42 +4,30 @@ ghost use Rattle.walk.specs.Walk.{with_visits, point_walk};
 ghost use Rattle.nodes.specs.Tables.{leaf_table};
 ghost use Rattle.nodes.specs.Fast as Fast;
 ghost use Rattle.hull.specs.Hull as Hull;
-ghost use Rattle.hull.specs.Answers as Answers;
+ghost use Rattle.format.specs.Answers.{answer_of};
 
 use crate::collision::BspCollisionHull;
 use format::contents::BspLeafContents;
-use format::refusal::Refusal;
+use format::refusal::{Answer, Refusal};
 use format::section::BspData;
 use math::Vector3;
-use nodes::read::{EndContents, end_contents};
+use nodes::read::end_contents;
 use nodes::table::{HullTable, Tables, tables_of};
-use nodes::walking::{WalkEnd, walk_to_end};
-
-// The contents at a point, and how many nodes were entered.
-#[derive(Clone, Copy)]
-pub enum PointContents {
-    Contents(BspLeafContents, u64),
-    Refused(Refusal),
-}
-
-// The leaf that a point is in, and how many nodes were entered.
-#[derive(Clone, Copy)]
-pub enum FoundLeaf {
-    Leaf(usize, u64),
-    Refused(Refusal),
-}
+use nodes::walking::walk_to_end;
 
 // The contents at a point, from a node of a table on.
-fn contents_in(s: &[u8], t: Tables, root: usize, point: Vector3) -> PointContents
-    ensures { Answers.contents_answer result ≡ with_visits (point_walk (Fast.table s.now t) root point) }
+#[inline(always)]
+pub fn contents_in(
+    s: &[u8],
+    t: Tables,
+    root: usize,
+    point: Vector3,
+) -> Answer<(BspLeafContents, u64)>
+    ensures { answer_of result ≡ with_visits (point_walk (Fast.table s.now t) root point) }
 {
-    match walk_to_end(s, t, root, point.x, point.y, point.z) {
-        WalkEnd::Refused(e) => PointContents::Refused(e),
-        WalkEnd::Word(word, visits) => match end_contents(s, t, word) {
-            EndContents::Contents(c) => PointContents::Contents(c, visits),
-            EndContents::Refused(e) => PointContents::Refused(e),
-        },
-    }
+    let (word, visits) = walk_to_end(s, t, root, point.x, point.y, point.z)?;
+    let contents = end_contents(s, t, word)?;
+    Ok((contents, visits))
 }
 
 // The contents at a point of a hull, `contents_at_point`.
@@ -48,8 +36,8 @@ pub fn contents_at_point(
     map: BspData,
     hull: BspCollisionHull,
     point: Vector3,
-) -> PointContents
-    ensures { Answers.contents_answer result ≡ with_visits (point_walk (Hull.hull_table s.now map hull) hull.node_id point) }
+) -> Answer<(BspLeafContents, u64)>
+    ensures { answer_of result ≡ with_visits (point_walk (Hull.hull_table s.now map hull) hull.node_id point) }
 {
     let table = hull.table;
     contents_in(
@@ -61,26 +49,22 @@ pub fn contents_at_point(
 }
 
 // The leaf that a point is in, from a render node on.
-pub fn find_leaf_from(s: &[u8], map: BspData, root: usize, point: Vector3) -> FoundLeaf
-    ensures { Answers.leaf_answer result ≡ with_visits (point_walk (leaf_table s.now map) root point) }
+pub fn find_leaf_from(s: &[u8], map: BspData, root: usize, point: Vector3) -> Answer<(usize, u64)>
+    ensures { answer_of result ≡ with_visits (point_walk (leaf_table s.now map) root point) }
 {
     let t = tables_of(map, HullTable::Render, point, point);
     let leaves = t.leaves;
-    match walk_to_end(s, t, root, point.x, point.y, point.z) {
-        WalkEnd::Refused(e) => FoundLeaf::Refused(e),
-        WalkEnd::Word(word, visits) => {
-            let leaf = (65535 - word) as usize;
-            if (leaves.count as usize) <= leaf {
-                return FoundLeaf::Refused(Refusal::IndexOutsideTable);
-            }
-            FoundLeaf::Leaf(leaf, visits)
-        }
+    let (word, visits) = walk_to_end(s, t, root, point.x, point.y, point.z)?;
+    let leaf = (65535 - word) as usize;
+    if (leaves.count as usize) <= leaf {
+        return Err(Refusal::IndexOutsideTable);
     }
+    Ok((leaf, visits))
 }
 
 // `find_leaf`: from render node 0.
-pub fn find_leaf(s: &[u8], map: BspData, point: Vector3) -> FoundLeaf
-    ensures { Answers.leaf_answer result ≡ with_visits (point_walk (leaf_table s.now map) 0 point) }
+pub fn find_leaf(s: &[u8], map: BspData, point: Vector3) -> Answer<(usize, u64)>
+    ensures { answer_of result ≡ with_visits (point_walk (leaf_table s.now map) 0 point) }
 {
     find_leaf_from(s, map, 0, point)
 }

@@ -1,14 +1,17 @@
 -- The whole line in one loop: what a node says to a part and to a look, and what becomes of the planes that wait. Assumes nothing.
-use Rattle.std.specs.Prelude.{Result, Ok}
+use Rattle.std.specs.Prelude.{Option, Some, None, Result, Ok, slice_get}
+use Rattle.std.specs.Option.{option_copied}
+use Rattle.std.specs.Slice.{IsItemAt}
+use Rattle.std.specs.Borrow.{Bor}
+use Rattle.std.proofs.lemmas.Option.{slice_get_past, slice_get_read}
 use Rattle.format.specs.declared.refusal.Refusal.{Refusal}
 use Prim.Native.Nat.{ℕ, zero, suc, ◌+◌, ◌-◌, ◌*◌, ◌<◌, ◌≤◌}
-use Rattle.format.specs.Answers.{answer_of}
 use native.Mathlib.Omega.{arith}
 use mathlib.Core.Path.{◌≡◌, refl, sym, ap, subst, ◌∙◌}
-use mathlib.Core.Bool.{Bool, true, false, cond, not, ◌&&◌, beq}
+use mathlib.Core.Bool.{Bool, true, false, cond, not, ◌&&◌}
 use mathlib.Core.Logic.{◌⊎◌, inl, inr}
 use mathlib.Core.List.{List, [], ◌∷◌}
-use borrow.Author.Tests.{leb-false, lt-ltb, le-ltb}
+use borrow.Author.Tests.{leb-false}
 use lib.Dec.{leb, ltb}
 use lib.Ieee as Ieee
 use lib.Ieee.{Float, binary32}
@@ -29,9 +32,7 @@ use Rattle.math.specs.declared.plane.HyperplaneSide.{HyperplaneSide}
 use Rattle.walk.specs.Table.{Child, node, end, Node, Table, child_on}
 use Rattle.walk.specs.Walk.{Entered, enter, meet, with_node}
 use Rattle.nodes.specs.Tables.{End, is_box}
-use Rattle.nodes.specs.declared.read.EndContents.{EndContents}
-use Rattle.nodes.specs.declared.read.EndContents.TheVariants as E
-use Rattle.nodes.specs.Fast.{end_answer, child_of, end_of, node_of, word_on, plane_in, place_in, node_in, node_at, node_size, is_render, render_node_here, clip_node_here, contents_met}
+use Rattle.nodes.specs.Fast.{child_of, end_of, node_of, word_on, plane_in, place_in, node_in, node_at, node_size, is_render, render_node_here, clip_node_here, contents_met}
 use Rattle.nodes.specs.Fast as Fast
 use Rattle.nodes.specs.Walks.{Read, MadeOf, made_from, child_by_distance, node_and_dists, segment_answer, are_whole, is_whole}
 use Rattle.nodes.specs.declared.table.HullTable.{HullTable}
@@ -39,12 +40,10 @@ use Rattle.nodes.specs.declared.table.HullTable.TheVariants.{Render, Clip, Box}
 use Rattle.nodes.specs.declared.table.Part.{Part}
 use Rattle.nodes.specs.declared.table.Tables.{Tables}
 use Rattle.nodes.specs.declared.read.Words.{Words as WordsT}
-use Rattle.nodes.specs.declared.segment.SegmentAt.{SegmentAt}
-use Rattle.nodes.specs.declared.segment.SegmentAt.TheVariants as G
-use Rattle.nodes.proofs.Entering.{child_is, child_end}
+use Rattle.nodes.proofs.Entering.{child_is}
 use Rattle.line.specs.Line.{fraction_at, plane_from, with_plane, Went, onward, stopped, refused, stretch, unset, near_part, far_part, point_at, crossing, into, tenth, contents_on, contents_at, contents_from, backed_off, back_off, into_leaf, on_child, blocked, beyond, past, line_from}
 use Rattle.line.specs.Private.{Cut, Keeps, Kept, from_front, Stops, ended, Crossed, Reaches, Resumes, Blocks, Follows, word_went, word_look, past_waiting, near_side, beyond_it, beyond_next, stand_went, Turned, Arrives, all_went}
-use Rattle.line.specs.declared.contents.Ground.{Ground}
+use Rattle.line.specs.declared.ground.Ground.{Ground}
 use Rattle.line.specs.declared.state.Stretch.{Stretch}
 use Rattle.line.specs.declared.state.LineTrace.{LineTrace}
 use Rattle.line.specs.declared.state.LinePlane.{LinePlane}
@@ -56,12 +55,10 @@ use Rattle.line.specs.declared.through.Turn.{Turn}
 use Rattle.line.specs.declared.through.Turn.TheVariants as U
 use Rattle.line.specs.declared.through.Came.{Came}
 use Rattle.line.specs.declared.through.Came.TheVariants as C
-use Rattle.line.specs.declared.tracing.Stop.{Stop}
-use Rattle.line.specs.declared.tracing.Stop.TheVariants as S
 use Rattle.line.proofs.States.{pick_true, pick_false}
 use Rattle.line.proofs.Seen.{Made, Opened, opened, note_read}
 use Rattle.line.proofs.Looks.{look_outside, look_step, word_node, word_end, goes, to_node, to_end}
-use Rattle.line.proofs.Lines.{on_child_lem, other_side, blocked_by, blocked_plane}
+use Rattle.line.proofs.Lines.{other_side, blocked_by, blocked_plane}
 use Rattle.line.proofs.Backs.{back_open}
 
 -- ---- a node of a whole table
@@ -95,13 +92,13 @@ entered_within f t i m b e = by (node_at f t i) refl e
     by (answer nd) q e = noded t.table f t.nodes i nd b q
     by (Ans.refused n) q e = let z : ◌≡◌ {A = ℕ} 0 1 = cc in absurd (omega arith)
 
-module _ (f : List ℕ) (t : Tables) (n m : List ℕ) (whole : Bool) (R : Read f t n m whole) (on : whole ≡ true) (render : Bool) (is_render_lem : render ≡ is_render t.table) (i k : ℕ) (p q : Vector3) (r : SegmentAt) (is-r : MadeOf (node_and_dists p q) render n m i (λ t. segment_answer t r)) where
-  pub open_in : (k ≡ 0 → ⊥) → (w : WordsT) (a b : Float) → r ≡ G.Dists w a b → Opened f t i k p q w a b
+module _ (f : List ℕ) (t : Tables) (n m : List ℕ) (whole : Bool) (R : Read f t n m whole) (on : whole ≡ true) (render : Bool) (is_render_lem : render ≡ is_render t.table) (i k : ℕ) (p q : Vector3) (r : Result (WordsT × Float × Float) Refusal) (is-r : MadeOf (node_and_dists p q) render n m i (λ t. segment_answer t r)) where
+  pub open_in : (k ≡ 0 → ⊥) → (w : WordsT) (a b : Float) → r ≡ Ok (w, a, b) → Opened f t i k p q w a b
   open_in z w a b e =
-      let made : segment_answer t.table r ≡ made_from (node_and_dists p q) f t i = is-r.1 f t whole R on is_render_lem in
-      let x = mapped_answer (node_and_dists p q) (enter (Fast.table f t) i) (node_of t.table w, (a, b)) (sym made ∙ ap (segment_answer t.table) e) in
+      let made : answer (node_of t.table w, (a, b)) ≡ made_from (node_and_dists p q) f t i = sym (ap (segment_answer t.table) e) ∙ is-r.1 f t whole R on is_render_lem in
+      let x = mapped_answer (node_and_dists p q) (enter (Fast.table f t) i) (node_of t.table w, (a, b)) (sym made) in
       let h : i < t.nodes.count = entered_within f t i x.0 (not_box t (length f) (sym R.told ∙ on)) x.1 in
-      opened f t i k p q r (made ∙ note_read (node_and_dists p q) f t i k h z) w a b e
+      opened f t i k p q w a b (made ∙ note_read (node_and_dists p q) f t i k h z)
 
 -- what a look makes of it
 module _ (f : List ℕ) (t : Tables) (i k : ℕ) (p q : Vector3) (w : WordsT) (a b : Float) (O : Opened f t i k p q w a b) (word : ℕ) (is_word : word ≡ word_on w (Ieee.le zero32 a)) where
@@ -122,14 +119,6 @@ module _ (f : List ℕ) (t : Tables) (i k : ℕ) (p q : Vector3) (w : WordsT) (a
 
   pub look_either : word_look f t (k - 1) word p ≡ contents_from (Fast.table f t) k i p
   look_either = sym (goes f t k i p word looks)
-
--- both ends on one side, and the child there is an end
-pub end_line : (f : List ℕ) (t : Tables) (k i : ℕ) (s : Stretch) (w : WordsT) (a b : Float) (O : Opened f t i k s.start s.end w a b) → not (beq (Ieee.le zero32 a) (Ieee.le zero32 b)) ≡ false
-    → (word : ℕ) → word ≡ word_on w (Ieee.le zero32 a) → 32768 ≤ word → (root : ℕ) (l : LineTrace) → into_leaf (Fast.table f t) l (contents_met f t word) ≡ line_from (Fast.table f t) root k i s l
-unfolding contents_met
-end_line f t k i s w a b O same word is_word h root l =
-    sym (ap (λ (c : Child End). on_child (Fast.table f t) (λ n s l. line_from (Fast.table f t) root (k - 1) n s l) c s l) (child_end t.table w (Ieee.le zero32 a) word is_word h))
-    ∙ on_child_lem f t root k i s l w a b O same word is_word
 
 -- ---- a look with more calls left
 
@@ -305,17 +294,13 @@ popped l n d h = drop-cons l n d h ∙ ap (λ z. get_or l n d ∷ drop z l) {x =
 none_waits : {A : Type 0} (l : List A) (n : ℕ) → length l ≤ n → drop n l ≡ []
 none_waits l n h = drop_of_length-le l h
 
--- what `down` says of each place that it comes to
-module _ (f : List ℕ) (t : Tables) (i k : ℕ) (s : Stretch) (r : Reached) (is-r : Reaches f t i k s r) where
-  pub at_end : (w : ℕ) → r ≡ N.End w → Reaches f t i k s (N.End w)
-  at_end w e = subst (Reaches f t i k s) e is-r
-
-  pub at_plane : (w : WordsT) (a b : Float) (left : ℕ) → r ≡ N.Crossing w a b left → Reaches f t i k s (N.Crossing w a b left)
-  at_plane w a b left e = subst (Reaches f t i k s) e is-r
+-- what `down` says of the place that it comes to
+pub reaches : (f : List ℕ) (t : Tables) (i k : ℕ) (s : Stretch) (r : Reached) → Reaches f t i k s (Some r) → (n : Reached) → r ≡ n → Reaches f t i k s (Some n)
+reaches f t i k s r is-r n e = subst (λ (x : Reached). Reaches f t i k s (Some x)) e is-r
 
 -- what a turn comes to
-pub turned : (f : List ℕ) (t : Tables) (at : Stand) (l : LineTrace) (looked : Bool) (r : Turn) → Turned f t at l looked r → (u : Turn) → r ≡ u → Turned f t at l looked u
-turned f t at l looked r is-r u e = subst (Turned f t at l looked) e is-r
+pub turned : (f : List ℕ) (t : Tables) (at : Stand) (l : LineTrace) (looked : Bool) (r : Turn) → Turned f t at l looked (Some r) → (u : Turn) → r ≡ u → Turned f t at l looked (Some u)
+turned f t at l looked r is-r u e = subst (λ (x : Turn). Turned f t at l looked (Some x)) e is-r
 
 -- the planes that wait, as they are kept
 abbrev KeptAll : List Cut → List Waiting → Type 0
@@ -363,7 +348,7 @@ looked_at false b e = e
 
 module _ (f : List ℕ) (t : Tables) (root : ℕ) (whole : Stretch) where
   -- an end is come to
-  pub to_an_end : (ys : List Waiting) (at : Stand) (l : LineTrace) (y : Waiting) (looked : Bool) (all : Went) → Standing f t root whole ys at l y looked all → (w : ℕ) → Turned f t at l looked (U.End w)
+  pub to_an_end : (ys : List Waiting) (at : Stand) (l : LineTrace) (y : Waiting) (looked : Bool) (all : Went) → Standing f t root whole ys at l y looked all → (w : ℕ) → Turned f t at l looked (Some (U.End w))
       → Standing f t root whole ys (record { word = w; left = at.left; part = at.part }) l y looked all
   to_an_end ys at l y looked all S w T =
       record {
@@ -378,19 +363,19 @@ module _ (f : List ℕ) (t : Tables) (root : ℕ) (whole : Stretch) where
       }
 
   -- the line is blocked
-  pub is_stopped : (ys : List Waiting) (at : Stand) (l : LineTrace) (y : Waiting) (looked : Bool) (all : Went) → Standing f t root whole ys at l y looked all → Turned f t at l looked U.Blocked
+  pub is_stopped : (ys : List Waiting) (at : Stand) (l : LineTrace) (y : Waiting) (looked : Bool) (all : Went) → Standing f t root whole ys at l y looked all → Turned f t at l looked (Some U.Blocked)
       → (x : Cut) × (Kept x y × Blocks f t root x l all)
   is_stopped ys at l y looked all S T =
       (S.x, (S.passed (looked_at looked _ T.1.1.1), end_blocks f t root S.xs at.left at.part at.word l S.x looked all S.follows T.0 T.1.0 T.1.1.0 T.1.1.1))
 
   -- a leaf is traced into
-  goes_into : (ys : List Waiting) (at : Stand) (l : LineTrace) (y : Waiting) (looked : Bool) (all : Went) → (S : Standing f t root whole ys at l y looked all) → (m : LineTrace) → Turned f t at l looked (U.Into m)
+  goes_into : (ys : List Waiting) (at : Stand) (l : LineTrace) (y : Waiting) (looked : Bool) (all : Went) → (S : Standing f t root whole ys at l y looked all) → (m : LineTrace) → Turned f t at l looked (Some (U.Into m))
       → Resumes f t root S.xs (onward m) all
   goes_into ys at l y looked all S m T = end_goes f t root S.xs at.left at.part at.word l S.x looked all S.follows T.0 T.1.0 T.1.1.0 T.1.1.1 m T.1.1.2
 
   module _ (stack : List Waiting) (n : ℕ) (at : Stand) (l : LineTrace) (y : Waiting) (looked : Bool) (all : Went) (S : Standing f t root whole (drop n stack) at l y looked all) where
     -- a plane is put before the others, and the line goes on before it
-    pub push : at.left ≤ 512 → 0 < n → n ≤ length stack → (w : WordsT) (front : Bool) (left : ℕ) (near : Stretch) → Turned f t at l looked (U.Crossing w front left near) → (z : Waiting) → Keeps w front left near z
+    pub push : at.left ≤ 512 → 0 < n → n ≤ length stack → (w : WordsT) (front : Bool) (left : ℕ) (near : Stretch) → Turned f t at l looked (Some (U.Crossing w front left near)) → (z : Waiting) → Keeps w front left near z
         → (next : Stand) → next ≡ near_side w front left near → (next.left ≤ 512) × Standing f t root whole (drop (n - 1) (set stack (n - 1) z)) next l y looked all
     push most more room w front left near T z Z next is-next =
         let a = T.1.0 in
@@ -416,7 +401,7 @@ module _ (f : List ℕ) (t : Tables) (root : ℕ) (whole : Stretch) where
         )
 
     -- none waits
-    pub last : (m : LineTrace) → Turned f t at l looked (U.Into m) → length stack ≤ n → onward m ≡ all
+    pub last : (m : LineTrace) → Turned f t at l looked (Some (U.Into m)) → length stack ≤ n → onward m ≡ all
     last m T h = by S.xs (subst (KeptAll S.xs) (none_waits stack n h) S.its_planes) (goes_into (drop n stack) at l y looked all S m T)
       where
         by : (xs : List Cut) → KeptAll xs [] → Resumes f t root xs (onward m) all → onward m ≡ all
@@ -424,7 +409,7 @@ module _ (f : List ℕ) (t : Tables) (root : ℕ) (whole : Stretch) where
         by (x ∷ xs) k r = absurd k
 
     -- the first is taken, and the line goes on beyond it
-    module _ (m : LineTrace) (T : Turned f t at l looked (U.Into m)) (d : Waiting) (h : n < length stack) where
+    module _ (m : LineTrace) (T : Turned f t at l looked (Some (U.Into m))) (d : Waiting) (h : n < length stack) where
       past_it : (rest : List Waiting) (z : Waiting) (xs : List Cut) → KeptAll xs (z ∷ rest) → Chain whole xs → Resumes f t root xs (onward m) all
           → (next : Stand) → next ≡ beyond_it z rest whole → (next.left ≤ 512) × Standing f t root whole rest next m z true all
       past_it rest z [] k c r next is-next = absurd k
@@ -447,13 +432,17 @@ module _ (f : List ℕ) (t : Tables) (root : ℕ) (whole : Stretch) where
       pop next is-next =
           past_it (drop (n + 1) stack) (get_or stack n d) S.xs (subst (KeptAll S.xs) (popped stack n d h) S.its_planes) S.chain (goes_into (drop n stack) at l y looked all S m T) next is-next
 
+-- what `get` and `copied` give
+pub got : (xs : List Waiting) (i : ℕ) (r : Option (Bor Waiting)) → IsItemAt xs i r → option_copied r ≡ slice_get xs i
+got xs i None h = sym (slice_get_past xs i h.3)
+got xs i (Some x) h = sym (slice_get_read xs (length xs) i x.now refl h.3.0 h.1)
+
 -- what `beyond` finds in the list
-pub next_in : (x : Waiting) (whole : Stretch) (stack : List Waiting) → length stack ≡ 10 → (n i : ℕ) (d : Waiting) → i ≡ cond (ltb n 10) n 9 → beyond_next x (get_or stack i d) n whole ≡ beyond_it x (drop n stack) whole
-next_in x whole stack e n i d is-i = by (order n 10)
-  where
-    by : (n < 10) ⊎ (10 ≤ n) → beyond_next x (get_or stack i d) n whole ≡ beyond_it x (drop n stack) whole
-    by (inl h) = rw (is-i, lt-ltb n 10 h) (ap (λ (ys : List Waiting). beyond_it x ys whole) (sym (popped stack n d (omega (arith, e, h)))))
-    by (inr h) = rw (le-ltb n 10 h) (ap (λ (ys : List Waiting). beyond_it x ys whole) (sym (none_waits stack n (omega (arith, e, h)))))
+pub next_in : (x : Waiting) (whole : Stretch) (stack : List Waiting) (n : ℕ) → beyond_next x (slice_get stack n) whole ≡ beyond_it x (drop n stack) whole
+next_in x whole [] zero = refl
+next_in x whole [] (suc n) = refl
+next_in x whole (y ∷ ys) zero = refl
+next_in x whole (y ∷ ys) (suc n) = next_in x whole ys n
 
 -- before anything is met
 pub starts : (f : List ℕ) (t : Tables) (root : ℕ) (at : Stand) (l : LineTrace) (y : Waiting) → Standing f t root at.part [] at l y false (word_went f t root at.left at.word at.part l)
@@ -470,31 +459,31 @@ starts f t root at l y =
     }
 
 -- from the root
-from_root : (f : List ℕ) (g : Ground) (s : Stretch) (l : LineTrace) → g.root < 32768 → word_went f g.t g.root 512 g.root s l ≡ line_from (Fast.table f g.t) g.root 512 g.root s l
-from_root f g s l h = ap (λ (y : Child End). on_child (Fast.table f g.t) (λ n s l. line_from (Fast.table f g.t) g.root 512 n s l) y s l) (word_node g.t.table g.root h)
+from_root : (g : Ground) (s : Stretch) (l : LineTrace) → g.root < 32768 → word_went g.s.now g.t g.root 512 g.root s l ≡ line_from (Fast.table g.s.now g.t) g.root 512 g.root s l
+from_root g s l h = ap (λ (y : Child End). on_child (Fast.table g.s.now g.t) (λ n s l. line_from (Fast.table g.s.now g.t) g.root 512 n s l) y s l) (word_node g.t.table g.root h)
 
 -- where the whole line comes to
-module _ (f : List ℕ) (g : Ground) (p q : Vector3) (l : LineTrace) (is_l : l ≡ unset q) (h : g.root < 32768) (r : Came) (is-r : Arrives f g (record { word = g.root; left = 512; part = stretch zero32 one32 p q }) l r) where
-  whole_line_lem : stand_went f g (record { word = g.root; left = 512; part = stretch zero32 one32 p q }) l ≡ all_went f g p q
-  whole_line_lem = from_root f g (stretch zero32 one32 p q) l h ∙ ap (line_from (Fast.table f g.t) g.root 512 g.root (stretch zero32 one32 p q)) is_l
+module _ (g : Ground) (p q : Vector3) (l : LineTrace) (is_l : l ≡ unset q) (h : g.root < 32768) (r : Came) (is-r : Arrives g (record { word = g.root; left = 512; part = stretch zero32 one32 p q }) l (Some r)) where
+  whole_line_lem : stand_went g (record { word = g.root; left = 512; part = stretch zero32 one32 p q }) l ≡ all_went g p q
+  whole_line_lem = from_root g (stretch zero32 one32 p q) l h ∙ ap (line_from (Fast.table g.s.now g.t) g.root 512 g.root (stretch zero32 one32 p q)) is_l
 
-  pub came_through : (m : LineTrace) → r ≡ C.Through m → onward m ≡ all_went f g p q
-  came_through m e = subst (Arrives f g (record { word = g.root; left = 512; part = stretch zero32 one32 p q }) l) e is-r ∙ whole_line_lem
+  pub came_through : (m : LineTrace) → r ≡ C.Through m → onward m ≡ all_went g p q
+  came_through m e = subst (λ (x : Came). Arrives g (record { word = g.root; left = 512; part = stretch zero32 one32 p q }) l (Some x)) e is-r ∙ whole_line_lem
 
-  pub came_blocked : (y : Waiting) (m : LineTrace) → r ≡ C.Blocked y m → (u : Stop) → Stops f g y m u → (n : LineTrace) → u ≡ S.At n → stopped n ≡ all_went f g p q
+  pub came_blocked : (y : Waiting) (m : LineTrace) → r ≡ C.Blocked y m → (u : Option LineTrace) → Stops g y m u → (n : LineTrace) → u ≡ Some n → stopped n ≡ all_went g p q
   came_blocked y m e u U n is_n =
-      let b = subst (Arrives f g (record { word = g.root; left = 512; part = stretch zero32 one32 p q }) l) e is-r in
-      subst (Stops f g y m) is_n U b.0 b.1.0 b.1.1.0 b.1.1.1.0 ∙ b.1.1.1.1 ∙ whole_line_lem
+      let b = subst (λ (x : Came). Arrives g (record { word = g.root; left = 512; part = stretch zero32 one32 p q }) l (Some x)) e is-r in
+      subst (Stops g y m) is_n U b.0 b.1.0 b.1.1.0 b.1.1.1.0 ∙ b.1.1.1.1 ∙ whole_line_lem
 
 -- ---- where a line that is blocked stops
 
-module _ (f : List ℕ) (g : Ground) (y : Waiting) (l : LineTrace) (x : Cut) (K : Kept x y) (h : Hyperplane) (is-h : plane_in f g.t x.w.plane ≡ answer h) where
-  pub stops_there : l.all_solid ≡ false → (p : Result Hyperplane Refusal) → answer_of p ≡ plane_in f g.t y.plane → (i : Hyperplane) → p ≡ Ok i
-      → (a : EndContents) → end_answer a ≡ contents_from (Fast.table f g.t) 512 g.root y.point → (c : BspLeafContents) → a ≡ E.Contents c → Contents.equal c Solid ≡ false
+module _ (g : Ground) (y : Waiting) (l : LineTrace) (x : Cut) (K : Kept x y) (h : Hyperplane) (is-h : plane_in g.s.now g.t x.w.plane ≡ answer h) where
+  pub stops_there : l.all_solid ≡ false → (i : Hyperplane) → answer i ≡ plane_in g.s.now g.t y.plane
+      → (c : BspLeafContents) → answer c ≡ contents_from (Fast.table g.s.now g.t) 512 g.root y.point → Contents.equal c Solid ≡ false
       → (front : Bool) → front ≡ from_front y → (lp : LinePlane) → lp ≡ plane_from (Pl.side_if front) i → (m : LineTrace) → m ≡ with_plane lp l → (n : LineTrace) → n ≡ ended y.at y.point m
-      → stopped n ≡ blocked (Fast.table f g.t) g.root h (Pl.from_dist x.a) x.part x.k l
-  stops_there free p is-p i is-i a is-a c is_c z front is_front lp is-lp m is_m n is_n =
+      → stopped n ≡ blocked (Fast.table g.s.now g.t) g.root h (Pl.from_dist x.a) x.part x.k l
+  stops_there free i is-i c is_c z front is_front lp is-lp m is_m n is_n =
       ap stopped (is_n ∙ rw (K.at_is, K.point_is))
-      ∙ back_open (Fast.table f g.t) g.root x.part m 10 x.k (omega arith) y.point K.point_is a is-a c is_c z
-      ∙ blocked_by (Fast.table f g.t) g.root (Pl.from_dist x.a) x.part x.k l h free i
-      (blocked_plane f g.t y.plane h p is-p (ap (plane_in f g.t) K.plane_is ∙ is-h) i is-i) lp (is-lp ∙ ap (λ (b : Bool). plane_from (Pl.side_if b) i) (is_front ∙ K.side_is)) m is_m
+      ∙ back_open (Fast.table g.s.now g.t) g.root x.part m 10 x.k (omega arith) y.point K.point_is c is_c z
+      ∙ blocked_by (Fast.table g.s.now g.t) g.root (Pl.from_dist x.a) x.part x.k l h free i
+      (blocked_plane g.s.now g.t y.plane h (ap (plane_in g.s.now g.t) K.plane_is ∙ is-h) i is-i) lp (is-lp ∙ ap (λ (b : Bool). plane_from (Pl.side_if b) i) (is_front ∙ K.side_is)) m is_m

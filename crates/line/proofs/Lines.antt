@@ -1,7 +1,6 @@
 -- Each way through a step of the whole-line trace, by what the calls answer. Assumes nothing.
 use Rattle.std.specs.Prelude.{Result, Ok, Err}
 use Prim.Native.Nat.{ℕ, zero, suc, ◌-◌, ◌<◌, ◌≤◌}
-use Rattle.format.specs.Answers.{answer_of}
 use native.Mathlib.Omega.{arith}
 use mathlib.Core.Path.{◌≡◌, refl, sym, ap, subst, ◌∙◌}
 use mathlib.Core.Bool.{Bool, true, false, not, beq}
@@ -24,16 +23,14 @@ use Rattle.math.specs.declared.plane.HyperplaneSide.{HyperplaneSide}
 use Rattle.walk.specs.Table.{Child, Node, Table, child_on}
 use Rattle.walk.specs.Walk.{enter}
 use Rattle.nodes.specs.Tables.{End}
-use Rattle.nodes.specs.Fast.{node_of, word_on, plane_in, contents_met, end_answer}
+use Rattle.nodes.specs.Fast.{node_of, word_on, plane_in, contents_met}
 use Rattle.nodes.specs.Fast as Fast
 use Rattle.nodes.specs.declared.table.Tables.{Tables}
 use Rattle.nodes.specs.declared.read.Words.{Words as WordsT}
-use Rattle.nodes.specs.declared.read.EndContents.{EndContents}
-use Rattle.nodes.specs.declared.read.EndContents.TheVariants as E
 use Rattle.nodes.proofs.Entering.{child_node, child_end}
 use Rattle.line.specs.Line.{Went, onward, stopped, refused, near_part, far_part, point_at, crossing, into, plane_from, with_plane, contents_below, back_off, into_leaf, on_child, blocked, beyond, past, across, line_at, line_from}
 use Rattle.line.specs.Private.{went_of, Crossed, Comes, Beyond, child_at, contents_beside, child_went, far_went}
-use Rattle.line.specs.declared.contents.Ground.{Ground}
+use Rattle.line.specs.declared.ground.Ground.{Ground}
 use Rattle.line.specs.declared.state.Stretch.{Stretch}
 use Rattle.line.specs.declared.state.LinePlane.{LinePlane}
 use Rattle.line.specs.declared.state.LineTrace.{LineTrace}
@@ -42,7 +39,6 @@ use Rattle.line.specs.declared.tracing.Going.TheVariants as G
 use Rattle.line.specs.declared.tracing.Far.{Far}
 use Rattle.line.specs.declared.tracing.Far.TheVariants as F
 use Rattle.line.specs.declared.tracing.Descent.{Descent}
-use Rattle.line.specs.declared.tracing.Descent.TheVariants as D
 use Rattle.line.proofs.States.{pick_true, pick_false}
 use Rattle.line.proofs.Looks.{beside_end}
 use Rattle.line.proofs.Seen.{Opened, Closed, outside, spent, unread}
@@ -78,25 +74,18 @@ module _ (f : List ℕ) (t : Tables) (root left : ℕ) (w : WordsT) (b : Bool) (
   unfolding child_went
   child_line h = sym (ap (λ (c : Child End). on_child T₀ go₀ c s l) (child_node t.table w b word is_word h))
 
-  module _ (h : 32768 ≤ word) (x : EndContents) (is_x : end_answer x ≡ contents_met f t word) where
-    child_met : into_leaf T₀ l (end_answer x) ≡ child_went f t root left w b s l
-    unfolding child_went contents_met
-    child_met = ap (into_leaf T₀ l) is_x ∙ sym (ap (λ (c : Child End). on_child T₀ go₀ c s l) (child_end t.table w b word is_word h))
-
-    pub child_leaf : (c : BspLeafContents) → x ≡ E.Contents c → onward (into c l) ≡ child_went f t root left w b s l
-    child_leaf c q = sym (ap (λ (y : EndContents). into_leaf T₀ l (end_answer y)) q) ∙ child_met
-
-    pub child_none : (e : Refusal) → x ≡ E.Refused e → refused (number_of e) ≡ child_went f t root left w b s l
-    child_none e q = sym (ap (λ (y : EndContents). into_leaf T₀ l (end_answer y)) q) ∙ child_met
+  pub child_met : 32768 ≤ word → (a : Answer BspLeafContents) → a ≡ contents_met f t word → into_leaf T₀ l a ≡ child_went f t root left w b s l
+  unfolding child_went contents_met
+  child_met h a is-a = ap (into_leaf T₀ l) is-a ∙ sym (ap (λ (c : Child End). on_child T₀ go₀ c s l) (child_end t.table w b word is_word h))
 
 -- ---- the far side is solid
 
-module _ (f : List ℕ) (t : Tables) (n : ℕ) (h : Hyperplane) (p : Result Hyperplane Refusal) (is-p : answer_of p ≡ plane_in f t n) (is-h : plane_in f t n ≡ answer h) where
-  pub blocked_unread : (e : Refusal) → p ≡ Err e → ⊥
-  blocked_unread e q = let z : Ans.refused (number_of e) ≡ answer h = sym (ap answer_of q) ∙ is-p ∙ is-h in let y : ◌≡◌ {A = ℕ} 0 1 = cc in absurd (omega arith)
+module _ (f : List ℕ) (t : Tables) (n : ℕ) (h : Hyperplane) (is-h : plane_in f t n ≡ answer h) where
+  pub blocked_unread : (e : ℕ) → Ans.refused e ≡ plane_in f t n → ⊥
+  blocked_unread e q = let z : Ans.refused e ≡ answer h = q ∙ is-h in let y : ◌≡◌ {A = ℕ} 0 1 = cc in absurd (omega arith)
 
-  pub blocked_plane : (g : Hyperplane) → p ≡ Ok g → g ≡ h
-  blocked_plane g q = let e : answer g ≡ answer h = sym (ap answer_of q) ∙ is-p ∙ is-h in let d : g ≡ h = cc in d
+  pub blocked_plane : (g : Hyperplane) → answer g ≡ plane_in f t n → g ≡ h
+  blocked_plane g q = let e : answer g ≡ answer h = q ∙ is-h in let d : g ≡ h = cc in d
 
 module _ {En : Type 0} (T : Table En BspLeafContents) (root : ℕ) (side : HyperplaneSide) (s : Stretch) (k : Float) (l : LineTrace) (h : Hyperplane) where
   pub blocked_all : l.all_solid ≡ true → stopped l ≡ blocked T root h side s k l
@@ -156,16 +145,9 @@ module _ (f : List ℕ) (t : Tables) (root k i : ℕ) (s : Stretch) (l : LineTra
       pub goes_on : word < 32768 → line_from T root (k - 1) word s l ≡ all
       goes_on h = sym (ap (λ (c : Child End). on_child T go c s l) (child_node t.table w (Ieee.le zero32 a) word is_word h)) ∙ on_child_lem
 
-      module _ (h : 32768 ≤ word) (x : EndContents) (is_x : end_answer x ≡ contents_met f t word) where
-        in_end : into_leaf T l (end_answer x) ≡ all
-        unfolding contents_met
-        in_end = ap (into_leaf T l) is_x ∙ sym (ap (λ (c : Child End). on_child T go c s l) (child_end t.table w (Ieee.le zero32 a) word is_word h)) ∙ on_child_lem
-
-        pub in_leaf : (c : BspLeafContents) → x ≡ E.Contents c → onward (into c l) ≡ all
-        in_leaf c q = sym (ap (λ (y : EndContents). into_leaf T l (end_answer y)) q) ∙ in_end
-
-        pub no_leaf : (e : Refusal) → x ≡ E.Refused e → refused (number_of e) ≡ all
-        no_leaf e q = sym (ap (λ (y : EndContents). into_leaf T l (end_answer y)) q) ∙ in_end
+      pub in_end : 32768 ≤ word → into_leaf T l (contents_met f t word) ≡ all
+      unfolding contents_met
+      in_end h = sym (ap (λ (c : Child End). on_child T go c s l) (child_end t.table w (Ieee.le zero32 a) word is_word h)) ∙ on_child_lem
 
 -- ---- on the way down
 
@@ -182,34 +164,30 @@ crosses_here f t k i s w a b O d j n h same = record {
 }
 
 -- what `descend` says of each place that it comes to
-module _ (f : List ℕ) (t : Tables) (i k : ℕ) (s : Stretch) (r : Descent) (is-r : Comes f t i k s r) where
-  pub comes_leaf : (c : BspLeafContents) → r ≡ D.Leaf c → (root : ℕ) (l : LineTrace) → onward (into c l) ≡ line_from (Fast.table f t) root k i s l
-  comes_leaf c e = subst (Comes f t i k s) e is-r
-
-  pub comes_refused : (x : Refusal) → r ≡ D.Refused x → (root : ℕ) (l : LineTrace) → refused (number_of x) ≡ line_from (Fast.table f t) root k i s l
-  comes_refused x e = subst (Comes f t i k s) e is-r
-
-  pub comes_across : (w : WordsT) (a b : Float) (left : ℕ) → r ≡ D.Crossing w a b left → Crossed f t i k s w a b left
-  comes_across w a b left e = subst (Comes f t i k s) e is-r
+pub comes : (f : List ℕ) (t : Tables) (i k : ℕ) (s : Stretch) (r : Descent) → Comes f t i k s (Ok r) → (d : Descent) → r ≡ d → Comes f t i k s (Ok d)
+comes f t i k s r is-r d e = subst (λ (x : Descent). Comes f t i k s (Ok x)) e is-r
 
 -- ---- beyond a plane, by the contents of the far side at the crossing
 
-module _ (f : List ℕ) (g : Ground) (w : WordsT) (front : Bool) (s : Stretch) (k : Float) (l : LineTrace) (p : Vector3) (is-p : p ≡ point_at s k) (e : EndContents) (is-e : end_answer e ≡ contents_beside f g.t w (not front) p) (h : Hyperplane) (go : ℕ → Stretch → LineTrace → Went) where
+module _ (g : Ground) (w : WordsT) (front : Bool) (s : Stretch) (k : Float) (l : LineTrace) (p : Vector3) (is-p : p ≡ point_at s k) (h : Hyperplane) (go : ℕ → Stretch → LineTrace → Went) where
   abbrev T₂ : Table End BspLeafContents
-  T₂ = Fast.table f g.t
+  T₂ = Fast.table g.s.now g.t
 
   abbrev rest : Answer BspLeafContents → Went
   rest = beyond T₂ go g.root (node_of g.t.table w) h s (Pl.side_if front) k l
 
   abbrev far : Went
-  far = rest (contents_beside f g.t w (not front) (point_at s k))
+  far = rest (contents_beside g.s.now g.t w (not front) (point_at s k))
 
-  pub far_unread : (n : Refusal) → e ≡ E.Refused n → refused (number_of n) ≡ far
-  far_unread n q = sym (ap (λ (y : EndContents). rest (end_answer y)) q) ∙ ap rest (is-e ∙ ap (contents_beside f g.t w (not front)) is-p)
+  found : rest (contents_beside g.s.now g.t w (not front) p) ≡ far
+  found = ap (λ (q : Vector3). rest (contents_beside g.s.now g.t w (not front) q)) is-p
 
-  module _ (c : BspLeafContents) (q : e ≡ E.Contents c) where
+  pub far_unread : (n : ℕ) → Ans.refused n ≡ contents_beside g.s.now g.t w (not front) p → refused n ≡ far
+  far_unread n q = ap rest q ∙ found
+
+  module _ (c : BspLeafContents) (q : answer c ≡ contents_beside g.s.now g.t w (not front) p) where
     met : rest (answer c) ≡ far
-    met = sym (ap (λ (y : EndContents). rest (end_answer y)) q) ∙ ap rest (is-e ∙ ap (contents_beside f g.t w (not front)) is-p)
+    met = ap rest q ∙ found
 
     pub far_solid : Contents.equal c Solid ≡ true → blocked T₂ g.root h (Pl.side_if front) s k l ≡ far
     far_solid y = pick_true _ _ _ y ∙ met
@@ -226,14 +204,14 @@ module _ (f : List ℕ) (g : Ground) (w : WordsT) (front : Bool) (s : Stretch) (
       pub far_leaf : 32768 ≤ word → onward (into c l) ≡ far
       unfolding contents_met
       far_leaf h =
-          ap (into_leaf T₂ l) (sym (ap end_answer q) ∙ is-e ∙ sym (beside_end f g.t w (not front) p word is_word h))
+          ap (into_leaf T₂ l) (q ∙ sym (beside_end g.s.now g.t w (not front) p word is_word h))
           ∙ sym (ap (λ (c : Child End). on_child T₂ go c (far_part s k) l) (child_end g.t.table w (not front) word is_word h)) ∙ far_open
 
 -- ---- at a crossing
 
-module _ (f : List ℕ) (g : Ground) (k i : ℕ) (s : Stretch) (l : LineTrace) (w : WordsT) (a b : Float) (left : ℕ) (C : Crossed f g.t i k s w a b left) where
+module _ (g : Ground) (k i : ℕ) (s : Stretch) (l : LineTrace) (w : WordsT) (a b : Float) (left : ℕ) (C : Crossed g.s.now g.t i k s w a b left) where
   abbrev T₁ : Table End BspLeafContents
-  T₁ = Fast.table f g.t
+  T₁ = Fast.table g.s.now g.t
 
   abbrev go₁ : ℕ → Stretch → LineTrace → Went
   go₁ = λ n s l. line_from T₁ g.root left n s l
@@ -247,34 +225,42 @@ module _ (f : List ℕ) (g : Ground) (k i : ℕ) (s : Stretch) (l : LineTrace) (
   abbrev whole : Went
   whole = line_from T₁ g.root k i s l
 
-  module _ (x : Float) (is_x : x ≡ crossing a b) (near : Going) (is_near : went_of near ≡ child_went f g.t g.root left w front (near_part s x) l) where
-    passed : past T₁ go₁ g.root nd C.plane s (Pl.side_if front) x (went_of near) ≡ whole
+  module _ (x : Float) (is_x : x ≡ crossing a b) where
+    passed : (near : Went) → near ≡ child_went g.s.now g.t g.root left w front (near_part s x) l → past T₁ go₁ g.root nd C.plane s (Pl.side_if front) x near ≡ whole
     unfolding child_went
-    passed =
+    passed near is_near =
         ap (past T₁ go₁ g.root nd C.plane s (Pl.side_if front) x) is_near
         ∙ ap (λ (y : Float). past T₁ go₁ g.root nd C.plane s (Pl.side_if front) y (on_child T₁ go₁ (child_at g.t w front) (near_part s y) l)) is_x
         ∙ pick_false _ _ _ C.differ ∙ C.says g.root l
 
-    -- the near side ends the trace
-    by_near : (y : Going) → ((m : LineTrace) → y ≡ G.On m → ⊥) → went_of y ≡ past T₁ go₁ g.root nd C.plane s (Pl.side_if front) x (went_of y)
-    by_near (G.On m) none = absurd (none m refl)
-    by_near (G.Stopped m) none = refl
-    by_near (G.Refused e) none = refl
+    -- the near side is refused
+    pub near_fails : (n : ℕ) → refused n ≡ child_went g.s.now g.t g.root left w front (near_part s x) l → refused n ≡ whole
+    near_fails n e = passed (refused n) e
 
-    pub near_ends : ((m : LineTrace) → near ≡ G.On m → ⊥) → went_of near ≡ whole
-    near_ends none = by_near near none ∙ passed
+    module _ (near : Going) (is_near : went_of (Ok near) ≡ child_went g.s.now g.t g.root left w front (near_part s x) l) where
+      -- it ends the trace
+      pub near_ends : ((m : LineTrace) → near ≡ G.On m → ⊥) → went_of (Ok near) ≡ whole
+      near_ends none = by near none ∙ passed _ is_near
+        where
+          by : (y : Going) → ((m : LineTrace) → y ≡ G.On m → ⊥) → went_of (Ok y) ≡ past T₁ go₁ g.root nd C.plane s (Pl.side_if front) x (went_of (Ok y))
+          by (G.On m) none = absurd (none m refl)
+          by (G.Stopped m) none = refl
 
-    -- the near side was traced: what `beyond` says of the far side
-    module _ (m : LineTrace) (is-on : near ≡ G.On m) (r : Far) (is-r : Beyond f g w front s x m r) where
-      goes : far_went go₁ (far_part s x) m r ≡ whole
-      unfolding contents_beside
-      goes =
-          is-r C.plane C.read go₁
-          ∙ ap (λ (y : HyperplaneSide). beyond T₁ go₁ g.root nd C.plane s (Pl.side_if front) x m (contents_below T₁ (child_on nd y) (point_at s x))) (other_side front)
-          ∙ sym (ap (λ (y : Going). past T₁ go₁ g.root nd C.plane s (Pl.side_if front) x (went_of y)) is-on) ∙ passed
+      -- it was traced: what `beyond` says of the far side
+      module _ (m : LineTrace) (is-on : near ≡ G.On m) where
+        goes : (r : Result Far Refusal) → Beyond g w front s x m r → far_went go₁ (far_part s x) m r ≡ whole
+        unfolding contents_beside
+        goes r is-r =
+            is-r C.plane C.read go₁
+            ∙ ap (λ (y : HyperplaneSide). beyond T₁ go₁ g.root nd C.plane s (Pl.side_if front) x m (contents_below T₁ (child_on nd y) (point_at s x))) (other_side front)
+            ∙ sym (ap (λ (y : Going). past T₁ go₁ g.root nd C.plane s (Pl.side_if front) x (went_of (Ok y))) is-on) ∙ passed _ is_near
 
-      pub far_ends : (y : Going) → r ≡ F.Ended y → went_of y ≡ whole
-      far_ends y q = sym (ap (far_went go₁ (far_part s x) m) q) ∙ goes
+        pub far_fails : (e : Refusal) → Beyond g w front s x m (Err e) → refused (number_of e) ≡ whole
+        far_fails e is-r = goes (Err e) is-r
 
-      pub far_goes : (n : ℕ) → r ≡ F.Node n → (fp : Stretch) → fp ≡ far_part s x → line_from T₁ g.root left n fp m ≡ whole
-      far_goes n q fp is-fp = ap (λ (y : Stretch). line_from T₁ g.root left n y m) is-fp ∙ sym (ap (far_went go₁ (far_part s x) m) q) ∙ goes
+        module _ (r : Far) (is-r : Beyond g w front s x m (Ok r)) where
+          pub far_ends : (y : Going) → r ≡ F.Ended y → went_of (Ok y) ≡ whole
+          far_ends y q = sym (ap (λ (z : Far). far_went go₁ (far_part s x) m (Ok z)) q) ∙ goes (Ok r) is-r
+
+          pub far_goes : (n : ℕ) → r ≡ F.Node n → (fp : Stretch) → fp ≡ far_part s x → line_from T₁ g.root left n fp m ≡ whole
+          far_goes n q fp is-fp = ap (λ (y : Stretch). line_from T₁ g.root left n y m) is-fp ∙ sym (ap (λ (z : Far). far_went go₁ (far_part s x) m (Ok z)) q) ∙ goes (Ok r) is-r

@@ -1,7 +1,8 @@
 -- What the reader of a node says of it, as it is entered; and the child that a word stands for. Assumes nothing.
 use Rattle.std.specs.Prelude.{Result, Ok, Err}
+use Rattle.std.specs.Result.{IsErrAnd}
+use Rattle.std.proofs.lemmas.Result.{err_from_is_err_and}
 use Prim.Native.Nat.{ℕ, ◌<◌, ◌≤◌}
-use Rattle.format.specs.Answers.{answer_of}
 use mathlib.Core.Path.{◌≡◌, refl, sym, ap, ◌∙◌}
 use native.Mathlib.Omega.{arith}
 use mathlib.Core.Bool.{Bool, true, false, cond}
@@ -22,54 +23,34 @@ use Rattle.math.specs.Vector.{zero32}
 use Rattle.walk.specs.Table.{Node, child_on}
 use Rattle.walk.specs.Walk.{Entered, enter}
 use Rattle.nodes.specs.Tables.{End}
-use Rattle.nodes.specs.Fast.{node_of, child_of, word_on, plane_in, words_answer, two_dists, dists_from, dists_answer}
+use Rattle.nodes.specs.Fast.{node_of, child_of, word_on, plane_in}
 use Rattle.nodes.specs.Fast as Fast
 use Rattle.nodes.specs.declared.table.Tables.{Tables}
 use Rattle.nodes.specs.declared.read.Words.{Words as WordsT}
-use Rattle.nodes.specs.declared.read.ReadWords.{ReadWords}
-use Rattle.nodes.specs.declared.read.ReadWords.TheVariants as W
-use Rattle.nodes.specs.declared.read.Dists.{Dists}
-use Rattle.nodes.specs.declared.read.Dists.TheVariants as D
-use Rattle.nodes.specs.declared.segment.SegmentAt.{SegmentAt}
-use Rattle.nodes.specs.declared.segment.SegmentAt.TheVariants as G
-use Rattle.nodes.specs.declared.walking.Onward.{Onward}
-use Rattle.nodes.specs.declared.walking.Onward.TheVariants as O
-use Rattle.nodes.specs.Walks.{made_from, child_by_distance, node_and_dists, segment_answer, onward_answer}
+use Rattle.nodes.specs.Walks.{made_from, child_by_distance, node_and_dists}
 use Rattle.nodes.proofs.Entering.{planed, child_is, enter_not, enter_is, enter_no_plane}
 use Rattle.line.specs.Private.{node_for}
 
--- ---- what the readers say of a node
+-- ---- a refusal that a `?` hands on
 
-module _ (f : List ℕ) (t : Tables) (i : ℕ) (r : ReadWords) (is-r : words_answer t.table r ≡ Fast.node_at f t i) where
-  pub no_node : {X : Type 0} (make : Entered End → X) (x : Refusal) → r ≡ W.Refused x → Ans.refused (number_of x) ≡ made_from make f t i
-  no_node make x e = sym (ap (mapped make) (enter_not f t (Fast.table f t) refl refl refl i r is-r x e))
+pub handed_on : {A : Type 0} (q : Result A Refusal) (e : Refusal) → IsErrAnd q (λ d. d ≡ e) → q ≡ Err e
+handed_on q e h = let (d, t, s) = err_from_is_err_and q h in t ∙ ap Err s
 
-  module _ (w : WordsT) (is-w : r ≡ W.Words w) where
-    without : {X : Type 0} (make : Entered End → X) (n : ℕ) → plane_in f t w.plane ≡ Ans.refused n → Ans.refused n ≡ made_from make f t i
-    without make n e = sym (ap (mapped make) (enter_no_plane f t (Fast.table f t) refl refl refl i r is-r w is-w n e))
+-- ---- the child on a point's side, by what the readers say of a node
 
-    with_plane_lem : {X : Type 0} (make : Entered End → X) (h : Hyperplane) → plane_in f t w.plane ≡ answer h → answer (make (record { nd = node_of t.table w; plane = h })) ≡ made_from make f t i
-    with_plane_lem make h e = sym (ap (mapped make) (enter_is f t (Fast.table f t) refl refl refl i r is-r w is-w h e))
+module _ (f : List ℕ) (t : Tables) (i : ℕ) (p : Vector3) where
+  pub no_node : (x : Refusal) → Ans.refused (number_of x) ≡ Fast.node_at f t i → Ans.refused (number_of x) ≡ made_from (child_by_distance p) f t i
+  no_node x e = sym (ap (mapped (child_by_distance p)) (enter_not f t (Fast.table f t) refl refl refl i (Err x) e x refl))
 
-    -- two distances
-    module _ (p q : Vector3) (d : Dists) (is-d : dists_answer d ≡ dists_from p q (plane_in f t w.plane)) where
-      pub no_plane : (x : Refusal) → d ≡ D.Refused x → Ans.refused (number_of x) ≡ made_from (node_and_dists p q) f t i
-      no_plane x e = without (node_and_dists p q) (number_of x) (mapped_refused (two_dists p q) (plane_in f t w.plane) (number_of x) (sym is-d ∙ ap dists_answer e))
+  module _ (w : WordsT) (is-w : answer (node_of t.table w) ≡ Fast.node_at f t i) where
+    pub no_side : (x : Refusal) → Ans.refused (number_of x) ≡ plane_in f t w.plane → Ans.refused (number_of x) ≡ made_from (child_by_distance p) f t i
+    no_side x e = sym (ap (mapped (child_by_distance p)) (enter_no_plane f t (Fast.table f t) refl refl refl i (Ok w) is-w w refl (number_of x) (sym e)))
 
-      pub two_dists_lem : (a b : Float) → d ≡ D.Two a b → answer (node_of t.table w, (a, b)) ≡ made_from (node_and_dists p q) f t i
-      two_dists_lem a b e =
-          let k = mapped_answer (two_dists p q) (plane_in f t w.plane) (a, b) (sym is-d ∙ ap dists_answer e) in
-          ap (λ (y : Float × Float). answer (node_of t.table w, y)) (sym k.2) ∙ with_plane_lem (node_and_dists p q) k.0 k.1
-
-    -- the child on a point's side
-    module _ (p : Vector3) (a : Result Hyperplane Refusal) (is-a : answer_of a ≡ plane_in f t w.plane) where
-      pub no_side : (x : Refusal) → a ≡ Err x → Ans.refused (number_of x) ≡ made_from (child_by_distance p) f t i
-      no_side x e = without (child_by_distance p) (number_of x) (sym is-a ∙ ap answer_of e)
-
-      pub one_side : (h : Hyperplane) → a ≡ Ok h → (d : Float) → d ≡ Pl.point_dist h p → (word : ℕ) → word ≡ word_on w (Ieee.le zero32 d) → answer (child_of t.table word) ≡ made_from (child_by_distance p) f t i
-      one_side h e d is-d word is_word =
-          ap (λ (n : ℕ). answer (child_of t.table n)) is_word ∙ ap answer (sym (child_is t.table w (Ieee.le zero32 d)))
-          ∙ ap (λ (x : Float). answer (child_on (node_of t.table w) (Pl.from_dist x))) is-d ∙ with_plane_lem (child_by_distance p) h (sym is-a ∙ ap answer_of e)
+    pub one_side : (h : Hyperplane) → answer h ≡ plane_in f t w.plane → (d : Float) → d ≡ Pl.point_dist h p → (word : ℕ) → word ≡ word_on w (Ieee.le zero32 d) → answer (child_of t.table word) ≡ made_from (child_by_distance p) f t i
+    one_side h e d is-d word is_word =
+        ap (λ (n : ℕ). answer (child_of t.table n)) is_word ∙ ap answer (sym (child_is t.table w (Ieee.le zero32 d)))
+        ∙ ap (λ (x : Float). answer (child_on (node_of t.table w) (Pl.from_dist x))) is-d
+        ∙ sym (ap (mapped (child_by_distance p)) (enter_is f t (Fast.table f t) refl refl refl i (Ok w) is-w w refl h (sym e)))
 
 -- the same point
 pub same_point : (f : List ℕ) (t : Tables) (i : ℕ) (p x : Vector3) → x ≡ p → made_from (child_by_distance x) f t i ≡ made_from (child_by_distance p) f t i
@@ -144,10 +125,10 @@ pub record Opened (f : List ℕ) (t : Tables) (i k : ℕ) (p q : Vector3) (w : W
   pub second : Pl.point_dist plane q ≡ b
   pub read : plane_in f t w.plane ≡ answer plane
 
-module _ (f : List ℕ) (t : Tables) (i k : ℕ) (p q : Vector3) (r : SegmentAt) (is-r : segment_answer t.table r ≡ node_for (node_and_dists p q) f t i k) where
-  pub opened : (w : WordsT) (a b : Float) → r ≡ G.Dists w a b → Opened f t i k p q w a b
+module _ (f : List ℕ) (t : Tables) (i k : ℕ) (p q : Vector3) where
+  pub opened : (w : WordsT) (a b : Float) → answer (node_of t.table w, (a, b)) ≡ node_for (node_and_dists p q) f t i k → Opened f t i k p q w a b
   opened w a b e =
-      let m : Made (node_and_dists p q) f t i k (node_of t.table w, (a, b)) = made (node_and_dists p q) f t i k (segment_answer t.table r) is-r (node_of t.table w, (a, b)) (ap (segment_answer t.table) e) in
+      let m : Made (node_and_dists p q) f t i k (node_of t.table w, (a, b)) = made (node_and_dists p q) f t i k _ e (node_of t.table w, (a, b)) refl in
       let its_node : m.node.nd ≡ node_of t.table w = ap (λ (z : Node End × (Float × Float)). z.0) m.is_made in
       record {
         in_range = m.in_range;
@@ -159,14 +140,14 @@ module _ (f : List ℕ) (t : Tables) (i k : ℕ) (p q : Vector3) (r : SegmentAt)
         read = sym (ap (λ (z : Node End). plane_in f t z.plane) its_node) ∙ planed f t i m.node m.entered;
       }
 
-  pub closed : (x : Refusal) → r ≡ G.Refused x → Closed f t i k (number_of x)
-  closed x e = closes (node_and_dists p q) f t i k (segment_answer t.table r) is-r (number_of x) (ap (segment_answer t.table) e)
+  pub closed : (n : ℕ) → Ans.refused n ≡ node_for (node_and_dists p q) f t i k → Closed f t i k n
+  closed n e = closes (node_and_dists p q) f t i k _ e n refl
 
 -- ---- a node with the child on a point's side
 
-module _ (f : List ℕ) (t : Tables) (i k : ℕ) (p : Vector3) (r : Onward) (is-r : onward_answer t.table r ≡ node_for (child_by_distance p) f t i k) where
-  pub toward : (word : ℕ) → r ≡ O.Word word → Made (child_by_distance p) f t i k (child_of t.table word)
-  toward word e = made (child_by_distance p) f t i k (onward_answer t.table r) is-r (child_of t.table word) (ap (onward_answer t.table) e)
+module _ (f : List ℕ) (t : Tables) (i k : ℕ) (p : Vector3) where
+  pub toward : (word : ℕ) → answer (child_of t.table word) ≡ node_for (child_by_distance p) f t i k → Made (child_by_distance p) f t i k (child_of t.table word)
+  toward word e = made (child_by_distance p) f t i k _ e (child_of t.table word) refl
 
-  pub not_toward : (x : Refusal) → r ≡ O.Refused x → Closed f t i k (number_of x)
-  not_toward x e = closes (child_by_distance p) f t i k (onward_answer t.table r) is-r (number_of x) (ap (onward_answer t.table) e)
+  pub not_toward : (n : ℕ) → Ans.refused n ≡ node_for (child_by_distance p) f t i k → Closed f t i k n
+  not_toward n e = closes (child_by_distance p) f t i k _ e n refl

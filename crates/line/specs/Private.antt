@@ -1,12 +1,13 @@
 -- For the contracts of functions that no other crate can name; a reader of the calls may leave this file out.
 -- What the parts of the whole-line trace answer, in the terms of Line.antt.
-use Rattle.std.specs.Prelude.{ℕ, suc, ◌/◌, ◌%◌, ◌<◌, ◌≤◌, ◌≡◌, cond, true, false, Bool, not, ◌&&◌, List, [], ◌∷◌, ltb, eqb, Float}
+use Rattle.std.specs.Prelude.{Result, Ok, Err, Option, Some, None, ℕ, suc, ◌/◌, ◌%◌, ◌<◌, ◌≤◌, ◌≡◌, cond, true, false, Bool, not, ◌&&◌, List, [], ◌∷◌, ltb, eqb, Float}
 use Rattle.std.specs.Float.Ieee as Ieee
 use Rattle.math.specs.Vector.{zero32, one32}
 use Rattle.math.specs.Plane as Pl
 use Rattle.math.specs.declared.plane.Hyperplane.{Hyperplane}
 use Rattle.math.specs.declared.vector.Vector3.{Vector3}
 use Rattle.format.specs.Refusal.{number_of}
+use Rattle.format.specs.declared.refusal.Refusal.{Refusal}
 use Rattle.format.specs.Answer as Ans
 use Rattle.format.specs.Answer.{Answer, answer}
 use Rattle.format.specs.Contents as Contents
@@ -15,7 +16,7 @@ use Rattle.format.specs.declared.contents.BspLeafContents.TheVariants.{Solid}
 use Rattle.walk.specs.Walk.{Entered}
 use Rattle.walk.specs.Table.{Child, child_on}
 use Rattle.nodes.specs.Tables.{End}
-use Rattle.nodes.specs.Walks.{made_from, Read}
+use Rattle.nodes.specs.Walks.{made_from}
 use Rattle.nodes.specs.Fast as Fast
 use Rattle.nodes.specs.Fast.{word_on}
 use Rattle.nodes.specs.declared.table.Tables.{Tables}
@@ -23,15 +24,13 @@ use Rattle.nodes.specs.declared.read.Words.{Words}
 use Rattle.line.specs.Line.{line_trace, Went, onward, stopped, refused, stretch, unset, line_from, across, into, into_leaf, contents_on, contents_from, contents_below, on_child, point_at, crossing, near_part, far_part, beyond, blocked, past}
 use Rattle.line.specs.declared.tracing.Going.{Going}
 use Rattle.line.specs.declared.tracing.Going.TheVariants as G
-use Rattle.line.specs.declared.contents.Ground.{Ground}
+use Rattle.line.specs.declared.ground.Ground.{Ground}
 use Rattle.line.specs.declared.state.Stretch.{Stretch}
 use Rattle.line.specs.declared.state.LineTrace.{LineTrace}
 use Rattle.line.specs.declared.tracing.Descent.{Descent}
 use Rattle.line.specs.declared.tracing.Descent.TheVariants as D
 use Rattle.line.specs.declared.tracing.Far.{Far}
 use Rattle.line.specs.declared.tracing.Far.TheVariants as F
-use Rattle.line.specs.declared.tracing.Stop.{Stop}
-use Rattle.line.specs.declared.tracing.Stop.TheVariants as S
 use Rattle.line.specs.declared.through.Waiting.{Waiting}
 use Rattle.line.specs.declared.through.Stand.{Stand}
 use Rattle.line.specs.declared.through.Reached.{Reached}
@@ -41,18 +40,14 @@ use Rattle.line.specs.declared.through.Turn.TheVariants as U
 use Rattle.line.specs.declared.through.Came.{Came}
 use Rattle.line.specs.declared.through.Came.TheVariants as C
 
-abbrev pub went_of : Going → Went
-went_of (G.On l) = onward l
-went_of (G.Stopped l) = stopped l
-went_of (G.Refused e) = refused (number_of e)
+abbrev pub went_of : Result Going Refusal → Went
+went_of (Ok (G.On l)) = onward l
+went_of (Ok (G.Stopped l)) = stopped l
+went_of (Err e) = refused (number_of e)
 
 -- the node i with so many calls left: its index (30), then 32, then what is made of it and its plane
 unfoldable pub node_for : {X : Type 0} → (Entered End → X) → List ℕ → Tables → ℕ → ℕ → Answer X
 node_for make f t i left = cond (ltb i t.nodes.count) (cond (eqb left 0) (Ans.refused 32) (made_from make f t i)) (Ans.refused 30)
-
--- the bytes of the nodes and the planes, as they are lent with what a line goes through
-abbrev pub Lent : List ℕ → List ℕ → List ℕ → Ground → Type 0
-Lent f n m g = Read f g.t n m g.whole
 
 -- a node whose plane the part s crosses, met on the way down from the node i with k calls left: its words, the distances of the ends of s
 -- from its plane, the calls left below it; whatever is set before it, what becomes of s at this node is what becomes of s at the node i
@@ -66,10 +61,10 @@ pub record Crossed (f : List ℕ) (t : Tables) (i k : ℕ) (s : Stretch) (w : Wo
       ≡ line_from (Fast.table f t) root k i s l
 
 -- where the way down of the part s from the node i, with k calls left, comes to
-abbrev pub Comes : List ℕ → Tables → ℕ → ℕ → Stretch → Descent → Type 0
-Comes f t i k s (D.Leaf c) = (root : ℕ) (l : LineTrace) → onward (into c l) ≡ line_from (Fast.table f t) root k i s l
-Comes f t i k s (D.Crossing w a b left) = Crossed f t i k s w a b left
-Comes f t i k s (D.Refused e) = (root : ℕ) (l : LineTrace) → refused (number_of e) ≡ line_from (Fast.table f t) root k i s l
+abbrev pub Comes : List ℕ → Tables → ℕ → ℕ → Stretch → Result Descent Refusal → Type 0
+Comes f t i k s (Ok (D.Leaf c)) = (root : ℕ) (l : LineTrace) → onward (into c l) ≡ line_from (Fast.table f t) root k i s l
+Comes f t i k s (Ok (D.Crossing w a b left)) = Crossed f t i k s w a b left
+Comes f t i k s (Err e) = (root : ℕ) (l : LineTrace) → refused (number_of e) ≡ line_from (Fast.table f t) root k i s l
 
 -- the child of a node on a side
 abbrev pub child_at : Tables → Words → Bool → Child End
@@ -83,20 +78,21 @@ unfoldable pub child_went : List ℕ → Tables → ℕ → ℕ → Words → Bo
 child_went f t root left w front s l = on_child (Fast.table f t) (λ n s l. line_from (Fast.table f t) root left n s l) (child_at t w front) s l
 
 -- beyond a plane: on to the node by `go`, for the part past the crossing, or tracing ends
-abbrev pub far_went : (ℕ → Stretch → LineTrace → Went) → Stretch → LineTrace → Far → Went
-far_went go s l (F.Node i) = go i s l
-far_went go s l (F.Ended r) = went_of r
+abbrev pub far_went : (ℕ → Stretch → LineTrace → Went) → Stretch → LineTrace → Result Far Refusal → Went
+far_went go s l (Ok (F.Node i)) = go i s l
+far_went go s l (Ok (F.Ended r)) = went_of (Ok r)
+far_went go s l (Err e) = refused (number_of e)
 
 -- what becomes of the part s beyond the plane of a node that it crosses at k
-abbrev pub Beyond : List ℕ → Ground → Words → Bool → Stretch → Float → LineTrace → Far → Type 0
-Beyond f g w front s k l r =
-    (h : Hyperplane) → Fast.plane_in f g.t w.plane ≡ answer h → (go : ℕ → Stretch → LineTrace → Went)
+abbrev pub Beyond : Ground → Words → Bool → Stretch → Float → LineTrace → Result Far Refusal → Type 0
+Beyond g w front s k l r =
+    (h : Hyperplane) → Fast.plane_in g.s.now g.t w.plane ≡ answer h → (go : ℕ → Stretch → LineTrace → Went)
     → far_went go (far_part s k) l r
-    ≡ beyond (Fast.table f g.t) go g.root (Fast.node_of g.t.table w) h s (Pl.side_if front) k l (contents_beside f g.t w (not front) (point_at s k))
+    ≡ beyond (Fast.table g.s.now g.t) go g.root (Fast.node_of g.t.table w) h s (Pl.side_if front) k l (contents_beside g.s.now g.t w (not front) (point_at s k))
 
 -- the whole line from the root
-abbrev pub all_went : List ℕ → Ground → Vector3 → Vector3 → Went
-all_went f g p q = line_from (Fast.table f g.t) g.root 512 g.root (stretch zero32 one32 p q) (unset q)
+abbrev pub all_went : Ground → Vector3 → Vector3 → Went
+all_went g p q = line_from (Fast.table g.s.now g.t) g.root 512 g.root (stretch zero32 one32 p q) (unset q)
 
 -- ---- the whole line in one loop (`follow`)
 
@@ -109,14 +105,14 @@ word_look f t left word p = contents_on (Fast.table f t) (λ n. contents_from (F
 
 -- where the way down of the part s from the node i, with k calls left, comes to: what becomes of s there, and what a look from where s starts
 -- finds, are what they are at the node i
-abbrev pub Reaches : List ℕ → Tables → ℕ → ℕ → Stretch → Reached → Type 0
-Reaches f t i k s (N.End w) =
+abbrev pub Reaches : List ℕ → Tables → ℕ → ℕ → Stretch → Option Reached → Type 0
+Reaches f t i k s (Some (N.End w)) =
     (32768 ≤ w)
     × ((root : ℕ) (l : LineTrace) → into_leaf (Fast.table f t) l (Fast.contents_met f t w) ≡ line_from (Fast.table f t) root k i s l)
     × (Fast.contents_met f t w ≡ contents_from (Fast.table f t) k i s.start)
-Reaches f t i k s (N.Crossing w a b left) =
+Reaches f t i k s (Some (N.Crossing w a b left)) =
     Crossed f t i k s w a b left × (word_look f t left (word_on w (Ieee.le zero32 a)) s.start ≡ contents_from (Fast.table f t) k i s.start)
-Reaches f t i k s N.Nothing = Unit {0}
+Reaches f t i k s None = Unit {0}
 
 -- a plane that a part of the line crosses at k: the node's words, the calls left below it, the distance of the part's start
 pub record Cut : Type 0 where
@@ -178,39 +174,40 @@ abbrev pub beyond_it : Waiting → List Waiting → Stretch → Stand
 beyond_it x [] whole = far_side x whole.to whole.end
 beyond_it x (y ∷ ys) whole = far_side x y.at y.point
 
--- where it is looked up at n of a list of ten
-abbrev pub beyond_next : Waiting → Waiting → ℕ → Stretch → Stand
-beyond_next x y n whole = cond (ltb n 10) (far_side x y.at y.point) (far_side x whole.to whole.end)
+-- where that one is looked up in the list
+abbrev pub beyond_next : Waiting → Option Waiting → Stretch → Stand
+beyond_next x (Some y) whole = far_side x y.at y.point
+beyond_next x None whole = far_side x whole.to whole.end
 
 -- one turn of the line: on to an end, to a plane that it crosses, into a leaf, or it is blocked
-abbrev pub Turned : List ℕ → Tables → Stand → LineTrace → Bool → Turn → Type 0
-Turned f t at l looked (U.End w) = (at.word < 32768) × Reaches f t at.word at.left at.part (N.End w)
-Turned f t at l looked (U.Crossing w front left near) =
+abbrev pub Turned : List ℕ → Tables → Stand → LineTrace → Bool → Option Turn → Type 0
+Turned f t at l looked (Some (U.End w)) = (at.word < 32768) × Reaches f t at.word at.left at.part (Some (N.End w))
+Turned f t at l looked (Some (U.Crossing w front left near)) =
     (at.word < 32768)
-    × ((a : Float) × ((b : Float) × ((front ≡ Ieee.le zero32 a) × (near ≡ near_part at.part (crossing a b)) × Reaches f t at.word at.left at.part (N.Crossing w a b left))))
-Turned f t at l looked (U.Into m) =
+    × ((a : Float) × ((b : Float) × ((front ≡ Ieee.le zero32 a) × (near ≡ near_part at.part (crossing a b)) × Reaches f t at.word at.left at.part (Some (N.Crossing w a b left)))))
+Turned f t at l looked (Some (U.Into m)) =
     (32768 ≤ at.word)
     × ((c : BspLeafContents) × ((answer c ≡ Fast.contents_met f t at.word) × (looked && Contents.equal c Solid ≡ false) × (m ≡ into c l)))
-Turned f t at l looked U.Blocked =
+Turned f t at l looked (Some U.Blocked) =
     (32768 ≤ at.word) × ((c : BspLeafContents) × ((answer c ≡ Fast.contents_met f t at.word) × (looked && Contents.equal c Solid ≡ true)))
-Turned f t at l looked U.Nothing = Unit {0}
+Turned f t at l looked None = Unit {0}
 
 -- what becomes of the line from where it stands, and where it comes to
-abbrev pub stand_went : List ℕ → Ground → Stand → LineTrace → Went
-stand_went f g at l = word_went f g.t g.root at.left at.word at.part l
+abbrev pub stand_went : Ground → Stand → LineTrace → Went
+stand_went g at l = word_went g.s.now g.t g.root at.left at.word at.part l
 
-abbrev pub Arrives : List ℕ → Ground → Stand → LineTrace → Came → Type 0
-Arrives f g at l (C.Through m) = onward m ≡ stand_went f g at l
-Arrives f g at l (C.Blocked y m) = (x : Cut) × (Kept x y × Blocks f g.t g.root x m (stand_went f g at l))
-Arrives f g at l C.Nothing = Unit {0}
+abbrev pub Arrives : Ground → Stand → LineTrace → Option Came → Type 0
+Arrives g at l (Some (C.Through m)) = onward m ≡ stand_went g at l
+Arrives g at l (Some (C.Blocked y m)) = (x : Cut) × (Kept x y × Blocks g.s.now g.t g.root x m (stand_went g at l))
+Arrives g at l None = Unit {0}
 
 -- with a fraction and an end
 abbrev pub ended : Float → Vector3 → LineTrace → LineTrace
 ended k e l = line_trace k e l.plane l.all_solid l.start_solid l.in_open l.in_water
 
 -- where the line is blocked at the plane x, which is kept as y, with l set before
-abbrev pub Stops : List ℕ → Ground → Waiting → LineTrace → Stop → Type 0
-Stops f g y l (S.At m) =
-    (x : Cut) → Kept x y → (h : Hyperplane) → Fast.plane_in f g.t x.w.plane ≡ answer h
-    → stopped m ≡ blocked (Fast.table f g.t) g.root h (Pl.from_dist x.a) x.part x.k l
-Stops f g y l S.Nothing = Unit {0}
+abbrev pub Stops : Ground → Waiting → LineTrace → Option LineTrace → Type 0
+Stops g y l (Some m) =
+    (x : Cut) → Kept x y → (h : Hyperplane) → Fast.plane_in g.s.now g.t x.w.plane ≡ answer h
+    → stopped m ≡ blocked (Fast.table g.s.now g.t) g.root h (Pl.from_dist x.a) x.part x.k l
+Stops g y l None = Unit {0}

@@ -1,142 +1,100 @@
-// The contents at a point, by the side of its distance at each plane: where the distance is a NaN, the back. The bytes of the nodes and the
-// planes are lent to each function as `node_bytes` and `plane_bytes` of `nodes` give them.
+// The contents at a point, by the side of its distance at each plane: where the distance is a NaN, the back.
 ghost use Rattle.std.specs.Prelude.{◌≡◌};
+ghost use Rattle.format.specs.Answers.{answer_of};
 ghost use Rattle.nodes.specs.Fast as Fast;
 ghost use Rattle.nodes.specs.Walks as Walks;
 ghost use Rattle.line.specs.Line as Line;
 ghost use Rattle.line.specs.Private as Private;
 
-use format::refusal::Refusal;
+use crate::ground::Ground;
+use format::contents::BspLeafContents;
+use format::refusal::{Answer, Refusal};
 use math::Vector3;
-use nodes::lines::{look_in, point_of};
-use nodes::read::{
-    Dists, EndContents, ReadWords, Words, dists_at, end_contents, plane_at, read_words,
-};
-use nodes::segment::SegmentAt;
+use nodes::lines::point_of;
+use nodes::read::{Words, end_contents, plane_at, read_words};
+use nodes::segment::segment_any;
 use nodes::table::Tables;
-use nodes::walking::Onward;
+use nodes::whole::Sections;
 
-// What a line goes through: the root, the tables, and whether the file has all of their nodes and planes. The root stands first: behind the
-// one byte of `whole` it would be copied by moves that wait for narrower ones.
-#[derive(Clone, Copy)]
-pub struct Ground {
-    pub root: usize,
-    pub t: Tables,
-    pub whole: bool,
-}
-
-// A node's words, and how far two points are from its plane, from any table, record by record.
-fn node_any(s: &[u8], t: Tables, index: usize, p: Vector3, q: Vector3) -> SegmentAt
-    ensures { Walks.segment_answer t.table result ≡ Walks.made_from (Walks.node_and_dists p q) s.now t index }
-{
-    match read_words(s, t, index) {
-        ReadWords::Refused(e) => SegmentAt::Refused(e),
-        ReadWords::Words(w) => match dists_at(s, t, w.plane as usize, p, q) {
-            Dists::Refused(e) => SegmentAt::Refused(e),
-            Dists::Two(a, b) => SegmentAt::Dists(w, a, b),
-        },
-    }
-}
-
-// The same with so many calls left. 30: the node is outside its table; 32: no call is left.
-pub fn node_at(s: &[u8], g: Ground, index: usize, left: u32, p: Vector3, q: Vector3) -> SegmentAt
-    ensures { Walks.segment_answer g.t.table result ≡ Private.node_for (Walks.node_and_dists p q) s.now g.t index left }
+// A node's words, and how far two points are from its plane, with so many calls left. 30: the node is outside its table; 32: no call is left.
+#[tactic(auto, unfolding(crate::specs::Private::node_for))]
+pub fn node_at(
+    g: &Ground,
+    index: usize,
+    left: u32,
+    p: Vector3,
+    q: Vector3,
+) -> Answer<(Words, f32, f32)>
+    ensures { Walks.segment_answer g.now.t.table result ≡ Private.node_for (Walks.node_and_dists p q) g.now.s.now g.now.t index left }
 {
     let t = g.t;
     if (t.nodes.count as usize) <= index {
-        return SegmentAt::Refused(Refusal::IndexOutsideTable);
+        return Err(Refusal::IndexOutsideTable);
     }
     if left == 0 {
-        return SegmentAt::Refused(Refusal::TooDeep);
+        return Err(Refusal::TooDeep);
     }
-    node_any(s, t, index, p, q)
+    segment_any(g.s, t, index, p, q)
 }
 
 // The word of a node's child on a point's side of its plane, by the point's distance, from any table, record by record.
-fn look_any(s: &[u8], t: Tables, index: usize, point: Vector3) -> Onward
+#[tactic(auto, using(crate::proofs::Seen::one_side))]
+fn look_any(s: &[u8], t: Tables, index: usize, point: Vector3) -> Answer<u16>
     ensures { Walks.onward_answer t.table result ≡ Walks.made_from (Walks.child_by_distance point) s.now t index }
 {
-    match read_words(s, t, index) {
-        ReadWords::Refused(e) => Onward::Refused(e),
-        ReadWords::Words(w) => match plane_at(s, t, w.plane as usize) {
-            Err(e) => Onward::Refused(e),
-            Ok(plane) => Onward::Word(w.on(plane.point_dist(point) >= 0.0)),
-        },
-    }
+    let w = read_words(s, t, index)?;
+    let plane = plane_at(s, t, w.plane as usize)?;
+    Ok(w.on(plane.point_dist(point) >= 0.0))
 }
 
 // The same with so many calls left, whole tables or not. Refused as `node_at`.
-fn look_at(
-    s: &[u8],
-    nodes: &[u8],
-    planes: &[u8],
-    g: Ground,
-    index: usize,
-    left: u32,
-    point: &[f32; 3],
-) -> Onward
-    requires { Private.Lent s.now nodes.now planes.now g }
-    ensures { Walks.onward_answer g.t.table result ≡ Private.node_for (Walks.child_by_distance (Fast.point_of point.now)) s.now g.t index left }
+fn look_at(g: &Ground, index: usize, left: u32, point: &[f32; 3]) -> Answer<u16>
+    ensures { Walks.onward_answer g.now.t.table result ≡ Private.node_for (Walks.child_by_distance (Fast.point_of point.now)) g.now.s.now g.now.t index left }
 {
     let t = g.t;
     if (t.nodes.count as usize) <= index {
-        return Onward::Refused(Refusal::IndexOutsideTable);
+        return Err(Refusal::IndexOutsideTable);
     }
     if left == 0 {
-        return Onward::Refused(Refusal::TooDeep);
+        return Err(Refusal::TooDeep);
     }
     if g.whole {
         let table = t.table;
-        return look_in(nodes, planes, table.is_render(), index, point);
+        let sections = Sections {
+            nodes: g.nodes,
+            planes: g.planes,
+            render: table.is_render(),
+        };
+        return sections.look_in(index, point);
     }
-    look_any(s, t, index, point_of(point))
+    look_any(g.s, t, index, point_of(point))
 }
 
-// The contents at a point from a node on, at most 512 nodes deep.
-pub fn contents_from(
-    s: &[u8],
-    nodes: &[u8],
-    planes: &[u8],
-    g: Ground,
-    top: usize,
-    point: Vector3,
-) -> EndContents
-    requires { Private.Lent s.now nodes.now planes.now g }
-    ensures { Fast.end_answer result ≡ Line.contents_from (Fast.table s.now g.t) 512 top point }
+// The contents at a point from a node on, at most 512 nodes deep. The loop follows the tree: its last turn, with no call left, is refused by
+// `look_at` after the test of the index, so a range would need an exit that is never taken.
+pub fn contents_from(g: &Ground, top: usize, point: Vector3) -> Answer<BspLeafContents>
+    ensures { answer_of result ≡ Line.contents_from (Fast.table g.now.s.now g.now.t) 512 top point }
 {
     let coordinates = [point.x, point.y, point.z];
     let mut node = top;
     let mut left: u32 = 512;
     loop {
-        match look_at(s, nodes, planes, g, node, left, &coordinates) {
-            Onward::Refused(e) => return EndContents::Refused(e),
-            Onward::Word(word) => {
-                left -= 1;
-                if 32768 <= word {
-                    return end_contents(s, g.t, word);
-                }
-                node = word as usize;
-            }
+        let word = look_at(g, node, left, &coordinates)?;
+        left -= 1;
+        if 32768 <= word {
+            return end_contents(g.s, g.t, word);
         }
+        node = word as usize;
     }
 }
 
 // The contents at a point from a node's child on, which is the top of this descent.
-pub fn contents_beside(
-    s: &[u8],
-    nodes: &[u8],
-    planes: &[u8],
-    g: Ground,
-    w: Words,
-    front: bool,
-    point: Vector3,
-) -> EndContents
-    requires { Private.Lent s.now nodes.now planes.now g }
-    ensures { Fast.end_answer result ≡ Private.contents_beside s.now g.t w front point }
+pub fn contents_beside(g: &Ground, w: Words, front: bool, point: Vector3) -> Answer<BspLeafContents>
+    ensures { answer_of result ≡ Private.contents_beside g.now.s.now g.now.t w front point }
 {
     let word = w.on(front);
     if word < 32768 {
-        return contents_from(s, nodes, planes, g, word as usize, point);
+        return contents_from(g, word as usize, point);
     }
-    end_contents(s, g.t, word)
+    end_contents(g.s, g.t, word)
 }

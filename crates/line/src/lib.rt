@@ -2,6 +2,7 @@
 #![tactic(auto)]
 
 mod contents;
+mod ground;
 pub mod state;
 mod through;
 pub mod tracing;

@@ -1,18 +1,17 @@
 // The whole-line trace where the file has all nodes and planes, in one loop: the planes whose far side waits for the near one are a list. The
 // point that is looked for beyond a plane is where the far part starts, so the first end that the far part comes to is what the look finds, and
 // no look is taken before it. Nothing is said where a record or a leaf is refused, no call is left or the list is full.
-ghost use Rattle.std.specs.Prelude.{◌≡◌, true, cond, ◌&&◌, ltb, ◌<◌, ◌≤◌};
+ghost use Rattle.std.specs.Prelude.{◌≡◌, true, ◌&&◌, ◌≤◌};
 ghost use Rattle.format.specs.Contents as Contents;
 ghost use Rattle.format.specs.declared.contents.BspLeafContents.TheVariants.{Solid};
 ghost use Rattle.line.specs.Private as Private;
 
-use crate::contents::Ground;
+use crate::ground::Ground;
 use crate::state::{LineTrace, Stretch, crossing};
 use format::contents::BspLeafContents;
 use math::Vector3;
-use nodes::lines::ends_in;
-use nodes::read::{EndContents, Words, end_contents};
-use nodes::segment::SegmentAt;
+use nodes::read::{Words, end_contents};
+use nodes::whole::Sections;
 
 // A plane whose far side waits: its number; the word of the child there, with 65536 more where the line comes from its front and 131072 more
 // for each call left below it; and where the line crosses it, by its fraction and its point. Ten of them are cleared without a call
@@ -33,46 +32,35 @@ pub struct Stand {
     pub part: Stretch,
 }
 
-// Where the line comes to: it goes through; or it is blocked at a plane, with what is set before it; or nothing is said.
+// Where the line comes to: it goes through; or it is blocked at a plane, with what is set before it.
 #[derive(Clone, Copy)]
 pub enum Came {
     Through(LineTrace),
     Blocked(Waiting, LineTrace),
-    Nothing,
 }
 
 // Where a part's way down comes to: the word of an end; or a plane that it crosses, with the node's words, the distances of its ends and the
-// calls left below it; or nothing is said.
+// calls left below it.
 #[derive(Clone, Copy)]
 enum Reached {
     End(u16),
     Crossing(Words, f32, f32, u32),
-    Nothing,
 }
 
 // What one turn of the line comes to: an end, by its word; a plane that it crosses, with the node's words, whether it comes from the front, the
-// calls left below and the part before it; a leaf, with what is set in it; or the line is blocked; or nothing is said.
+// calls left below and the part before it; a leaf, with what is set in it; or the line is blocked.
 #[derive(Clone, Copy)]
 enum Turn {
     End(u16),
     Crossing(Words, bool, u32, Stretch),
     Into(LineTrace),
     Blocked,
-    Nothing,
 }
 
 // Down from a node, with so many calls left, its own included, as long as the part lies on one side of each plane.
-fn down(
-    s: &[u8],
-    nodes: &[u8],
-    planes: &[u8],
-    g: Ground,
-    top: usize,
-    calls: u32,
-    part: Stretch,
-) -> Reached
-    requires { Private.Lent s.now nodes.now planes.now g × (g.whole ≡ true) }
-    ensures { Private.Reaches s.now g.t top calls part result }
+fn down(g: &Ground, top: usize, calls: u32, part: Stretch) -> Option<Reached>
+    requires { g.now.whole ≡ true }
+    ensures { Private.Reaches g.now.s.now g.now.t top calls part result }
 {
     let start = part.start;
     let end = part.end;
@@ -81,26 +69,27 @@ fn down(
     let t = g.t;
     let table = t.table;
     let render = table.is_render();
+    let sections = Sections {
+        nodes: g.nodes,
+        planes: g.planes,
+        render,
+    };
     let mut node = top;
-    let mut left = calls;
-    while 0 < left {
-        match ends_in(nodes, planes, render, node, &p, &q) {
-            SegmentAt::Refused(_) => return Reached::Nothing,
-            SegmentAt::Dists(w, a, b) => {
-                left -= 1;
-                let front = a >= 0.0;
-                if front != (b >= 0.0) {
-                    return Reached::Crossing(w, a, b, left);
-                }
-                let word = w.on(front);
-                if 32768 <= word {
-                    return Reached::End(word);
-                }
-                node = word as usize;
-            }
+    for left in (0..calls).rev() {
+        let Ok((w, a, b)) = sections.ends_in(node, &p, &q) else {
+            return None;
+        };
+        let front = a >= 0.0;
+        if front != (b >= 0.0) {
+            return Some(Reached::Crossing(w, a, b, left));
         }
+        let word = w.on(front);
+        if 32768 <= word {
+            return Some(Reached::End(word));
+        }
+        node = word as usize;
     }
-    Reached::Nothing
+    None
 }
 
 fn no_plane() -> Waiting {
@@ -117,22 +106,19 @@ fn waits(w: Words, front: bool, left: u32, near: Stretch) -> Waiting
     requires { left ≤ 512 }
     ensures { Private.Keeps w front left near result }
 {
-    let point = near.end;
-    let far = (w.on(!front) as u32) + left * 131072;
+    let from_back = Waiting {
+        plane: w.plane,
+        far: (w.on(!front) as u32) + left * 131072,
+        at: near.to,
+        point: near.end,
+    };
     if front {
         return Waiting {
-            plane: w.plane,
-            far: far + 65536,
-            at: near.to,
-            point,
+            far: from_back.far + 65536,
+            ..from_back
         };
     }
-    Waiting {
-        plane: w.plane,
-        far,
-        at: near.to,
-        point,
-    }
+    from_back
 }
 
 // Before it.
@@ -144,12 +130,6 @@ fn near_side(w: Words, front: bool, left: u32, near: Stretch) -> Stand
         left,
         part: near,
     }
-}
-
-fn at_most_nine(n: usize) -> usize
-    ensures { (result ≡ cond (ltb n 10) n 9) × (result < 10) }
-{
-    if n < 10 { n } else { 9 }
 }
 
 impl Waiting {
@@ -170,15 +150,17 @@ impl Waiting {
         }
     }
 
-    // Beyond it, as far as the next one that waits, where n is its place, or as far as the line goes that stood there first.
-    fn beyond(self, next: Waiting, n: usize, first: Stand) -> Stand
-        ensures { result ≡ Private.beyond_next self next n first.part }
+    // Beyond it, as far as the next one that waits, or, where none does, as far as the line goes that stood there first.
+    fn beyond(self, next: Option<Waiting>, first: Stand) -> Stand
+        ensures { result ≡ Private.beyond_next self next first.part }
     {
-        if n < 10 {
-            return self.far_side(next.at, next.point);
+        match next {
+            Some(y) => self.far_side(y.at, y.point),
+            None => {
+                let whole = first.part;
+                self.far_side(whole.to, whole.end)
+            }
         }
-        let whole = first.part;
-        self.far_side(whole.to, whole.end)
     }
 
     // Whether the line comes from its front.
@@ -193,51 +175,37 @@ impl Waiting {
 fn is_blocked(looked: bool, contents: BspLeafContents) -> bool
     ensures { result ≡ looked && Contents.equal contents Solid }
 {
-    if looked {
-        return contents == BspLeafContents::Solid;
-    }
-    false
+    looked && contents == BspLeafContents::Solid
 }
 
 // One turn of the line from where it stands, with what is set so far; `looked`: the first end is what the look beyond a plane finds.
-fn one_turn(
-    s: &[u8],
-    nodes: &[u8],
-    planes: &[u8],
-    g: Ground,
-    at: Stand,
-    line: LineTrace,
-    looked: bool,
-) -> Turn
-    requires { Private.Lent s.now nodes.now planes.now g × (g.whole ≡ true) }
-    ensures { Private.Turned s.now g.t at line looked result }
+fn one_turn(g: &Ground, at: Stand, line: LineTrace, looked: bool) -> Option<Turn>
+    requires { g.now.whole ≡ true }
+    ensures { Private.Turned g.now.s.now g.now.t at line looked result }
 {
     let part = at.part;
     if at.word < 32768 {
-        return match down(s, nodes, planes, g, at.word as usize, at.left, part) {
-            Reached::Nothing => Turn::Nothing,
-            Reached::End(word) => Turn::End(word),
+        return match down(g, at.word as usize, at.left, part)? {
+            Reached::End(word) => Some(Turn::End(word)),
             Reached::Crossing(w, a, b, left) => {
                 let near = part.near_part(crossing(a, b));
-                Turn::Crossing(w, a >= 0.0, left, near)
+                Some(Turn::Crossing(w, a >= 0.0, left, near))
             }
         };
     }
-    match end_contents(s, g.t, at.word) {
-        EndContents::Refused(_) => Turn::Nothing,
-        EndContents::Contents(c) => {
-            if is_blocked(looked, c) {
-                return Turn::Blocked;
-            }
-            Turn::Into(line.into_leaf(c))
-        }
+    let Ok(c) = end_contents(g.s, g.t, at.word) else {
+        return None;
+    };
+    if is_blocked(looked, c) {
+        return Some(Turn::Blocked);
     }
+    Some(Turn::Into(line.into_leaf(c)))
 }
 
 // The line from where it stands, with what is set before. A tree of 32,767 nodes has fewer ends and planes than there are turns.
-pub fn follow(s: &[u8], nodes: &[u8], planes: &[u8], g: Ground, first: Stand, l: LineTrace) -> Came
-    requires { Private.Lent s.now nodes.now planes.now g × (g.whole ≡ true) × (first.left ≤ 512) }
-    ensures { Private.Arrives s.now g first l result }
+pub fn follow(g: &Ground, first: Stand, l: LineTrace) -> Option<Came>
+    requires { (g.now.whole ≡ true) × (first.left ≤ 512) }
+    ensures { Private.Arrives g.now first l result }
 {
     let mut stack = [no_plane(); 10];
     let mut n: usize = 10;
@@ -245,16 +213,13 @@ pub fn follow(s: &[u8], nodes: &[u8], planes: &[u8], g: Ground, first: Stand, l:
     let mut line = l;
     let mut x = no_plane();
     let mut looked = false;
-    let mut turns: u32 = 131072;
-    while 0 < turns {
-        turns -= 1;
-        match one_turn(s, nodes, planes, g, at, line, looked) {
-            Turn::Nothing => return Came::Nothing,
-            Turn::Blocked => return Came::Blocked(x, line),
+    for _ in 0..131072u32 {
+        match one_turn(g, at, line, looked)? {
+            Turn::Blocked => return Some(Came::Blocked(x, line)),
             Turn::End(word) => at.word = word,
             Turn::Crossing(w, front, left, near) => {
                 if n == 0 {
-                    return Came::Nothing;
+                    return None;
                 }
                 n -= 1;
                 stack[n] = waits(w, front, left, near);
@@ -263,15 +228,14 @@ pub fn follow(s: &[u8], nodes: &[u8], planes: &[u8], g: Ground, first: Stand, l:
             Turn::Into(so_far) => {
                 line = so_far;
                 if 10 <= n {
-                    return Came::Through(line);
+                    return Some(Came::Through(line));
                 }
                 x = stack[n];
                 n += 1;
                 looked = true;
-                let next = stack[at_most_nine(n)];
-                at = x.beyond(next, n, first);
+                at = x.beyond(stack.get(n).copied(), first);
             }
         }
     }
-    Came::Nothing
+    None
 }

@@ -17,7 +17,7 @@ use crate::tested::{
     check_collision_nodes, check_faces, check_leaf_references, check_leaves, check_models,
     check_render_nodes, check_texinfo,
 };
-use format::refusal::{Answer, Refusal};
+use format::refusal::Answer;
 use format::section::BspData;
 use sections::row::check_blob;
 use sections::table::{check_limits, read_header};

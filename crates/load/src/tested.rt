@@ -19,6 +19,7 @@ use records::node::{BspRenderNodeChild, read_collision_node, read_render_node};
 use records::texinfo::{BspTexInfo, read_texinfo};
 use sections::row::{check_records, read_records};
 
+// A step of loading is one line over `check_records`: its section and its reader.
 pub fn check_render_nodes(s: &[u8], section: BspFileSection) -> Answer<usize>
     ensures { position_step result ≡ Row.section render_node_at Id.RenderNodes s.now section }
 {

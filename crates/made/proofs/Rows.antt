@@ -55,6 +55,3 @@ module _ (part : Part) (seed n : ℕ) (l₀ : List ℕ) (at : ℕ) (h : at + n *
             goes_on at (at + i * size_of part) (row (record_of_node part seed n) i) (record_of_node part seed n i) l₀ l l'
             (ap (λ (j : ℕ). at + j) (row_length (record_of_node part seed n) (size_of part) i (λ j t. record_size_lem part n j (node_number seed j)))) (omega arith) p.are r;
       })
-
-  pub rows_all : (l : List ℕ) (last i : ℕ) → n ≤ i → Rows part seed n l₀ l at last i → l ≡ put_at at (row (record_of_node part seed n) n) l₀
-  rows_all l last i k p = let e : i ≡ n = omega (arith, p.few) in p.are ∙ ap (λ (j : ℕ). put_at at (row (record_of_node part seed n) j) l₀) e

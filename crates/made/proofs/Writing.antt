@@ -4,10 +4,10 @@ use Prim.Native.Nat.{ℕ, zero, suc, ◌+◌, ◌*◌, ◌<◌, ◌≤◌}
 use mathlib.Core.Path.{◌≡◌, refl, sym, ap, ◌∙◌}
 use mathlib.Core.List.{List, [], ◌∷◌, ◌++◌, append_assoc}
 use native.Mathlib.Nat.{add-zero, add_assoc}
-use native.Mathlib.Numerals.{add-one, add-two, add-three}
+use native.Mathlib.Numerals.{add-one}
 use native.Mathlib.Omega.{arith}
-use lib.ListN.{length, take, drop, get_or, set, length-append, length-take, length-drop, take-append-drop}
-use lib.Seq.{take_at, drop-append-add, drop-drop, length-take-le, sets, sets-eq, take_all}
+use lib.ListN.{length, take, drop, get_or, length-append, length-take, length-drop, take-append-drop}
+use lib.Seq.{take_at, drop-append-add, drop-drop, length-take-le, sets, sets-eq}
 use Rattle.written.specs.Bytes.{u32}
 use Rattle.made.specs.Writing.{put_at, words_of}
 
@@ -64,10 +64,6 @@ goes_on at p xs ys l₀ l l' e h q r =
     ∙ ap (λ (j : ℕ). put_at j ys (put_at at xs l₀)) (sym e)
     ∙ written_more at xs ys l₀ (omega arith)
 
-pub four_stores : (at a b c d : ℕ) (l : List ℕ) → at + 4 ≤ length l
-    → set (set (set (set l at a) (at + 1) b) (at + 2) c) (at + 3) d ≡ put_at at (a ∷ b ∷ c ∷ d ∷ []) l
-four_stores at a b c d l h = rw (add-one at, add-two at, add-three at) (stored at (a ∷ b ∷ c ∷ d ∷ []) l h)
-
 -- the first i words are written, and the rest of the lent list is kept
 pub record Put (ws l₀ l : List ℕ) (at i : ℕ) : Type 0 where
   pub few : i ≤ length ws
@@ -75,9 +71,6 @@ pub record Put (ws l₀ l : List ℕ) (at i : ℕ) : Type 0 where
   pub are : l ≡ put_at at (words_of (take i ws)) l₀
 
 module _ (ws l₀ : List ℕ) (at : ℕ) (h : at + length ws * 4 ≤ length l₀) where
-  pub put_none : Put ws l₀ l₀ at 0
-  put_none = record { few = omega arith; long = refl; are = sym (written_none at l₀) }
-
   pub put_next : (l l' : List ℕ) (i : ℕ) → i < length ws → Put ws l₀ l at i → l' ≡ put_at (at + i * 4) (u32 (get_or ws i 0)) l → Put ws l₀ l' at (i + 1)
   put_next l l' i k p q =
       let n = words_length (take i ws) ∙ ap (λ (j : ℕ). j * 4) (length-take-le i ws (omega arith)) in
@@ -88,6 +81,3 @@ module _ (ws l₀ : List ℕ) (at : ℕ) (h : at + length ws * 4 ≤ length l₀
             goes_on at (at + i * 4) (words_of (take i ws)) (u32 (get_or ws i 0)) l₀ l l' (ap (λ (j : ℕ). at + j) n) (omega arith) p.are q
             ∙ ap (λ (r : List ℕ). put_at at r l₀) (sym (words_take ws i k) ∙ ap (λ (j : ℕ). words_of (take j ws)) (sym (add-one i)));
       }
-
-  pub put_all : (l : List ℕ) (i : ℕ) → length ws ≤ i → Put ws l₀ l at i → l ≡ put_at at (words_of ws) l₀
-  put_all l i k p = p.are ∙ ap (λ (r : List ℕ). put_at at (words_of r) l₀) (take_all i ws k)

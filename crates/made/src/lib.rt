@@ -15,6 +15,7 @@ ghost use Rattle.made.specs.Writing.{put_at, words_of, side_word, size_of, recor
 use format::refusal::{Answer, Refusal};
 
 // The number after the last one.
+#[tactic(auto, unfolding(crate::specs::Map::next))]
 fn next(last: u32) -> u32
     ensures { result ≡ Map.next last }
 {
@@ -26,25 +27,22 @@ fn put_word(n: u32, buffer: &mut [u8], at: usize)
     requires { at + 4 ≤ length buffer.old }
     ensures { buffer.new ≡ put_at at (u32 n) buffer.old }
 {
-    buffer[at] = (n % 256) as u8;
-    buffer[at + 1] = (n / 256 % 256) as u8;
-    buffer[at + 2] = (n / 256 / 256 % 256) as u8;
-    buffer[at + 3] = (n / 256 / 256 / 256 % 256) as u8;
+    buffer[at..at + 4].copy_from_slice(&n.to_le_bytes());
 }
 
-// Writes numbers at a place, four bytes each.
+// Writes numbers at a place, four bytes each, so that `copy_from_slice` does not take them as they are.
+#[tactic(auto, using(crate::proofs::Writing::put_next))]
 fn put_words(words: &[u32], buffer: &mut [u8], at: usize)
     requires { at + length words.now * 4 ≤ length buffer.old }
     ensures { buffer.new ≡ put_at at (words_of words.now) buffer.old }
 {
-    let mut i = 0;
-    while i < words.len() {
-        put_word(words[i], buffer, at + i * 4);
-        i += 1;
+    for (i, &word) in words.iter().enumerate() {
+        put_word(word, buffer, at + i * 4);
     }
 }
 
 // The distance's bits.
+#[tactic(auto, using(crate::proofs::Words::distance_fits, crate::proofs::Words::distance_is))]
 fn distance_bits(number: u32) -> u32
     ensures { result ≡ to_bits binary32 (distance_of number) }
 {
@@ -71,6 +69,7 @@ fn back_word(solid: u32, empty: u32, nodes: usize, i: usize) -> u32
 }
 
 // Both children of node i as one number, the front one low.
+#[tactic(auto, using(crate::proofs::Words::front_small, crate::proofs::Words::back_small))]
 fn children(solid: u32, empty: u32, number: u32, nodes: usize, i: usize) -> u32
     requires { (solid < 65536) × (empty < 65536) × (i < nodes) × (nodes ≤ 500) }
     ensures { result ≡ side_word solid empty (front_of number) + side_word solid empty (back_of nodes i) * 65536 }
@@ -78,26 +77,22 @@ fn children(solid: u32, empty: u32, number: u32, nodes: usize, i: usize) -> u32
     front_word(solid, empty, number) + back_word(solid, empty, nodes, i) * 65536
 }
 
-// A section with a record for each node.
+// A section with a record for each node, and how many bytes a record has.
 #[derive(Clone, Copy)]
 enum Part {
-    Planes,
-    RenderNodes,
-    ClipNodes,
+    Planes = 20,
+    RenderNodes = 24,
+    ClipNodes = 8,
 }
 
-// How many bytes a record has.
 fn size_of(part: Part) -> usize
     ensures { result ≡ size_of part }
 {
-    match part {
-        Part::Planes => 20,
-        Part::RenderNodes => 24,
-        Part::ClipNodes => 8,
-    }
+    part as usize
 }
 
 // Writes the record of node i at a place.
+#[tactic(auto, using(crate::proofs::Words::plane_words_lem, crate::proofs::Words::render_words, crate::proofs::Words::clip_words))]
 fn put_record(part: Part, number: u32, nodes: usize, i: usize, buffer: &mut [u8], at: usize)
     requires { (i < nodes) × (nodes ≤ 500) × (at + size_of part ≤ length buffer.old) }
     ensures { buffer.new ≡ put_at at (record_bytes part nodes i number) buffer.old }
@@ -131,15 +126,14 @@ fn put_section(part: Part, seed: u32, nodes: usize, buffer: &mut [u8], at: usize
 {
     let size = size_of(part);
     let mut last = seed;
-    let mut i = 0;
-    while i < nodes {
+    for i in 0..nodes {
         last = next(last);
         put_record(part, last, nodes, i, buffer, at + i * size);
-        i += 1;
     }
 }
 
 // Writes the header and the entity text's zero.
+#[tactic(auto, using(crate::proofs::Whole::front_is))]
 fn put_front(nodes: usize, buffer: &mut [u8])
     requires { (nodes ≤ 500) × (125 ≤ length buffer.old) }
     ensures { buffer.new ≡ put_at 0 (header (made_map nodes) ++ (0 ∷ [])) buffer.old }
@@ -211,16 +205,15 @@ fn put_file(seed: u32, nodes: usize, buffer: &mut [u8])
 }
 
 // Whether a made-up map may have so many nodes.
+#[tactic(auto, unfolding(crate::specs::File::is_node_count))]
 pub fn is_node_count(nodes: usize) -> bool
     ensures { result ≡ is_node_count nodes }
 {
-    if nodes < 1 {
-        return false;
-    }
-    nodes <= 500
+    1 <= nodes && nodes <= 500
 }
 
 // Writes the file of a made-up map to the front of the buffer, whose other bytes are kept. A refusal writes nothing.
+#[tactic(auto, using(crate::proofs::Whole::count_within, crate::proofs::Whole::refuses, crate::proofs::Whole::short, crate::proofs::Whole::fits))]
 pub fn made_up(seed: u32, nodes: usize, buffer: &mut [u8]) -> Answer<usize>
     ensures { listed (answer_of result) buffer.new ≡ into (made_up seed nodes) buffer.old }
 {

@@ -136,6 +136,7 @@ impl Hyperplane {
         }
     }
 
+    // The Rust's three names for a plane across an axis.
     pub fn axis_x(dist: f32) -> Hyperplane
         ensures { result ≡ Pl.axis_x dist }
     {

@@ -20,7 +20,9 @@ pub struct Vector3 {
 }
 
 // 1 / √x. The normals of a map are mostly of length 1, rounded: their square is one of the eight f32 next to 1, and there the number is
-// known. A number goes in and out, so that it stays in a register.
+// known. A number goes in and out, so that it stays in a register. A call, since few planes are slanted: in line it takes the registers of
+// what reads them, and a walk is a fifth slower.
+#[inline(never)]
 pub(crate) fn inverse_root(x: f32) -> f32
     ensures { result ≡ div binary32 Vec.one32 (sqrt x) }
 {

@@ -10,6 +10,7 @@ use math::Vector3;
 use records::access::record;
 use records::triple::read_vector;
 
+// Three fields, since specs name each hull; an array would be read by the same three numbers.
 // The Rust's `[usize; MAX_HULLS]`.
 #[derive(Clone, Copy)]
 pub struct PerHull {
@@ -77,6 +78,8 @@ pub struct BspFileModel {
 }
 
 // A model's own record. The root of a fourth hull is read and not used.
+// Set in where it is called: loading needs the tests alone, and there the value is then not made.
+#[inline(always)]
 #[tactic(auto, unfolding(crate::specs::Model::file_model_at, crate::specs::Model::file_model_end_at))]
 pub fn read_file_model(s: &[u8], at: usize) -> Read<BspFileModel>
     ensures { step_of result ≡ file_model_at s.now at }

@@ -1,5 +1,7 @@
 -- Each way through a step of two walks side by side, and the two together.
 -- Assumes nothing.
+use Rattle.std.proofs.Common.{Ok, Err, Some, None}
+use Rattle.std.specs.Prelude.{Result}
 use Rattle.std.proofs.Common.{◌≡◌, ℕ, suc, ◌+◌, ◌-◌, ◌<◌, ◌≤◌, Bool, true, false, cond, ltb, leb, ◌⊎◌, List, length, sym, refl, ap, ◌∙◌, inl, inr, arith, ltb-false, ltb-true, le-ltb, lt-ltb, le-leb, leb-false, leb-true}
 use borrow.Author.Tests.{lt-leb}
 use Rattle.format.specs.Answer as Ans
@@ -15,9 +17,6 @@ use Rattle.nodes.specs.Walks.{ends, are_whole, made_from, child_toward, onward_a
 use Rattle.nodes.specs.Lanes.{landed, both, walk_two, rest, counted, ended, Steps}
 use Rattle.nodes.specs.Answers.{two_answer}
 use Rattle.nodes.specs.declared.table.Tables.{Tables}
-use Rattle.nodes.specs.declared.lanes.TwoEnds.TheVariants as L
-use Rattle.nodes.specs.declared.walking.Onward.{Onward}
-use Rattle.nodes.specs.declared.walking.Onward.TheVariants.{Word, Refused}
 use Rattle.nodes.proofs.Stepping.{at_first, step_refused, step_node, step_end}
 
 -- ---- a step
@@ -57,14 +56,14 @@ module _ (s : List ℕ) (t : Tables) (p : Vector3) (w v : ℕ) where
   pub spent : w < 32768 → w < t.nodes.count → t.nodes.count ≤ v → Steps s t p w v 65536
   spent l h g = stopped 31 (rest_node s t p w v l ∙ ap (after v) (walk_spent (ends (table s t)) p (t.nodes.count - v) w (omega arith) h))
 
-  module _ (l : w < 32768) (h : w < t.nodes.count) (g : v < t.nodes.count) (small : t.nodes.count < 4294967296) (r : Onward) (is-r : onward_answer t.table r ≡ made_from (child_toward p) s t w) where
+  module _ (l : w < 32768) (h : w < t.nodes.count) (g : v < t.nodes.count) (small : t.nodes.count < 4294967296) (r : Result ℕ Refusal) (is-r : onward_answer t.table r ≡ made_from (child_toward p) s t w) where
     one_less : t.nodes.count - v ≡ suc (t.nodes.count - (v + 1))
     one_less = omega (arith, g)
 
-    pub refused_step : (x : Refusal) → r ≡ Refused x → Steps s t p w v 65536
+    pub refused_step : (x : Refusal) → r ≡ Err x → Steps s t p w v 65536
     refused_step x q = stopped (number_of x) (rest_node s t p w v l ∙ step_refused s t p v (t.nodes.count - v) (t.nodes.count - (v + 1)) w one_less h r is-r x q)
 
-    next : (n : ℕ) → r ≡ Word n → (b : Bool) → ltb n 32768 ≡ b → rest s t p w v ≡ rest s t p n (v + 1)
+    next : (n : ℕ) → r ≡ Ok n → (b : Bool) → ltb n 32768 ≡ b → rest s t p w v ≡ rest s t p n (v + 1)
     next n q true e =
         rest_node s t p w v l
         ∙ step_node s t p v (t.nodes.count - v) (t.nodes.count - (v + 1)) w one_less h r is-r n q (ltb-true n 32768 e)
@@ -74,7 +73,7 @@ module _ (s : List ℕ) (t : Tables) (p : Vector3) (w v : ℕ) where
         ∙ step_end s t p v (t.nodes.count - v) (t.nodes.count - (v + 1)) w one_less h r is-r n q t.nodes.count (ltb-false n 32768 e) g (omega (arith, small))
         ∙ sym (rest_end s t p n (v + 1) (ltb-false n 32768 e))
 
-    pub word_step : (n : ℕ) → r ≡ Word n → n < 65536 → Steps s t p w v n
+    pub word_step : (n : ℕ) → r ≡ Ok n → n < 65536 → Steps s t p w v n
     word_step n q f =
         record {
           goes = λ z. next n q (ltb n 32768) refl ∙ ap (λ (x : ℕ). rest s t p n x) (sym (counted_node l));
@@ -161,7 +160,7 @@ module _ (s : List ℕ) (t : Tables) (p q : Vector3) (first second : ℕ) where
         let e : walk_two s t first second p q ≡ both (landed s t p first) (landed s t q second) = rw whole in
         e ∙ g.same
 
-    pub beside_ends : 32768 ≤ a → 32768 ≤ b → two_answer t.table (L.Ends (record { word = a; visits = m }) (record { word = b; visits = n })) ≡ walk_two s t first second p q
+    pub beside_ends : 32768 ≤ a → 32768 ≤ b → two_answer t.table (Some ((record { word = a; visits = m }), (record { word = b; visits = n }))) ≡ walk_two s t first second p q
     beside_ends f h = sym (is_both ∙ rw (rest_end s t p a m f, rest_end s t q b n h))
 
     module _ (c d : ℕ) (f : Steps s t p a m c) (h : Steps s t q b n d) where

@@ -1,5 +1,8 @@
 -- A node is entered: what the readers of its words and of its plane say of it.
 -- Assumes nothing.
+use Rattle.std.proofs.Common.{Ok, Err}
+use Rattle.std.specs.Prelude.{Result}
+use Rattle.nodes.specs.declared.read.Words.{Words}
 use Rattle.std.proofs.Common.{◌≡◌, ℕ, ◌<◌, ◌≤◌, Bool, true, false, cond, ltb, List, sym, refl, ap, ◌∙◌, arith, le-ltb, lt-ltb}
 use Rattle.format.specs.Answer as Ans
 use Rattle.format.specs.Answer.{Answer, answer}
@@ -11,17 +14,22 @@ use Rattle.walk.specs.Table.{node, end, Node, Table, child_on}
 use Rattle.walk.specs.Walk.{Entered, with_node, with_plane, enter}
 use Rattle.walk.proofs.Steps.{enter_unread}
 use Rattle.nodes.specs.Tables.{End}
-use Rattle.nodes.specs.Fast.{words_answer, node_of, child_of, word_on, end_of, plane_in, plane_of_index}
+use Rattle.nodes.specs.Fast.{words_answer, node_of, child_of, onto_word, onto_child, word_on, end_of, plane_in, plane_of_index}
 use Rattle.nodes.specs.Fast as Fast
+use Rattle.nodes.specs.declared.read.Onto.TheVariants as O
 use Rattle.nodes.specs.declared.table.HullTable.{HullTable}
 use Rattle.nodes.specs.declared.table.Tables.{Tables}
-use Rattle.nodes.specs.declared.read.Words.{Words as WordsT}
-use Rattle.nodes.specs.declared.read.ReadWords.{ReadWords}
-use Rattle.nodes.specs.declared.read.ReadWords.TheVariants.{Words, Refused}
 
 -- ---- the child that a word stands for
 
-module _ (tab : HullTable) (w : WordsT) where
+pub child_of_word : (tab : HullTable) (word : ℕ) → onto_child tab (onto_word word) ≡ child_of tab word
+child_of_word tab word = go (ltb word 32768)
+  where
+    go : (b : Bool) → onto_child tab (cond b (O.Node word) (O.End word)) ≡ cond b (node word) (end (end_of tab word))
+    go true = refl
+    go false = refl
+
+module _ (tab : HullTable) (w : Words) where
   pub child_is : (b : Bool) → child_on (node_of tab w) (Pl.side_if b) ≡ child_of tab (word_on w b)
   child_is true = refl
   child_is false = refl
@@ -35,14 +43,14 @@ module _ (tab : HullTable) (w : WordsT) where
 
 -- ---- over any table with the nodes and the planes of these parts
 
-module _ {A : Type 0} (s : List ℕ) (t : Tables) (T : Table End A) (same_nodes : T.nodes.node_at ≡ Fast.node_at s t) (same_count : T.nodes.planes ≡ t.planes.count) (same_planes : T.plane_at ≡ plane_of_index s t) (i : ℕ) (r : ReadWords) (is-r : words_answer t.table r ≡ Fast.node_at s t i) where
+module _ {A : Type 0} (s : List ℕ) (t : Tables) (T : Table End A) (same_nodes : T.nodes.node_at ≡ Fast.node_at s t) (same_count : T.nodes.planes ≡ t.planes.count) (same_planes : T.plane_at ≡ plane_of_index s t) (i : ℕ) (r : Result Words Refusal) (is-r : words_answer t.table r ≡ Fast.node_at s t i) where
   node_at : T.nodes.node_at i ≡ words_answer t.table r
   node_at = ap (λ (f : ℕ → Answer (Node End)). f i) same_nodes ∙ sym is-r
 
-  pub enter_not : (x : Refusal) → r ≡ Refused x → enter T i ≡ Ans.refused (number_of x)
+  pub enter_not : (x : Refusal) → r ≡ Err x → enter T i ≡ Ans.refused (number_of x)
   enter_not x q = enter_unread T i (number_of x) (node_at ∙ ap (words_answer t.table) q)
 
-  module _ (w : WordsT) (q : r ≡ Words w) where
+  module _ (w : Words) (q : r ≡ Ok w) where
     read_as : T.nodes.node_at i ≡ answer (node_of t.table w)
     read_as = node_at ∙ ap (words_answer t.table) q
 

@@ -1,5 +1,9 @@
 -- What is made of a node and its plane: by the readers of any table, and by the bytes of sections that are whole.
 -- Assumes nothing.
+use Rattle.std.proofs.Common.{Ok, Err}
+use Rattle.std.specs.Prelude.{Result}
+use Rattle.format.specs.Answers.{answer_of}
+use Rattle.nodes.specs.declared.read.Words.{Words}
 use Rattle.std.proofs.Common.{◌≡◌, ℕ, ◌+◌, ◌*◌, ◌/◌, ◌<◌, ◌≤◌, Bool, true, false, cond, ltb, List, length, sym, refl, ap, ◌∙◌, arith, ltb-false, ltb-true, le-ltb, lt-ltb}
 use lib.Ieee.{Float}
 use Rattle.format.proofs.Answers.{mapped_answer, mapped_refused}
@@ -15,20 +19,13 @@ use Rattle.math.specs.declared.plane.HyperplaneSide.TheVariants.{Positive, Negat
 use Rattle.walk.specs.Table.{Node, child_on}
 use Rattle.walk.specs.Walk.{Entered, with_node, with_plane, enter}
 use Rattle.nodes.specs.Tables.{End, is_box, file_table}
-use Rattle.nodes.specs.Fast.{Within, is_render, words_answer, node_of, child_of, word_on, node_here, node_size, ReadsNode, plane_here, plane_for, plane_of_index, plane_in, side_from, sided_answer, two_dists, dists_from, dists_answer, table, place_in, plane_read, render_node_here, clip_node_here, node_in}
+use Rattle.nodes.specs.Fast.{Within, is_render, words_answer, node_of, child_of, word_on, node_here, node_size, ReadsNode, plane_here, plane_for, plane_of_index, plane_in, side_from, sided_answer, two_dists, dists_from, table, place_in, plane_read, render_node_here, clip_node_here, node_in}
 use Rattle.nodes.specs.Fast as Fast
-use Rattle.nodes.specs.Walks.{made_from, made_with, made_at, MadeIn, child_toward, node_and_dists, word_at, are_whole, all_bytes, Read}
+use Rattle.nodes.specs.Walks.{made_from, made_with, made_at, MadeIn, found_answer, FoundIn, child_toward, node_and_dists, word_at, are_whole, all_bytes, Read}
 use Rattle.nodes.specs.declared.table.HullTable.{HullTable}
 use Rattle.nodes.specs.declared.table.HullTable.TheVariants.{Render, Clip, Box}
 use Rattle.nodes.specs.declared.table.Part.{Part}
 use Rattle.nodes.specs.declared.table.Tables.{Tables}
-use Rattle.nodes.specs.declared.read.Words.{Words as WordsT}
-use Rattle.nodes.specs.declared.read.ReadWords.{ReadWords}
-use Rattle.nodes.specs.declared.read.ReadWords.TheVariants.{Words, Refused}
-use Rattle.nodes.specs.declared.read.Sided.{Sided}
-use Rattle.nodes.specs.declared.read.Sided.TheVariants as S
-use Rattle.nodes.specs.declared.read.Dists.{Dists}
-use Rattle.nodes.specs.declared.read.Dists.TheVariants as D
 use Rattle.walk.proofs.Steps.{enter_unread}
 use Rattle.nodes.proofs.Entering.{child_is, enter_not, enter_is, enter_no_plane}
 use Rattle.nodes.proofs.Places.{inside}
@@ -39,17 +36,17 @@ use Rattle.nodes.proofs.Wholes.{whole_is, all_whole, all_taken, bytes_length, by
 
 -- ---- words on a side
 
-pub on_the_side : (w : WordsT) (b : Bool) → word_on w b ≡ word_at w (Pl.side_if b)
+pub on_the_side : (w : Words) (b : Bool) → word_on w b ≡ word_at w (Pl.side_if b)
 on_the_side w true = refl
 on_the_side w false = refl
 
-child_at_lem : (tab : HullTable) (w : WordsT) (sd : HyperplaneSide) → child_of tab (word_at w sd) ≡ child_on (node_of tab w) sd
+child_at_lem : (tab : HullTable) (w : Words) (sd : HyperplaneSide) → child_of tab (word_at w sd) ≡ child_on (node_of tab w) sd
 child_at_lem tab w Positive = refl
 child_at_lem tab w Negative = refl
 
 -- ---- the words of a node in its section's bytes, by which table it is
 
-module _ (b : Bool) (n : List ℕ) (i : ℕ) (r : ReadWords) where
+module _ (b : Bool) (n : List ℕ) (i : ℕ) (r : Result Words Refusal) where
   pub as_render : b ≡ true → ReadsNode true n (i * 24) r → ReadsNode b n (i * node_size b) r
   as_render e h = rw e h
 
@@ -70,11 +67,11 @@ room false i l e = let h = ltb-true i (l / 8) e in omega arith
 
 -- ---- by the readers of any table
 
-module _ {X : Type 0} (make : Entered End → X) (s : List ℕ) (t : Tables) (i : ℕ) (r : ReadWords) (is-r : words_answer t.table r ≡ Fast.node_at s t i) where
-  pub any_unread : (x : Refusal) → r ≡ Refused x → Ans.refused (number_of x) ≡ made_from make s t i
+module _ {X : Type 0} (make : Entered End → X) (s : List ℕ) (t : Tables) (i : ℕ) (r : Result Words Refusal) (is-r : words_answer t.table r ≡ Fast.node_at s t i) where
+  pub any_unread : (x : Refusal) → r ≡ Err x → Ans.refused (number_of x) ≡ made_from make s t i
   any_unread x q = sym (ap (mapped make) (enter_not s t (table s t) refl refl refl i r is-r x q))
 
-  module _ (w : WordsT) (q : r ≡ Words w) where
+  module _ (w : Words) (q : r ≡ Ok w) where
     pub any_no_plane : (n : ℕ) → plane_in s t w.plane ≡ Ans.refused n → Ans.refused n ≡ made_from make s t i
     any_no_plane n e = sym (ap (mapped make) (enter_no_plane s t (table s t) refl refl refl i r is-r w q n e))
 
@@ -84,39 +81,39 @@ module _ {X : Type 0} (make : Entered End → X) (s : List ℕ) (t : Tables) (i 
 
 -- the plane that a side or two distances tell
 module _ (a : Answer Hyperplane) where
-  pub no_side : (p : Vector3) (r : Sided) → sided_answer r ≡ side_from p a → (x : Refusal) → r ≡ S.Refused x → a ≡ Ans.refused (number_of x)
+  pub no_side : (p : Vector3) (r : Result Bool Refusal) → sided_answer r ≡ side_from p a → (x : Refusal) → r ≡ Err x → a ≡ Ans.refused (number_of x)
   no_side p r e x q = mapped_refused (λ h. Pl.point_side h p) a (number_of x) (sym e ∙ ap sided_answer q)
 
-  pub side_of : (p : Vector3) (r : Sided) → sided_answer r ≡ side_from p a → (b : Bool) → r ≡ S.Front b → (h : Hyperplane) × (a ≡ answer h) × (Pl.point_side h p ≡ Pl.side_if b)
+  pub side_of : (p : Vector3) (r : Result Bool Refusal) → sided_answer r ≡ side_from p a → (b : Bool) → r ≡ Ok b → (h : Hyperplane) × (a ≡ answer h) × (Pl.point_side h p ≡ Pl.side_if b)
   side_of p r e b q = mapped_answer (λ h. Pl.point_side h p) a (Pl.side_if b) (sym e ∙ ap sided_answer q)
 
-  module _ (p q : Vector3) (r : Dists) (e : dists_answer r ≡ dists_from p q a) where
-    pub no_dists : (x : Refusal) → r ≡ D.Refused x → a ≡ Ans.refused (number_of x)
-    no_dists x u = mapped_refused (two_dists p q) a (number_of x) (sym e ∙ ap dists_answer u)
+  module _ (p q : Vector3) (r : (Result (Float × Float) Refusal)) (e : answer_of r ≡ dists_from p q a) where
+    pub no_dists : (x : Refusal) → r ≡ Err x → a ≡ Ans.refused (number_of x)
+    no_dists x u = mapped_refused (two_dists p q) a (number_of x) (sym e ∙ ap answer_of u)
 
-    pub dists_of : (x y : Float) → r ≡ D.Two x y → (h : Hyperplane) × (a ≡ answer h) × (◌≡◌ {A = Float × Float} (two_dists p q h) (x, y))
-    dists_of x y u = mapped_answer (two_dists p q) a (x, y) (sym e ∙ ap dists_answer u)
+    pub dists_of : (x y : Float) → r ≡ Ok (x, y) → (h : Hyperplane) × (a ≡ answer h) × (◌≡◌ {A = Float × Float} (two_dists p q h) (x, y))
+    dists_of x y u = mapped_answer (two_dists p q) a (x, y) (sym e ∙ ap answer_of u)
 
 -- the distances from a plane that is there
-module _ (p q : Vector3) (h : Hyperplane) (r : Dists) (e : dists_answer r ≡ answer (two_dists p q h)) where
-  pub here_dists : (x y : Float) → r ≡ D.Two x y → ◌≡◌ {A = Float × Float} (two_dists p q h) (x, y)
+module _ (p q : Vector3) (h : Hyperplane) (r : (Result (Float × Float) Refusal)) (e : answer_of r ≡ answer (two_dists p q h)) where
+  pub here_dists : (x y : Float) → r ≡ Ok (x, y) → ◌≡◌ {A = Float × Float} (two_dists p q h) (x, y)
   here_dists x y u =
-      let g : answer (x, y) ≡ answer (two_dists p q h) = sym (ap dists_answer u) ∙ e in
+      let g : answer (x, y) ≡ answer (two_dists p q h) = sym (ap answer_of u) ∙ e in
       let z : ◌≡◌ {A = Float × Float} (x, y) (two_dists p q h) = cc in
       sym z
 
-  pub here_always : (x : Refusal) → r ≡ D.Refused x → ⊥
+  pub here_always : (x : Refusal) → r ≡ Err x → ⊥
   here_always x u =
-      let g : Ans.refused (number_of x) ≡ answer (two_dists p q h) = sym (ap dists_answer u) ∙ e in
+      let g : Ans.refused (number_of x) ≡ answer (two_dists p q h) = sym (ap answer_of u) ∙ e in
       let z : ◌≡◌ {A = ℕ} 0 1 = cc in
       absurd (omega arith)
 
 -- the child on a side
-pub toward : (tab : HullTable) (w : WordsT) (p : Vector3) (h : Hyperplane) (b : Bool) → Pl.point_side h p ≡ Pl.side_if b → (word : ℕ) → word ≡ word_on w b
+pub toward : (tab : HullTable) (w : Words) (p : Vector3) (h : Hyperplane) (b : Bool) → Pl.point_side h p ≡ Pl.side_if b → (word : ℕ) → word ≡ word_on w b
     → child_of tab word ≡ child_toward p (record { nd = node_of tab w; plane = h })
 toward tab w p h b e word is_word = ap (child_of tab) is_word ∙ sym (ap (child_on (node_of tab w)) e ∙ child_is tab w b)
 
-pub at_side : (tab : HullTable) (w : WordsT) (sd : HyperplaneSide) (word : ℕ) → word ≡ word_at w sd → child_of tab word ≡ child_on (node_of tab w) sd
+pub at_side : (tab : HullTable) (w : Words) (sd : HyperplaneSide) (word : ℕ) → word ≡ word_at w sd → child_of tab word ≡ child_on (node_of tab w) sd
 at_side tab w sd word is_word = ap (child_of tab) is_word ∙ child_at_lem tab w sd
 
 pub with_dists : (nd : Node End) (p q : Vector3) (h : Hyperplane) (x y : Float) → ◌≡◌ {A = Float × Float} (two_dists p q h) (x, y) → ◌≡◌ {A = Node End × (Float × Float)} (nd, (x, y)) (node_and_dists p q (record { nd = nd; plane = h }))
@@ -124,12 +121,12 @@ with_dists nd p q h x y e = ap (λ (z : Float × Float). (nd, z)) (sym e)
 
 -- ---- by the bytes n of nodes and m of planes
 
-module _ {X : Type 0} (make : Entered End → X) (render : Bool) (n m : List ℕ) (at : ℕ) (r : ReadWords) (is-r : ReadsNode render n at r) where
-  pub in_unread : (x : Refusal) → r ≡ Refused x → MadeIn make render n m at (Ans.refused (number_of x))
+module _ {X : Type 0} (make : Entered End → X) (render : Bool) (n m : List ℕ) (at : ℕ) (r : Result Words Refusal) (is-r : ReadsNode render n at r) where
+  pub in_unread : (x : Refusal) → r ≡ Err x → MadeIn make render n m at (Ans.refused (number_of x))
   in_unread x q s a b wn wm =
       ap (λ (y : Answer (Node End)). then_answer y (made_with make s b (length m / 20))) (sym (ap (words_answer (file_table render)) q) ∙ is-r s a wn)
 
-  module _ (w : WordsT) (q : r ≡ Words w) where
+  module _ (w : Words) (q : r ≡ Ok w) where
     with_node_lem : (s : List ℕ) (a b : ℕ) → Within n s a → made_at make render s (a + at) b (length m / 20) ≡ made_with make s b (length m / 20) (node_of (file_table render) w)
     with_node_lem s a b wn =
         sym (ap (λ (y : Answer (Node End)). then_answer y (made_with make s b (length m / 20))) (sym (ap (words_answer (file_table render)) q) ∙ is-r s a wn))
@@ -247,3 +244,32 @@ module _ (s : List ℕ) (t : Tables) (n m : List ℕ) (b : Bool) (read : Read s 
 
     pub own_table : file_table k ≡ t.table
     own_table = rw is-k (in_file t.table (all_whole t (length s) is_whole).0)
+
+-- what is made of a node and its plane that were found
+module _ {X : Type 0} (make : Entered End → X) (render : Bool) (n m : List ℕ) (at : ℕ) where
+  on_record : (s : List ℕ) (b k : ℕ) (nd : Answer (Node End)) → mapped make (then_answer nd (made_with (λ x. x) s b k)) ≡ then_answer nd (made_with make s b k)
+  on_record s b k (Ans.refused e) = refl
+  on_record s b k (answer nd) = go (ltb nd.plane k)
+    where
+      go : (c : Bool) → mapped make (cond c (answer (record { nd = nd; plane = plane_here s (b + nd.plane * 20) })) (Ans.refused 30))
+          ≡ cond c (answer (make (record { nd = nd; plane = plane_here s (b + nd.plane * 20) }))) (Ans.refused 30)
+      go true = refl
+      go false = refl
+
+  of_found : (r : Result (Words × ℕ) Refusal) → FoundIn render n m at r → MadeIn make render n m at (mapped make (found_answer (file_table render) m r))
+  of_found r f s a b wn wm = ap (mapped make) (f.made s a b wn wm) ∙ on_record s b (length m / 20) (node_here render s (a + at))
+
+  pub none_of : (r : Result (Words × ℕ) Refusal) → FoundIn render n m at r → (x : Refusal) → r ≡ Err x → MadeIn make render n m at (Ans.refused (number_of x))
+  none_of r f x q s a b wn wm = sym (ap (λ y. mapped make (found_answer (file_table render) m y)) q) ∙ of_found r f s a b wn wm
+
+  pub made_of : (r : Result (Words × ℕ) Refusal) → FoundIn render n m at r → (w : Words) (p : ℕ) → r ≡ Ok (w, p)
+      → (x : X) → x ≡ make (record { nd = node_of (file_table render) w; plane = plane_here m p }) → MadeIn make render n m at (answer x)
+  made_of r f w p q x is_x s a b wn wm = ap answer is_x ∙ sym (ap (λ y. mapped make (found_answer (file_table render) m y)) q) ∙ of_found r f s a b wn wm
+
+-- what was found is at one place
+abbrev place_of : Result (Words × ℕ) Refusal → ℕ
+place_of (Ok (w, p)) = p
+place_of (Err e) = 0
+
+pub one_place : (w v : Words) (a p k : ℕ) → a + 20 ≤ k → ◌≡◌ {A = Result (Words × ℕ) Refusal} (Ok (w, a)) (Ok (v, p)) → p + 20 ≤ k
+one_place w v a p k h e = let z : ◌≡◌ {A = ℕ} a p = ap place_of e in omega (arith, h, z)

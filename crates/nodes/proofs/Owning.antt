@@ -4,11 +4,15 @@ use Rattle.std.specs.Prelude.{Option, Some, None}
 use Rattle.std.proofs.Common.{◌≡◌, ℕ, ◌+◌, ◌-◌, ◌*◌, ◌/◌, ◌<◌, ◌≤◌, Bool, true, false, cond, ltb, List, length, ℤ, negsuc, sym, refl, ap, ◌∙◌, arith, w32, to_z, ltb-false, ltb-true, le-ltb, lt-ltb}
 use lib.Signed.{lt_z}
 use Rattle.format.specs.Answer as Ans
+use Rattle.format.specs.Answers.{answer_of}
+use Rattle.format.specs.declared.refusal.Refusal.TheVariants.{Unreadable}
+use Rattle.std.specs.Option.{ok_or}
 use Rattle.format.specs.Answer.{Answer, answer, mapped, then_answer}
 use Rattle.format.specs.Step.{ok, refused, and_then}
 use Rattle.format.specs.Code.{contents_of, negated_contents}
 use Rattle.format.specs.declared.contents.BspLeafContents.{BspLeafContents}
 use Rattle.math.specs.Plane as Pl
+use Rattle.math.specs.declared.plane.HyperplaneSide.{HyperplaneSide}
 use Rattle.math.specs.declared.vector.Vector3.{Vector3}
 use Rattle.math.specs.declared.plane.Hyperplane.{Hyperplane}
 use Rattle.records.specs.Access.{reading}
@@ -34,8 +38,12 @@ use Rattle.nodes.proofs.Wholes.{whole_is, all_whole, all_taken, bytes_length, by
 
 -- ---- by the tests of the code
 
-pub with_sides : (p q : Vector3) (h : Hyperplane) (x y : Bool) → Pl.side_if x ≡ Pl.point_side h p → Pl.side_if y ≡ Pl.point_side h q → answer (Pl.side_if x, Pl.side_if y) ≡ answer (two_sides p q h)
+pub with_sides : (p q : Vector3) (h : Hyperplane) (x y : Bool) → Pl.side_if x ≡ Pl.point_side h p → Pl.side_if y ≡ Pl.point_side h q → ◌≡◌ {A = HyperplaneSide × HyperplaneSide} (Pl.side_if x, Pl.side_if y) (two_sides p q h)
 with_sides p q h x y e f = rw (e, f)
+
+pub coded_told : (k : Option BspLeafContents) → answer_of (ok_or k Unreadable) ≡ coded_answer k
+coded_told (Some c) = refl
+coded_told None = refl
 
 module _ (render : Bool) (l : List ℕ) (w : ℕ) where
   pub among_none : render ≡ true → length l / 28 ≤ 65535 - w → Ans.refused 30 ≡ end_among render l w

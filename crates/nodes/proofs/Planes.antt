@@ -92,7 +92,7 @@ module _ (s : List ℕ) (at k : ℕ) (d : Float) (is-d : d ≡ f32 s (at + 12)) 
   here_axis_dist p x is_x h = rw (← is-d, ← is-k, is_x) (axis_dist k (normal s at) d p h)
 
   pub here_axis_dists : (p q : Vector3) (x y : Float) → x ≡ along p k → y ≡ along q k → k < 3
-      → answer (Ieee.sub binary32 x d, Ieee.sub binary32 y d) ≡ answer (two_dists p q (plane_here s at))
+      → ◌≡◌ {A = Float × Float} (Ieee.sub binary32 x d, Ieee.sub binary32 y d) (two_dists p q (plane_here s at))
   unfolding plane_here
   here_axis_dists p q x y is_x is_y h =
       rw (← is-d, ← is-k, is_x, is_y, axis_dist k (normal s at) d p h, axis_dist k (normal s at) d q h)
@@ -102,8 +102,8 @@ module _ (s : List ℕ) (at k : ℕ) (d : Float) (is-d : d ≡ f32 s (at + 12)) 
     unfolding plane_here
     here_slanted = rw (← is-d, ← is-k, slanted k (normal s at) d g, ← is_n, is-h)
 
-    pub here_slanted_dists : (p q : Vector3) (x y : Float) → x ≡ Pl.point_dist h p → y ≡ Pl.point_dist h q → answer (x, y) ≡ answer (two_dists p q (plane_here s at))
-    here_slanted_dists p q x y is_x is_y = rw (is_x, is_y) (ap (λ z. answer (two_dists p q z)) here_slanted)
+    pub here_slanted_dists : (p q : Vector3) (x y : Float) → x ≡ Pl.point_dist h p → y ≡ Pl.point_dist h q → ◌≡◌ {A = Float × Float} (x, y) (two_dists p q (plane_here s at))
+    here_slanted_dists p q x y is_x is_y = rw (is_x, is_y) (ap (two_dists p q) here_slanted)
 
   -- the whole plane, by its type
   pub here_x : (h : Hyperplane) → h ≡ Pl.axis_x d → k ≡ 0 → h ≡ plane_here s at

@@ -18,8 +18,6 @@ use Rattle.nodes.specs.Walks.{are_whole, ends, child_toward, made_from, MadeIn, 
 use Rattle.nodes.specs.Quick.{code_or, end_code, leaves_by, or_nothing, part_with, quick_answer, quick_in, QuickIn, quick_walk, said, tables_by, Whole, word_contents}
 use Rattle.nodes.specs.declared.table.HullTable.{HullTable}
 use Rattle.nodes.specs.declared.table.Tables.{Tables}
-use Rattle.nodes.specs.declared.walking.Onward.{Onward}
-use Rattle.nodes.specs.declared.walking.Onward.TheVariants.{Word, Refused}
 use Rattle.nodes.proofs.Making.{nodes_counted, own_table, whole_made}
 use Rattle.nodes.proofs.Places.{none}
 use Rattle.nodes.proofs.Wholes.{whole_is, all_whole}
@@ -52,7 +50,7 @@ module _ (n m : List ℕ) (render : Bool) (root : ℕ) (p : Vector3) where
     counted : count ≡ t.nodes.count
     counted = nodes_counted s t n m true w.its refl render w.table_is
 
-    made : (i : ℕ) → i < count → (r : Onward) → MadeIn (child_toward p) render n m (i * node_size render) (onward_answer (file_table render) r) → onward_answer t.table r ≡ made_from (child_toward p) s t i
+    made : (i : ℕ) → i < count → (r : Result ℕ Refusal) → MadeIn (child_toward p) render n m (i * node_size render) (onward_answer (file_table render) r) → onward_answer t.table r ≡ made_from (child_toward p) s t i
     made i h r e =
         ap (λ (x : HullTable). onward_answer x r) (sym (own_table s t n m true w.its refl render w.table_is))
         ∙ whole_made s t n m true w.its refl render w.table_is i (child_toward p) (omega (arith, h, counted)) (onward_answer (file_table render) r) e
@@ -65,12 +63,12 @@ module _ (n m : List ℕ) (render : Bool) (root : ℕ) (p : Vector3) where
     spent g s t w =
         sym (st s t w ∙ ap (λ o. or_nothing (after v o)) (walk_spent (ends (table s t)) p (t.nodes.count - v) i (omega (arith, g, counted s t w)) (omega (arith, h, counted s t w))))
 
-    module _ (g : v < count) (r : Onward) (is-r : MadeIn (child_toward p) render n m (i * node_size render) (onward_answer (file_table render) r)) where
-      pub refused_here : (x : Refusal) → r ≡ Refused x → QuickIn n m render root p 0
+    module _ (g : v < count) (r : Result ℕ Refusal) (is-r : MadeIn (child_toward p) render n m (i * node_size render) (onward_answer (file_table render) r)) where
+      pub refused_here : (x : Refusal) → r ≡ Err x → QuickIn n m render root p 0
       refused_here x q s t w =
           sym (st s t w ∙ ap or_nothing (step_refused s t p v (t.nodes.count - v) (t.nodes.count - (v + 1)) i (omega (arith, g, counted s t w)) (omega (arith, h, counted s t w)) r (made s t w i h r is-r) x q))
 
-      module _ (x : ℕ) (q : r ≡ Word x) where
+      module _ (x : ℕ) (q : r ≡ Ok x) where
         goes : (s : List ℕ) (t : Tables) → Whole s t n m render → x < 32768 → quick_in s t root p ≡ or_nothing (after (v + 1) (walk (ends (table s t)) (t.nodes.count - (v + 1)) x p))
         goes s t w l =
             st s t w ∙ ap or_nothing (step_node s t p v (t.nodes.count - v) (t.nodes.count - (v + 1)) i (omega (arith, g, counted s t w)) (omega (arith, h, counted s t w)) r (made s t w i h r is-r) x q l)

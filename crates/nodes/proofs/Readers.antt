@@ -1,7 +1,10 @@
 -- A node and an end, by which table it is of.
 -- Assumes nothing.
-use Rattle.std.specs.Prelude.{Option, Result, Ok, Err}
+use Rattle.nodes.specs.declared.read.Words.{Words}
+use Rattle.std.specs.Prelude.{Option, Some, None, Result, Ok, Err}
 use Rattle.std.proofs.Common.{◌≡◌, ℕ, zero, suc, ◌-◌, ◌<◌, ◌≤◌, Bool, true, false, List, [], ◌∷◌, length, sym, refl, ap, ◌∙◌, arith, le-ltb, lt-ltb}
+use Rattle.format.specs.declared.refusal.Refusal.TheVariants.{Unreadable}
+use Rattle.std.specs.Option.{ok_or}
 use Rattle.format.specs.Answers.{answer_of}
 use Rattle.format.specs.Answer as Ans
 use Rattle.format.specs.Answer.{Answer, then_answer}
@@ -16,7 +19,6 @@ use Rattle.nodes.specs.declared.table.HullTable.{HullTable}
 use Rattle.nodes.specs.declared.table.HullTable.TheVariants.{Render, Clip, Box}
 use Rattle.nodes.specs.declared.table.Part.{Part}
 use Rattle.nodes.specs.declared.table.Tables.{Tables}
-use Rattle.nodes.specs.declared.read.ReadWords.{ReadWords}
 use Rattle.nodes.proofs.Places.{none}
 
 -- a table that is not a box's is the file's
@@ -43,21 +45,21 @@ module _ (s : List ℕ) (p : Part) (i : ℕ) (b : Bool) where
       by false = ap (λ x. then_answer x (clip_node_here s)) (none p 8 (length s) i h)
 
   module _ (e : b ≡ true) (r : Result ℕ Refusal) (is-r : answer_of r ≡ place_in p 24 (length s) i) where
-    pub render_at : (w : ReadWords) (at : ℕ) → r ≡ Ok at → words_answer Render w ≡ render_node_here s at → words_answer (file_table b) w ≡ node_in (file_table b) s p i
+    pub render_at : (w : Result Words Refusal) (at : ℕ) → r ≡ Ok at → words_answer Render w ≡ render_node_here s at → words_answer (file_table b) w ≡ node_in (file_table b) s p i
     render_at w at q a = rw e (a ∙ sym (ap (λ x. then_answer x (render_node_here s)) (sym is-r ∙ ap answer_of q)))
 
     pub render_not : (x : Refusal) → r ≡ Err x → Ans.refused (number_of x) ≡ node_in (file_table b) s p i
     render_not x q = rw e (sym (ap (λ y. then_answer y (render_node_here s)) (sym is-r ∙ ap answer_of q)))
 
   module _ (e : b ≡ false) (r : Result ℕ Refusal) (is-r : answer_of r ≡ place_in p 8 (length s) i) where
-    pub clip_at : (w : ReadWords) (at : ℕ) → r ≡ Ok at → words_answer Clip w ≡ clip_node_here s at → words_answer (file_table b) w ≡ node_in (file_table b) s p i
+    pub clip_at : (w : Result Words Refusal) (at : ℕ) → r ≡ Ok at → words_answer Clip w ≡ clip_node_here s at → words_answer (file_table b) w ≡ node_in (file_table b) s p i
     clip_at w at q a = rw e (a ∙ sym (ap (λ x. then_answer x (clip_node_here s)) (sym is-r ∙ ap answer_of q)))
 
     pub clip_not : (x : Refusal) → r ≡ Err x → Ans.refused (number_of x) ≡ node_in (file_table b) s p i
     clip_not x q = rw e (sym (ap (λ y. then_answer y (clip_node_here s)) (sym is-r ∙ ap answer_of q)))
 
 -- of a box or of the file
-module _ (s : List ℕ) (t : Tables) (i : ℕ) (w : ReadWords) (b : Bool) (is_b : b ≡ is_box t.table) where
+module _ (s : List ℕ) (t : Tables) (i : ℕ) (w : Result Words Refusal) (b : Bool) (is_b : b ≡ is_box t.table) where
   a_box : (tab : HullTable) → is_box tab ≡ true → tab ≡ Box
   a_box Render e = let z : ◌≡◌ {A = ℕ} 0 1 = cc in absurd (omega arith)
   a_box Clip e = let z : ◌≡◌ {A = ℕ} 0 1 = cc in absurd (omega arith)
@@ -103,6 +105,11 @@ module _ (s : List ℕ) (t : Tables) (w : ℕ) (b : Bool) (is_b : b ≡ is_rende
   by_code Clip e = refl
   by_code Box e = refl
 
-  pub code_met : b ≡ false → (k l : Option BspLeafContents) → k ≡ contents_of (65536 - w) → k ≡ l → meet (table s t) (coded l) ≡ contents_met s t w
+  told : (k : Option BspLeafContents) → answer_of (ok_or k Unreadable) ≡ meet (table s t) (coded k)
+  unfolding meet
+  told (Some c) = refl
+  told None = refl
+
+  pub code_met : b ≡ false → (k : Option BspLeafContents) → k ≡ contents_of (65536 - w) → answer_of (ok_or k Unreadable) ≡ contents_met s t w
   unfolding contents_met
-  code_met e k l is-k q = ap (λ x. meet (table s t) (coded x)) (sym q ∙ is-k) ∙ ap (meet (table s t)) (by_code t.table (sym is_b ∙ e))
+  code_met e k is-k = told k ∙ ap (λ x. meet (table s t) (coded x)) is-k ∙ ap (meet (table s t)) (by_code t.table (sym is_b ∙ e))

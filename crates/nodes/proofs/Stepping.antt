@@ -1,5 +1,7 @@
 -- Each way through a step of the walk to an end, by the child that the point goes on to.
 -- Assumes nothing.
+use Rattle.std.proofs.Common.{Ok, Err}
+use Rattle.std.specs.Prelude.{Result}
 use Rattle.std.proofs.Common.{◌≡◌, ℕ, suc, ◌+◌, ◌-◌, ◌^◌, ◌<◌, ◌≤◌, List, sym, refl, ap, ◌∙◌, arith, le-ltb, lt-ltb}
 use native.Mathlib.Nat.{sub-zero}
 use Rattle.format.proofs.Answers.{mapped_answer, mapped_refused}
@@ -17,8 +19,6 @@ use Rattle.nodes.specs.Fast.{child_of, end_of, table}
 use Rattle.nodes.specs.Walks.{ends, made_from, child_toward, onward_answer}
 use Rattle.nodes.specs.declared.table.HullTable.{HullTable}
 use Rattle.nodes.specs.declared.table.Tables.{Tables}
-use Rattle.nodes.specs.declared.walking.Onward.{Onward}
-use Rattle.nodes.specs.declared.walking.Onward.TheVariants.{Word, Refused}
 
 -- the child of a word, by its half
 below : (tab : HullTable) (w : ℕ) → w < 32768 → child_of tab w ≡ node w
@@ -27,7 +27,7 @@ below tab w h = simp (lt-ltb w 32768 h)
 above : (tab : HullTable) (w : ℕ) → 32768 ≤ w → child_of tab w ≡ end (end_of tab w)
 above tab w h = simp (le-ltb w 32768 h)
 
-module _ (s : List ℕ) (t : Tables) (p : Vector3) (v k j i : ℕ) (more : k ≡ suc j) (h : i < t.nodes.count) (r : Onward) (is-r : onward_answer t.table r ≡ made_from (child_toward p) s t i) where
+module _ (s : List ℕ) (t : Tables) (p : Vector3) (v k j i : ℕ) (more : k ≡ suc j) (h : i < t.nodes.count) (r : Result ℕ Refusal) (is-r : onward_answer t.table r ≡ made_from (child_toward p) s t i) where
   abbrev T : Table End End
   T = ends (table s t)
 
@@ -35,11 +35,11 @@ module _ (s : List ℕ) (t : Tables) (p : Vector3) (v k j i : ℕ) (more : k ≡
   unfolding enter
   same_enter = refl
 
-  pub step_refused : (x : Refusal) → r ≡ Refused x → after v (walk T k i p) ≡ Ans.refused (number_of x)
+  pub step_refused : (x : Refusal) → r ≡ Err x → after v (walk T k i p) ≡ Ans.refused (number_of x)
   step_refused x q =
       ap (after v) (walk_unread T p k j i more h (number_of x) (same_enter ∙ mapped_refused (child_toward p) (enter (table s t) i) (number_of x) (sym is-r ∙ ap (onward_answer t.table) q)))
 
-  module _ (w : ℕ) (q : r ≡ Word w) where
+  module _ (w : ℕ) (q : r ≡ Ok w) where
     met : (m : Entered End) × (enter (table s t) i ≡ answer m) × (child_toward p m ≡ child_of t.table w)
     met = mapped_answer (child_toward p) (enter (table s t) i) (child_of t.table w) (sym is-r ∙ ap (onward_answer t.table) q)
 

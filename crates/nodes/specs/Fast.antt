@@ -1,7 +1,7 @@
 -- For the contracts of functions below the calls; a reader of the calls may leave this file out.
 -- The node tables as the readers of this crate go by them: fields at a place, the parts of the file and where a record lies in one, nodes as words,
 -- planes, what an end says; and of these `table`, which is `table_of` of Tables.antt (proofs/Equal.antt).
-use Rattle.std.specs.Prelude.{Option, Some, None, ◌≡◌, ℕ, ◌+◌, ◌-◌, ◌*◌, ◌/◌, ◌%◌, ◌<◌, ◌≤◌, Bool, true, false, cond, List, length, ◌==◌, from_bits, nat_le, nat_lt, slice_index, slice_index_or, Float}
+use Rattle.std.specs.Prelude.{Option, Some, None, Result, Ok, Err, ◌≡◌, ℕ, ◌+◌, ◌-◌, ◌*◌, ◌/◌, ◌%◌, ◌<◌, ◌≤◌, Bool, true, false, cond, List, length, ◌==◌, from_bits, nat_le, nat_lt, slice_index, slice_index_or, Float}
 use Rattle.std.specs.Float.{binary32, nan}
 use Rattle.math.specs.Vector as Vec
 use Rattle.math.specs.Plane as Pl
@@ -10,6 +10,7 @@ use Rattle.math.specs.declared.plane.Hyperplane.{Hyperplane}
 use Rattle.math.specs.declared.plane.HyperplaneSide.{HyperplaneSide}
 use Rattle.format.specs.Answer.{Answer, answer, refused, mapped, then_answer}
 use Rattle.format.specs.Refusal.{number_of}
+use Rattle.format.specs.declared.refusal.Refusal.{Refusal}
 use Rattle.format.specs.Code.{contents_of}
 use Rattle.format.specs.declared.contents.BspLeafContents.{BspLeafContents}
 use Rattle.format.specs.declared.section.BspData.{BspData}
@@ -25,15 +26,9 @@ use Rattle.nodes.specs.declared.table.HullTable.{HullTable}
 use Rattle.nodes.specs.declared.table.HullTable.TheVariants.{Render, Clip, Box}
 use Rattle.nodes.specs.declared.table.Part.{Part}
 use Rattle.nodes.specs.declared.table.Tables.{Tables}
+use Rattle.nodes.specs.declared.read.Onto.{Onto}
+use Rattle.nodes.specs.declared.read.Onto.TheVariants as O
 use Rattle.nodes.specs.declared.read.Words.{Words}
-use Rattle.nodes.specs.declared.read.ReadWords.{ReadWords}
-use Rattle.nodes.specs.declared.read.ReadWords.TheVariants as W
-use Rattle.nodes.specs.declared.read.Sided.{Sided}
-use Rattle.nodes.specs.declared.read.Sided.TheVariants as S
-use Rattle.nodes.specs.declared.read.Dists.{Dists}
-use Rattle.nodes.specs.declared.read.Dists.TheVariants as D
-use Rattle.nodes.specs.declared.read.EndContents.{EndContents}
-use Rattle.nodes.specs.declared.read.EndContents.TheVariants as E
 
 -- ---- which table
 
@@ -123,6 +118,14 @@ end_of Box w = coded (contents_of (65536 - w))
 abbrev pub child_of : HullTable → ℕ → Child End
 child_of t w = cond (nat_lt w 32768) (node w) (end (end_of t w))
 
+-- the child that a word stands for, with an end by its word: below 2^15 a node
+abbrev pub onto_word : ℕ → Onto
+onto_word w = cond (nat_lt w 32768) (O.Node w) (O.End w)
+
+abbrev pub onto_child : HullTable → Onto → Child End
+onto_child t (O.Node n) = node n
+onto_child t (O.End w) = end (end_of t w)
+
 -- the children's words
 abbrev pub front_of : Words → ℕ
 front_of w = w.both % 65536
@@ -145,9 +148,9 @@ is_invalid None = true
 unfoldable pub invalid : ℕ → Bool
 invalid w = cond (nat_lt w 32768) false (is_invalid (contents_of (65536 - w)))
 
-abbrev pub words_answer : HullTable → ReadWords → Answer (Node End)
-words_answer t (W.Words w) = answer (node_of t w)
-words_answer t (W.Refused e) = refused (number_of e)
+abbrev pub words_answer : HullTable → Result Words Refusal → Answer (Node End)
+words_answer t (Ok w) = answer (node_of t w)
+words_answer t (Err e) = refused (number_of e)
 
 unfoldable pub clip_node_here : List ℕ → ℕ → Answer (Node End)
 clip_node_here s at = mapped clip_node (reading (collision_node_at s at))
@@ -164,7 +167,7 @@ abbrev pub node_size : Bool → ℕ
 node_size true = 24
 node_size false = 8
 
-abbrev pub ReadsNode : Bool → List ℕ → ℕ → ReadWords → Type 0
+abbrev pub ReadsNode : Bool → List ℕ → ℕ → Result Words Refusal → Type 0
 ReadsNode render n at r = (s : List ℕ) (a : ℕ) → Within n s a → words_answer (file_table render) r ≡ node_here render s (a + at)
 
 unfoldable pub box_node : ℕ → Answer (Node End)
@@ -222,19 +225,15 @@ plane_in s t i = cond (nat_lt i t.planes.count) (plane_of_index s t i) (refused 
 abbrev pub side_from : Vector3 → Answer Hyperplane → Answer HyperplaneSide
 side_from p a = mapped (λ h. Pl.point_side h p) a
 
-abbrev pub sided_answer : Sided → Answer HyperplaneSide
-sided_answer (S.Front b) = answer (Pl.side_if b)
-sided_answer (S.Refused e) = refused (number_of e)
+abbrev pub sided_answer : Result Bool Refusal → Answer HyperplaneSide
+sided_answer (Ok b) = answer (Pl.side_if b)
+sided_answer (Err e) = refused (number_of e)
 
 abbrev pub two_dists : Vector3 → Vector3 → Hyperplane → Float × Float
 two_dists p q h = (Pl.point_dist h p, Pl.point_dist h q)
 
 abbrev pub dists_from : Vector3 → Vector3 → Answer Hyperplane → Answer (Float × Float)
 dists_from p q a = mapped (two_dists p q) a
-
-abbrev pub dists_answer : Dists → Answer (Float × Float)
-dists_answer (D.Two a b) = answer (a, b)
-dists_answer (D.Refused e) = refused (number_of e)
 
 -- ---- ends
 
@@ -245,10 +244,6 @@ abbrev pub end_contents : List ℕ → Tables → End → Answer BspLeafContents
 end_contents s t (contents c) = answer c
 end_contents s t (leaf n) = then_answer (place_in t.leaves 28 (length s) n) (leaf_contents_here s)
 end_contents s t nothing = refused 23
-
-abbrev pub end_answer : EndContents → Answer BspLeafContents
-end_answer (E.Contents c) = answer c
-end_answer (E.Refused e) = refused (number_of e)
 
 -- ---- the tables
 

@@ -3,14 +3,11 @@
 -- another crate cannot name cite these; the planes are those of Tables.antt (`numbered_is` in proofs/Numbering.antt).
 use Rattle.std.specs.Prelude.{ℕ, ◌+◌, ◌*◌, ◌/◌, cond, List, length, take, drop, nat_le, nat_lt}
 use Rattle.format.specs.Answer.{Answer, answer, refused, mapped}
-use Rattle.format.specs.Refusal.{number_of}
 use Rattle.format.specs.declared.section.BspFileSection.{BspFileSection}
 use Rattle.math.specs.declared.plane.Hyperplane.{Hyperplane}
 use Rattle.math.specs.declared.plane.HyperplaneSide.{HyperplaneSide}
 use Rattle.math.specs.declared.plane.HyperplaneSide.TheVariants.{Positive, Negative}
 use Rattle.nodes.specs.Fast.{plane_here}
-use Rattle.nodes.specs.declared.numbered.Picked.{Picked}
-use Rattle.nodes.specs.declared.numbered.Picked.TheVariants as P
 
 -- the limit allows all planes or none
 abbrev pub allowed : ℕ → ℕ
@@ -37,7 +34,3 @@ side_of f b Negative = b
 
 abbrev pub picked_by : ℕ → ℕ → Answer HyperplaneSide → Answer ℕ
 picked_by f b a = mapped (side_of f b) a
-
-abbrev pub picked_answer : Picked → Answer ℕ
-picked_answer (P.Word w) = answer w
-picked_answer (P.Refused e) = refused (number_of e)

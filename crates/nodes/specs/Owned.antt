@@ -1,8 +1,9 @@
 -- For the contracts of functions below the calls; a reader of the calls may leave this file out.
 -- What a trace reads from the bytes of planes and leaves (`sides_in`, `end_in`), and the bytes of a table that is whole, leaves too.
-use Rattle.std.specs.Prelude.{Option, Some, None, ◌≡◌, ℕ, ◌-◌, ◌*◌, ◌/◌, Bool, true, false, cond, List, length, nat_lt}
+use Rattle.std.specs.Prelude.{Result, Ok, Err, Option, Some, None, ◌≡◌, ℕ, ◌-◌, ◌*◌, ◌/◌, Bool, true, false, cond, List, length, nat_lt}
 use Rattle.format.specs.Answer.{Answer, answer, refused}
 use Rattle.format.specs.Refusal.{number_of}
+use Rattle.format.specs.declared.refusal.Refusal.{Refusal}
 use Rattle.format.specs.Code.{contents_of}
 use Rattle.format.specs.declared.contents.BspLeafContents.{BspLeafContents}
 use Rattle.math.specs.Plane as Pl
@@ -13,16 +14,18 @@ use Rattle.nodes.specs.Fast.{is_render, leaf_contents_here}
 use Rattle.nodes.specs.Numbered.{plane_numbered}
 use Rattle.nodes.specs.Walks.{is_whole, are_whole, bytes_of, Read}
 use Rattle.nodes.specs.declared.table.Tables.{Tables}
-use Rattle.nodes.specs.declared.crossing.Sides.{Sides}
-use Rattle.nodes.specs.declared.crossing.Sides.TheVariants as C
 
 -- on which sides of a plane two points lie
 abbrev pub two_sides : Vector3 → Vector3 → Hyperplane → HyperplaneSide × HyperplaneSide
 two_sides p q h = (Pl.point_side h p, Pl.point_side h q)
 
-abbrev pub sides_answer : Sides → Answer (HyperplaneSide × HyperplaneSide)
-sides_answer (C.Two a b) = answer (Pl.side_if a, Pl.side_if b)
-sides_answer (C.Refused e) = refused (number_of e)
+-- two sides, each by whether it is the positive one
+abbrev pub sides_of : Bool × Bool → HyperplaneSide × HyperplaneSide
+sides_of (a, b) = (Pl.side_if a, Pl.side_if b)
+
+abbrev pub sides_answer : Result (Bool × Bool) Refusal → Answer (HyperplaneSide × HyperplaneSide)
+sides_answer (Ok s) = answer (sides_of s)
+sides_answer (Err e) = refused (number_of e)
 
 -- the plane i of the bytes m (30)
 abbrev pub plane_of : List ℕ → ℕ → Answer Hyperplane

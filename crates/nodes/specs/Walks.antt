@@ -1,9 +1,10 @@
 -- For the contracts of functions below the calls; a reader of the calls may leave this file out.
 -- The walk of a point to an end (`walk_to_end`), and what a trace sees at a node (`segment_in`, `segment_any`): both make something of a node and its
 -- plane. Then the bytes of the nodes and the planes, where the file has all of them (`are_whole`, `node_bytes`, `plane_bytes`).
-use Rattle.std.specs.Prelude.{◌≡◌, ℕ, ◌+◌, ◌*◌, ◌/◌, Bool, true, false, cond, List, [], ◌++◌, length, take, drop, nat_le, nat_lt, Float}
+use Rattle.std.specs.Prelude.{Result, Ok, Err, ◌≡◌, ℕ, ◌+◌, ◌*◌, ◌/◌, ◌≤◌, Bool, true, false, cond, List, [], ◌++◌, length, take, drop, nat_le, nat_lt, Float}
 use Rattle.format.specs.Answer.{Answer, answer, refused, mapped, then_answer}
 use Rattle.format.specs.Refusal.{number_of}
+use Rattle.format.specs.declared.refusal.Refusal.{Refusal}
 use Rattle.math.specs.Plane as Pl
 use Rattle.math.specs.declared.vector.Vector3.{Vector3}
 use Rattle.math.specs.declared.plane.HyperplaneSide.{HyperplaneSide}
@@ -16,12 +17,6 @@ use Rattle.nodes.specs.declared.table.HullTable.{HullTable}
 use Rattle.nodes.specs.declared.table.Part.{Part}
 use Rattle.nodes.specs.declared.table.Tables.{Tables}
 use Rattle.nodes.specs.declared.read.Words.{Words}
-use Rattle.nodes.specs.declared.walking.WalkEnd.{WalkEnd}
-use Rattle.nodes.specs.declared.walking.WalkEnd.TheVariants as W
-use Rattle.nodes.specs.declared.segment.SegmentAt.{SegmentAt}
-use Rattle.nodes.specs.declared.segment.SegmentAt.TheVariants as G
-use Rattle.nodes.specs.declared.walking.Onward.{Onward}
-use Rattle.nodes.specs.declared.walking.Onward.TheVariants as O
 
 -- the table whose ends are answered as they are, untested and unread
 abbrev pub ends : {E A : Type 0} → Table E A → Table E E
@@ -33,9 +28,9 @@ ends T =
     }
 
 -- the end that a word stands for, and visits
-abbrev pub walk_end_answer : HullTable → WalkEnd → Answer (End × ℕ)
-walk_end_answer t (W.Word w v) = answer (end_of t w, v)
-walk_end_answer t (W.Refused e) = refused (number_of e)
+abbrev pub walk_end_answer : HullTable → Result (ℕ × ℕ) Refusal → Answer (End × ℕ)
+walk_end_answer t (Ok (w, v)) = answer (end_of t w, v)
+walk_end_answer t (Err e) = refused (number_of e)
 
 -- ---- what is made of a node and its plane, as they are entered
 
@@ -57,6 +52,16 @@ abbrev pub MadeIn : {X : Type 0} → (Entered End → X) → Bool → List ℕ �
 MadeIn make render n m at x =
     (s : List ℕ) (a b : ℕ) → Within n s a → Within m s b → x ≡ made_at make render s (a + at) b (length m / 20)
 
+-- for private contracts: a node's words and the place of its plane among the bytes m
+abbrev pub found_answer : HullTable → List ℕ → Result (Words × ℕ) Refusal → Answer (Entered End)
+found_answer t m (Ok (w, at)) = answer (record { nd = node_of t w; plane = plane_here m at })
+found_answer t m (Err e) = refused (number_of e)
+
+-- they are of the node at a place of the bytes n, and the plane lies within the bytes m
+pub record FoundIn (render : Bool) (n m : List ℕ) (at : ℕ) (r : Result (Words × ℕ) Refusal) : Type 0 where
+  pub made : MadeIn (λ x. x) render n m at (found_answer (file_table render) m r)
+  pub inside : (w : Words) (p : ℕ) → r ≡ Ok (w, p) → p + 20 ≤ length m
+
 -- a walk makes the child on the point's side
 abbrev pub child_toward : Vector3 → Entered End → Child End
 child_toward p m = child_on m.nd (Pl.point_side m.plane p)
@@ -65,17 +70,17 @@ child_toward p m = child_on m.nd (Pl.point_side m.plane p)
 abbrev pub child_by_distance : Vector3 → Entered End → Child End
 child_by_distance p m = child_on m.nd (Pl.from_dist (Pl.point_dist m.plane p))
 
-abbrev pub onward_answer : HullTable → Onward → Answer (Child End)
-onward_answer t (O.Word w) = answer (child_of t w)
-onward_answer t (O.Refused e) = refused (number_of e)
+abbrev pub onward_answer : HullTable → Result ℕ Refusal → Answer (Child End)
+onward_answer t (Ok w) = answer (child_of t w)
+onward_answer t (Err e) = refused (number_of e)
 
 -- a trace makes the node and the distances of the segment's ends
 abbrev pub node_and_dists : Vector3 → Vector3 → Entered End → Node End × (Float × Float)
 node_and_dists p q m = (m.nd, two_dists p q m.plane)
 
-abbrev pub segment_answer : HullTable → SegmentAt → Answer (Node End × (Float × Float))
-segment_answer t (G.Dists w a b) = answer (node_of t w, (a, b))
-segment_answer t (G.Refused e) = refused (number_of e)
+abbrev pub segment_answer : HullTable → Result (Words × Float × Float) Refusal → Answer (Node End × (Float × Float))
+segment_answer t (Ok (w, a, b)) = answer (node_of t w, (a, b))
+segment_answer t (Err e) = refused (number_of e)
 
 -- for private contracts: the child's word on a side
 abbrev pub word_at : Words → HyperplaneSide → ℕ

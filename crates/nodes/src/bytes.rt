@@ -9,6 +9,7 @@ fn wide(x: u8) -> u32
     x as u32
 }
 
+#[tactic(auto, unfolding(crate::specs::Fast::u16))]
 pub fn u16_at(s: &[u8], at: usize) -> u16
     requires { at + 2 ≤ length s.now }
     ensures { result ≡ Fast.u16 s.now at }

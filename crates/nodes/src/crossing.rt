@@ -1,66 +1,59 @@
 // What a trace needs where a segment crosses a plane and where it comes to an end, from the bytes of planes and leaves; and whether a file
 // has all nodes, planes and leaves.
 ghost use Rattle.std.specs.Prelude.{◌≡◌, ◌+◌, ◌≤◌, length};
-ghost use Rattle.format.specs.Answer.{answer, mapped};
+ghost use Rattle.format.specs.Answer.{mapped};
+ghost use Rattle.format.specs.Answers.{answer_of};
 ghost use Rattle.nodes.specs.Fast as Fast;
 ghost use Rattle.nodes.specs.Owned as Owned;
 
 use crate::bytes::{f32_at, u32_at};
 use crate::here::{along, leaf_contents, normal_at};
-use crate::read::{EndContents, is_front};
+use crate::read::is_front;
 use crate::table::Tables;
 use crate::whole::{are_whole, bytes_of, is_whole};
 use format::code::contents_of;
+use format::contents::BspLeafContents;
 use format::refusal::{Answer, Refusal};
 use math::{Hyperplane, Vector3};
 
-// Whether two points are on the positive side of a plane.
-#[derive(Clone, Copy)]
-pub enum Sides {
-    Two(bool, bool),
-    Refused(Refusal),
-}
-
 // On which sides of the plane at a place two points lie.
-fn sides_here(planes: &[u8], at: usize, p: Vector3, q: Vector3) -> Sides
+fn sides_here(planes: &[u8], at: usize, p: Vector3, q: Vector3) -> (bool, bool)
     requires { at + 20 ≤ length planes.now }
-    ensures { Owned.sides_answer result ≡ answer (Owned.two_sides p q (Fast.plane_here planes.now at)) }
+    ensures { Owned.sides_of result ≡ Owned.two_sides p q (Fast.plane_here planes.now at) }
 {
     let dist = f32_at(planes, at + 12);
     let kind = u32_at(planes, at + 16);
     if kind < 3 {
-        return Sides::Two(along(p, kind) >= dist, along(q, kind) >= dist);
+        return (along(p, kind) >= dist, along(q, kind) >= dist);
     }
     let plane = Hyperplane::new(normal_at(planes, at), dist);
-    Sides::Two(is_front(plane.point_side(p)), is_front(plane.point_side(q)))
+    (is_front(plane.point_side(p)), is_front(plane.point_side(q)))
 }
 
 // On which sides of the plane of a number. 30: there is no such plane.
-pub fn sides_in(planes: &[u8], number: u32, p: Vector3, q: Vector3) -> Sides
+pub fn sides_in(planes: &[u8], number: u32, p: Vector3, q: Vector3) -> Answer<(bool, bool)>
     ensures { Owned.sides_answer result ≡ mapped (Owned.two_sides p q) (Owned.plane_of planes.now number) }
 {
     let index = number as usize;
     if planes.len() / 20 <= index {
-        return Sides::Refused(Refusal::IndexOutsideTable);
+        return Err(Refusal::IndexOutsideTable);
     }
-    sides_here(planes, index * 20, p, q)
+    Ok(sides_here(planes, index * 20, p, q))
 }
 
 // The contents at an end, by the bytes of the leaves, when it is met: 30, then 23; a word that is no contents is 23.
-pub fn end_in(leaves: &[u8], render: bool, word: u16) -> EndContents
-    ensures { Fast.end_answer result ≡ Owned.end_among render leaves.now word }
+#[tactic(auto, unfolding(crate::specs::Owned::end_among, format::specs::Answers::answer_of))]
+pub fn end_in(leaves: &[u8], render: bool, word: u16) -> Answer<BspLeafContents>
+    ensures { answer_of result ≡ Owned.end_among render leaves.now word }
 {
     if render {
         let leaf = (65535 - word) as usize;
         if leaves.len() / 28 <= leaf {
-            return EndContents::Refused(Refusal::IndexOutsideTable);
+            return Err(Refusal::IndexOutsideTable);
         }
         return leaf_contents(leaves, leaf * 28);
     }
-    match contents_of(65536 - (word as u32)) {
-        Some(c) => EndContents::Contents(c),
-        None => EndContents::Refused(Refusal::Unreadable),
-    }
+    contents_of(65536 - (word as u32)).ok_or(Refusal::Unreadable)
 }
 
 // Whether a file of `len` bytes has all nodes, planes and leaves.

@@ -1,12 +1,13 @@
 // Records at a place where their bytes are known to be there.
 ghost use Rattle.std.specs.Prelude.{◌≡◌, ◌+◌, ◌≤◌, true, false, length};
-ghost use Rattle.format.specs.Answer.{answer};
+ghost use Rattle.format.specs.Answers.{answer_of};
 ghost use Rattle.nodes.specs.Fast as Fast;
 
 use crate::bytes::{f32_at, pair_at, u16_at, u32_at};
 use crate::lines::point_of;
-use crate::read::{Dists, EndContents, ReadWords, Words};
+use crate::read::Words;
 use format::code::contents_of;
+use format::contents::BspLeafContents;
 use format::refusal::{Answer, Refusal};
 use math::{Hyperplane, Vector3};
 
@@ -24,39 +25,39 @@ pub fn is_invalid(word: u16) -> bool
 }
 
 // The words of a clip node, of a file that has the bytes at some place.
-pub fn clip_words(s: &[u8], at: usize) -> ReadWords
+pub fn clip_words(s: &[u8], at: usize) -> Answer<Words>
     requires { at + 8 ≤ length s.now }
     ensures { Fast.ReadsNode false s.now at result }
 {
     let plane = u32_at(s, at);
     if 2147483648 <= plane {
-        return ReadWords::Refused(Refusal::Unreadable);
+        return Err(Refusal::Unreadable);
     }
     if is_invalid(u16_at(s, at + 4)) {
-        return ReadWords::Refused(Refusal::Unreadable);
+        return Err(Refusal::Unreadable);
     }
     if is_invalid(u16_at(s, at + 6)) {
-        return ReadWords::Refused(Refusal::Unreadable);
+        return Err(Refusal::Unreadable);
     }
-    ReadWords::Words(Words {
+    Ok(Words {
         plane,
         both: pair_at(s, at + 4),
     })
 }
 
 // The words of a render node, of a file that has the bytes at some place.
-pub fn render_words(s: &[u8], at: usize) -> ReadWords
+pub fn render_words(s: &[u8], at: usize) -> Answer<Words>
     requires { at + 24 ≤ length s.now }
     ensures { Fast.ReadsNode true s.now at result }
 {
     let plane = u32_at(s, at);
     if 2147483648 <= plane {
-        return ReadWords::Refused(Refusal::Unreadable);
+        return Err(Refusal::Unreadable);
     }
     if 32768 <= u16_at(s, at + 20) {
-        return ReadWords::Refused(Refusal::Unreadable);
+        return Err(Refusal::Unreadable);
     }
-    ReadWords::Words(Words {
+    Ok(Words {
         plane,
         both: pair_at(s, at + 4),
     })
@@ -82,34 +83,36 @@ pub fn normal_at(s: &[u8], at: usize) -> Vector3
     Vector3::new(f32_at(s, at), f32_at(s, at + 4), f32_at(s, at + 8))
 }
 
-pub fn dists_here(s: &[u8], at: usize, p: Vector3, q: Vector3) -> Dists
+#[inline(always)]
+pub fn dists_here(s: &[u8], at: usize, p: Vector3, q: Vector3) -> (f32, f32)
     requires { at + 20 ≤ length s.now }
-    ensures { Fast.dists_answer result ≡ answer (Fast.two_dists p q (Fast.plane_here s.now at)) }
+    ensures { result ≡ Fast.two_dists p q (Fast.plane_here s.now at) }
 {
     let dist = f32_at(s, at + 12);
     let kind = u32_at(s, at + 16);
     if kind < 3 {
-        return Dists::Two(along(p, kind) - dist, along(q, kind) - dist);
+        return (along(p, kind) - dist, along(q, kind) - dist);
     }
     let plane = Hyperplane::new(normal_at(s, at), dist);
-    Dists::Two(plane.point_dist(p), plane.point_dist(q))
+    (plane.point_dist(p), plane.point_dist(q))
 }
 
-// The same for a whole-line trace, which has readers of its own (docs/DECISIONS.md 64). The points are lists, so that the coordinate along
-// an axis is found by its number and not by a branch.
-pub fn ends_here(s: &[u8], at: usize, p: &[f32; 3], q: &[f32; 3]) -> Dists
+// The same of points that are lists of three, so that the coordinate along an axis is found by its number and not by a branch
+// (docs/DECISIONS.md 102).
+pub fn ends_here(s: &[u8], at: usize, p: &[f32; 3], q: &[f32; 3]) -> (f32, f32)
     requires { at + 20 ≤ length s.now }
-    ensures { Fast.dists_answer result ≡ answer (Fast.two_dists (Fast.point_of p.now) (Fast.point_of q.now) (Fast.plane_here s.now at)) }
+    ensures { result ≡ Fast.two_dists (Fast.point_of p.now) (Fast.point_of q.now) (Fast.plane_here s.now at) }
 {
     let dist = f32_at(s, at + 12);
     let kind = u32_at(s, at + 16);
     if kind < 3 {
-        return Dists::Two(p[kind as usize] - dist, q[kind as usize] - dist);
+        return (p[kind as usize] - dist, q[kind as usize] - dist);
     }
     let plane = Hyperplane::new(normal_at(s, at), dist);
-    Dists::Two(plane.point_dist(point_of(p)), plane.point_dist(point_of(q)))
+    (plane.point_dist(point_of(p)), plane.point_dist(point_of(q)))
 }
 
+#[inline(always)]
 pub fn plane_here(s: &[u8], at: usize) -> Hyperplane
     requires { at + 20 ≤ length s.now }
     ensures { result ≡ Fast.plane_here s.now at }
@@ -123,24 +126,18 @@ pub fn plane_here(s: &[u8], at: usize) -> Hyperplane
     }
 }
 
-pub fn leaf_contents(s: &[u8], at: usize) -> EndContents
+pub fn leaf_contents(s: &[u8], at: usize) -> Answer<BspLeafContents>
     requires { at + 28 ≤ length s.now }
-    ensures { Fast.end_answer result ≡ Fast.leaf_contents_here s.now at }
+    ensures { answer_of result ≡ Fast.leaf_contents_here s.now at }
 {
     let code = u32_at(s, at);
     let offset = u32_at(s, at + 4);
     if code < 2147483648 {
-        return EndContents::Refused(Refusal::Unreadable);
+        return Err(Refusal::Unreadable);
     }
-    match contents_of(4294967295 - code + 1) {
-        None => EndContents::Refused(Refusal::Unreadable),
-        Some(c) => {
-            if 2147483648 <= offset {
-                if offset < 4294967295 {
-                    return EndContents::Refused(Refusal::Unreadable);
-                }
-            }
-            EndContents::Contents(c)
-        }
+    let contents = contents_of(4294967295 - code + 1).ok_or(Refusal::Unreadable)?;
+    if 2147483648 <= offset && offset < 4294967295 {
+        return Err(Refusal::Unreadable);
     }
+    Ok(contents)
 }

@@ -11,12 +11,11 @@ ghost use Rattle.nodes.specs.Lanes as Lanes;
 ghost use Rattle.nodes.specs.Answers as Answers;
 
 use crate::bytes::{f32_at, u32_at};
-use crate::here::{clip_words, normal_at, render_words};
-use crate::read::{ReadWords, Words, is_front};
+use crate::here::normal_at;
+use crate::read::{Words, is_front};
 use crate::table::Tables;
-use crate::walking::Onward;
-use crate::whole::{are_whole, node_bytes, plane_bytes};
-use format::refusal::Refusal;
+use crate::whole::{Sections, are_whole, node_bytes, plane_bytes};
+use format::refusal::Answer;
 use math::{Hyperplane, Vector3};
 
 // The word of the end that a walk comes to, and how many nodes it entered.
@@ -24,13 +23,6 @@ use math::{Hyperplane, Vector3};
 pub struct Lane {
     pub word: u16,
     pub visits: u32,
-}
-
-// Where two walks end. Nothing is said where one of them is refused, or the file does not have all nodes and planes.
-#[derive(Clone, Copy)]
-pub enum TwoEnds {
-    Ends(Lane, Lane),
-    Nothing,
 }
 
 // The child's word on the point's side of the plane at a place. The coordinate comes from a list.
@@ -47,66 +39,40 @@ fn word_beside(planes: &[u8], at: usize, words: Words, point: Vector3) -> u16
     words.on(is_front(Hyperplane::new(normal_at(planes, at), dist).point_side(point)))
 }
 
-// The words of a node, from its section's bytes.
-fn words_beside(nodes: &[u8], render: bool, index: usize) -> ReadWords
-    requires { index * Fast.node_size render + Fast.node_size render ≤ length nodes.now }
-    ensures { Fast.ReadsNode render nodes.now (index * Fast.node_size render) result }
-{
-    if render {
-        return render_words(nodes, index * 24);
+impl<'a> Sections<'a> {
+    // The child's word that the point goes on to, from the bytes of the two sections.
+    fn onward_beside(&self, index: usize, point: Vector3) -> Answer<u16>
+        requires { index * Fast.node_size self.now.render + Fast.node_size self.now.render ≤ length self.now.nodes.now }
+        ensures { Walks.MadeIn (Walks.child_toward point) self.now.render self.now.nodes.now self.now.planes.now (index * Fast.node_size self.now.render) (Walks.onward_answer (Spec.file_table self.now.render) result) }
+    {
+        let (words, at) = self.found_in(index)?;
+        Ok(word_beside(self.planes, at, words, point))
     }
-    clip_words(nodes, index * 8)
-}
 
-// The child's word that the point goes on to, from the bytes of the two sections.
-fn onward_beside(nodes: &[u8], planes: &[u8], render: bool, index: usize, point: Vector3) -> Onward
-    requires { index * Fast.node_size render + Fast.node_size render ≤ length nodes.now }
-    ensures { Walks.MadeIn (Walks.child_toward point) render nodes.now planes.now (index * Fast.node_size render) (Walks.onward_answer (Spec.file_table render) result) }
-{
-    match words_beside(nodes, render, index) {
-        ReadWords::Refused(e) => Onward::Refused(e),
-        ReadWords::Words(words) => {
-            let plane = words.plane as usize;
-            if planes.len() / 20 <= plane {
-                return Onward::Refused(Refusal::IndexOutsideTable);
-            }
-            Onward::Word(word_beside(planes, plane * 20, words, point))
+    // A step of a walk that stands at a word: the next word, the same at an end, 65536 where the walk is refused. The sections are lent, and
+    // numbers alone go in and out beside them, so that they stay in registers.
+    fn step(&self, count: u32, word: u32, visits: u32, x: f32, y: f32, z: f32) -> u32
+        requires { (word < 65536) × (count ≤ length self.now.nodes.now / Fast.node_size self.now.render) }
+        ensures { Lanes.StepsIn self.now.nodes.now self.now.planes.now self.now.render count (Vec.vector x y z) word visits result }
+    {
+        if 32768 <= word {
+            return word;
+        }
+        if count <= word {
+            return 65536;
+        }
+        if count <= visits {
+            return 65536;
+        }
+        match self.onward_beside(word as usize, Vector3 { x, y, z }) {
+            Err(_) => 65536,
+            Ok(next) => next as u32,
         }
     }
 }
 
-// A step of a walk that stands at a word: the next word, the same at an end, 65536 where the walk is refused. Numbers alone go in and out,
-// so that they stay in registers.
-fn step(
-    nodes: &[u8],
-    planes: &[u8],
-    render: bool,
-    count: u32,
-    word: u32,
-    visits: u32,
-    x: f32,
-    y: f32,
-    z: f32,
-) -> u32
-    requires { (word < 65536) × (count ≤ length nodes.now / Fast.node_size render) }
-    ensures { Lanes.StepsIn nodes.now planes.now render count (Vec.vector x y z) word visits result }
-{
-    if 32768 <= word {
-        return word;
-    }
-    if count <= word {
-        return 65536;
-    }
-    if count <= visits {
-        return 65536;
-    }
-    match onward_beside(nodes, planes, render, word as usize, Vector3 { x, y, z }) {
-        Onward::Refused(_) => 65536,
-        Onward::Word(next) => next as u32,
-    }
-}
-
 // A step from a node is a visit.
+#[tactic(auto, unfolding(crate::specs::Lanes::counted))]
 fn counted(word: u32, visits: u32) -> u32
     requires { word < 32768 → visits < 4294967295 }
     ensures { result ≡ Lanes.counted word visits }
@@ -114,6 +80,7 @@ fn counted(word: u32, visits: u32) -> u32
     if word < 32768 { visits + 1 } else { visits }
 }
 
+#[tactic(auto, unfolding(crate::specs::Lanes::ended))]
 fn ended(a: u32, b: u32) -> bool
     ensures { result ≡ Lanes.ended a b }
 {
@@ -123,18 +90,28 @@ fn ended(a: u32, b: u32) -> bool
     false
 }
 
-// Two walks, from the words of two children, to their ends.
-pub fn walk_two(s: &[u8], t: Tables, first: u16, second: u16, p: Vector3, q: Vector3) -> TwoEnds
+// Two walks, from the words of two children, to their ends; no number says beforehand after how many steps. Nothing is said where one of them is refused, or the file does not have all nodes
+// and planes.
+pub fn walk_two(
+    s: &[u8],
+    t: Tables,
+    first: u16,
+    second: u16,
+    p: Vector3,
+    q: Vector3,
+) -> Option<(Lane, Lane)>
     ensures { Answers.two_answer t.table result ≡ Lanes.walk_two s.now t first second p q }
 {
     let whole = are_whole(t, s.len());
     if !whole {
-        return TwoEnds::Nothing;
+        return None;
     }
-    let nodes = node_bytes(s, t, whole);
-    let planes = plane_bytes(s, t, whole);
     let table = t.table;
-    let render = table.is_render();
+    let sections = Sections {
+        nodes: node_bytes(s, t, whole),
+        planes: plane_bytes(s, t, whole),
+        render: table.is_render(),
+    };
     let mut a = first as u32;
     let mut b = second as u32;
     let mut m: u32 = 0;
@@ -142,20 +119,20 @@ pub fn walk_two(s: &[u8], t: Tables, first: u16, second: u16, p: Vector3, q: Vec
     while !ended(a, b) {
         let part = t.nodes;
         let count = part.count;
-        let c = step(nodes, planes, render, count, a, m, p.x, p.y, p.z);
-        let d = step(nodes, planes, render, count, b, n, q.x, q.y, q.z);
+        let c = sections.step(count, a, m, p.x, p.y, p.z);
+        let d = sections.step(count, b, n, q.x, q.y, q.z);
         if 65536 <= c {
-            return TwoEnds::Nothing;
+            return None;
         }
         if 65536 <= d {
-            return TwoEnds::Nothing;
+            return None;
         }
         m = counted(a, m);
         n = counted(b, n);
         a = c;
         b = d;
     }
-    TwoEnds::Ends(
+    Some((
         Lane {
             word: a as u16,
             visits: m,
@@ -164,5 +141,5 @@ pub fn walk_two(s: &[u8], t: Tables, first: u16, second: u16, p: Vector3, q: Vec
             word: b as u16,
             visits: n,
         },
-    )
+    ))
 }

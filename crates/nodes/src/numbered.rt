@@ -1,23 +1,17 @@
 // Planes of the file by their number, from the bytes of those that can be read: for a node table that a caller lends, whose planes are the
-// file's. One test of the number (30) and one of the bytes (23) a plane.
+// file's. One test of the number (30) and one of the bytes (23) a plane. `count` is how many planes the section has; `planes` are the bytes of
+// those that can be read, which may be fewer.
 ghost use Rattle.std.specs.Prelude.{◌≡◌, ◌/◌, min, if◌then◌else◌};
 ghost use Rattle.format.specs.Answers.{answer_of};
 ghost use Rattle.nodes.specs.Fast as Fast;
 ghost use Rattle.nodes.specs.Numbered as Numbered;
 
 use crate::bytes::{f32_at, u32_at};
-use crate::here::{along, normal_at};
-use crate::read::{Dists, is_front};
+use crate::here::{dists_here, normal_at, plane_here};
+use crate::read::is_front;
 use format::refusal::{Answer, Refusal};
 use format::section::BspFileSection;
 use math::{Hyperplane, Vector3};
-
-// One of two numbers, or why the plane that decides cannot be read.
-#[derive(Clone, Copy)]
-pub enum Picked {
-    Word(u32),
-    Refused(Refusal),
-}
 
 // How many planes a section has.
 pub fn plane_count(section: BspFileSection) -> u32
@@ -33,19 +27,14 @@ fn allowed(count: u32) -> u32
     if 8192 < count { 0 } else { count }
 }
 
-fn lesser(a: usize, b: usize) -> usize
-    ensures { result ≡ min a b }
-{
-    if a < b { a } else { b }
-}
-
 // The bytes of the planes that can be read.
+#[tactic(auto, unfolding(crate::specs::Numbered::readable))]
 pub fn readable_planes(file: &[u8], section: BspFileSection) -> &[u8]
     ensures { result.now ≡ Numbered.readable file.now section }
 {
     let at = section.offset as usize;
     let want = at + (allowed(section.size / 20) as usize) * 20;
-    let end = lesser(want, file.len());
+    let end = want.min(file.len());
     if end <= at {
         return &file[..0];
     }
@@ -68,48 +57,48 @@ pub fn pick_by_number(
     point: Vector3,
     front: u32,
     back: u32,
-) -> Picked
-    ensures { Numbered.picked_answer result ≡ Numbered.picked_by front back (Fast.side_from point (Numbered.plane_numbered planes.now count number)) }
+) -> Answer<u32>
+    ensures { answer_of result ≡ Numbered.picked_by front back (Fast.side_from point (Numbered.plane_numbered planes.now count number)) }
 {
-    let known = lesser(count as usize, planes.len() / 20);
+    let known = (count as usize).min(planes.len() / 20);
     if known <= (number as usize) {
         if count <= number {
-            return Picked::Refused(Refusal::IndexOutsideTable);
+            return Err(Refusal::IndexOutsideTable);
         }
-        return Picked::Refused(Refusal::Unreadable);
+        return Err(Refusal::Unreadable);
     }
     let at = (number as usize) * 20;
     let dist = f32_at(planes, at + 12);
     let kind = u32_at(planes, at + 16);
     if kind < 3 {
         let coordinates = [point.x, point.y, point.z];
-        return Picked::Word(of_two(front, back, coordinates[kind as usize] >= dist));
+        return Ok(of_two(front, back, coordinates[kind as usize] >= dist));
     }
     let plane = Hyperplane::new(normal_at(planes, at), dist);
     if is_front(plane.point_side(point)) {
-        return Picked::Word(front);
+        return Ok(front);
     }
-    Picked::Word(back)
+    Ok(back)
 }
 
 // How far two points are from the plane of a number.
-pub fn dists_by_number(planes: &[u8], count: u32, number: u32, p: Vector3, q: Vector3) -> Dists
-    ensures { Fast.dists_answer result ≡ Fast.dists_from p q (Numbered.plane_numbered planes.now count number) }
+pub fn dists_by_number(
+    planes: &[u8],
+    count: u32,
+    number: u32,
+    p: Vector3,
+    q: Vector3,
+) -> Answer<(f32, f32)>
+    ensures { answer_of result ≡ Fast.dists_from p q (Numbered.plane_numbered planes.now count number) }
 {
     if count <= number {
-        return Dists::Refused(Refusal::IndexOutsideTable);
+        return Err(Refusal::IndexOutsideTable);
     }
     let at = (number as usize) * 20;
     if planes.len() < at + 20 {
-        return Dists::Refused(Refusal::Unreadable);
+        return Err(Refusal::Unreadable);
     }
-    let dist = f32_at(planes, at + 12);
-    let kind = u32_at(planes, at + 16);
-    if kind < 3 {
-        return Dists::Two(along(p, kind) - dist, along(q, kind) - dist);
-    }
-    let plane = Hyperplane::new(normal_at(planes, at), dist);
-    Dists::Two(plane.point_dist(p), plane.point_dist(q))
+    Ok(dists_here(planes, at, p, q))
 }
 
 // The plane of a number.
@@ -123,11 +112,5 @@ pub fn plane_by_number(planes: &[u8], count: u32, number: u32) -> Answer<Hyperpl
     if planes.len() < at + 20 {
         return Err(Refusal::Unreadable);
     }
-    let dist = f32_at(planes, at + 12);
-    Ok(match u32_at(planes, at + 16) {
-        0 => Hyperplane::axis_x(dist),
-        1 => Hyperplane::axis_y(dist),
-        2 => Hyperplane::axis_z(dist),
-        _ => Hyperplane::new(normal_at(planes, at), dist),
-    })
+    Ok(plane_here(planes, at))
 }

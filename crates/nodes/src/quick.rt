@@ -10,12 +10,11 @@ ghost use Rattle.nodes.specs.Quick as Quick;
 
 use crate::bytes::{f32_at, u32_at};
 use crate::here::{leaf_contents, normal_at};
-use crate::read::{EndContents, ReadWords, Words, is_front};
+use crate::read::{Words, is_front};
 use crate::table::{HullTable, Part, Tables};
-use crate::walking::Onward;
-use crate::whole::{are_whole, node_bytes, node_count, plane_bytes, words_in};
+use crate::whole::{Sections, are_whole, node_bytes, plane_bytes};
 use format::code::contents_of;
-use format::refusal::Refusal;
+use format::refusal::Answer;
 use math::{Hyperplane, Vector3};
 
 // The child's word on the point's side of the plane at a place. The side is a branch, and another one for each axis: where the points move
@@ -38,23 +37,6 @@ fn word_ahead(planes: &[u8], at: usize, words: Words, point: Vector3) -> u16
     words.on(is_front(Hyperplane::new(normal_at(planes, at), dist).point_side(point)))
 }
 
-// The child's word that the point goes on to, from the bytes of the two sections.
-fn onward_ahead(nodes: &[u8], planes: &[u8], render: bool, index: usize, point: Vector3) -> Onward
-    requires { index * Fast.node_size render + Fast.node_size render ≤ length nodes.now }
-    ensures { Walks.MadeIn (Walks.child_toward point) render nodes.now planes.now (index * Fast.node_size render) (Walks.onward_answer (Spec.file_table render) result) }
-{
-    match words_in(nodes, render, index) {
-        ReadWords::Refused(e) => Onward::Refused(e),
-        ReadWords::Words(words) => {
-            let plane = words.plane as usize;
-            if planes.len() / 20 <= plane {
-                return Onward::Refused(Refusal::IndexOutsideTable);
-            }
-            Onward::Word(word_ahead(planes, plane * 20, words, point))
-        }
-    }
-}
-
 // Where a walk of so many visits stops that does not go on to a node: at the end of a word, or refused.
 fn stopped(word: u16, visits: u64) -> u64
     requires { visits < 4294967296 }
@@ -66,30 +48,39 @@ fn stopped(word: u16, visits: u64) -> u64
     (word as u64) * 4294967296 + visits
 }
 
-// The walk by the bytes of the two sections.
-fn walk_whole(nodes: &[u8], planes: &[u8], render: bool, root: usize, point: Vector3) -> u64
-    requires { length nodes.now / Fast.node_size render < 32768 }
-    ensures { Quick.QuickIn nodes.now planes.now render root point result }
-{
-    let count = node_count(nodes, render);
-    if count <= root {
-        return 0;
+impl<'a> Sections<'a> {
+    // The child's word that the point goes on to, from the bytes of the two sections.
+    fn onward_ahead(&self, index: usize, point: Vector3) -> Answer<u16>
+        requires { index * Fast.node_size self.now.render + Fast.node_size self.now.render ≤ length self.now.nodes.now }
+        ensures { Walks.MadeIn (Walks.child_toward point) self.now.render self.now.nodes.now self.now.planes.now (index * Fast.node_size self.now.render) (Walks.onward_answer (Spec.file_table self.now.render) result) }
+    {
+        let (words, at) = self.found_in(index)?;
+        Ok(word_ahead(self.planes, at, words, point))
     }
-    let mut node = root;
-    let mut visits: u64 = 0;
-    while visits < (count as u64) {
-        match onward_ahead(nodes, planes, render, node, point) {
-            Onward::Refused(_) => return 0,
-            Onward::Word(word) => {
-                visits += 1;
-                if count <= (word as usize) {
-                    return stopped(word, visits);
-                }
-                node = word as usize;
-            }
+
+    // The walk by the bytes of the two sections. As a `for` over the visits it takes three instructions more a node, and some 4% more time.
+    fn walk_whole(&self, root: usize, point: Vector3) -> u64
+        requires { length self.now.nodes.now / Fast.node_size self.now.render < 32768 }
+        ensures { Quick.QuickIn self.now.nodes.now self.now.planes.now self.now.render root point result }
+    {
+        let count = self.node_count();
+        if count <= root {
+            return 0;
         }
+        let mut node = root;
+        let mut visits: u64 = 0;
+        while visits < (count as u64) {
+            let Ok(word) = self.onward_ahead(node, point) else {
+                return 0;
+            };
+            visits += 1;
+            if count <= (word as usize) {
+                return stopped(word, visits);
+            }
+            node = word as usize;
+        }
+        0
     }
-    0
 }
 
 // So many records from a place on, of which the limit allows so many.
@@ -110,22 +101,12 @@ fn part_with(at: u32, count: u32, limit: u32) -> Part
     }
 }
 
-fn node_table(render: bool) -> HullTable
-    ensures { result ≡ Spec.file_table render }
-{
-    if render {
-        HullTable::Render
-    } else {
-        HullTable::Clip
-    }
-}
-
 fn tables_by(render: bool, at: u32, count: u32, planes_at: u32, planes_count: u32) -> Tables
     ensures { result ≡ Quick.tables_by render at count planes_at planes_count }
 {
     let none = Vector3::new(0.0, 0.0, 0.0);
     Tables {
-        table: node_table(render),
+        table: HullTable::of_nodes(render),
         nodes: part_with(at, count, 32767),
         planes: part_with(planes_at, planes_count, 8192),
         leaves: part_with(0, 0, 32767),
@@ -155,9 +136,12 @@ pub fn walk_quick(
     if !whole {
         return 0;
     }
-    let nodes = node_bytes(s, t, whole);
-    let planes = plane_bytes(s, t, whole);
-    walk_whole(nodes, planes, render, root, Vector3 { x, y, z })
+    let sections = Sections {
+        nodes: node_bytes(s, t, whole),
+        planes: plane_bytes(s, t, whole),
+        render,
+    };
+    sections.walk_whole(root, Vector3 { x, y, z })
 }
 
 // The code of the leaf at a place.
@@ -166,8 +150,8 @@ fn leaf_code(s: &[u8], at: usize) -> u32
     ensures { result ≡ Quick.code_or (Fast.leaf_contents_here s.now at) }
 {
     match leaf_contents(s, at) {
-        EndContents::Refused(_) => 0,
-        EndContents::Contents(contents) => contents.code(),
+        Err(_) => 0,
+        Ok(contents) => contents.code(),
     }
 }
 

@@ -12,39 +12,19 @@ use format::contents::BspLeafContents;
 use format::refusal::{Answer, Refusal};
 use math::{Hyperplane, HyperplaneSide, Vector3};
 
+// A child, as its word says it: a node by its index, or an end by the word.
+#[derive(Clone, Copy)]
+pub enum Onto {
+    Node(usize),
+    End(u16),
+}
+
 // A node's plane, and its children's words as one number: the front one's and 65536 times the back one's. A word below 2^15 is a node, any
 // other an end.
 #[derive(Clone, Copy)]
 pub struct Words {
     pub plane: u32,
     pub both: u32,
-}
-
-#[derive(Clone, Copy)]
-pub enum ReadWords {
-    Words(Words),
-    Refused(Refusal),
-}
-
-// Whether a point is on the positive side of a plane.
-#[derive(Clone, Copy)]
-pub enum Sided {
-    Front(bool),
-    Refused(Refusal),
-}
-
-// The distances of two points from a plane.
-#[derive(Clone, Copy)]
-pub enum Dists {
-    Two(f32, f32),
-    Refused(Refusal),
-}
-
-// The contents at an end.
-#[derive(Clone, Copy)]
-pub enum EndContents {
-    Contents(BspLeafContents),
-    Refused(Refusal),
 }
 
 impl Words {
@@ -57,62 +37,69 @@ impl Words {
         }
         (self.both / 65536) as u16
     }
+
+    // The child on a side.
+    #[inline(always)]
+    pub fn onto(self, front: bool) -> Onto
+        ensures { result ≡ Fast.onto_word (Fast.word_on self front) }
+    {
+        let word = self.on(front);
+        if word < 32768 {
+            return Onto::Node(word as usize);
+        }
+        Onto::End(word)
+    }
 }
 
 // The nodes of a box, in the order of `for_bounds`; 65535 is Empty and 65534 Solid.
-fn box_words(index: usize) -> ReadWords
+fn box_words(index: usize) -> Answer<Words>
     ensures { Fast.words_answer HullTable.Box result ≡ Fast.box_node index }
 {
     match index {
-        0 => ReadWords::Words(Words {
+        0 => Ok(Words {
             plane: 0,
             both: 131071,
         }),
-        1 => ReadWords::Words(Words {
+        1 => Ok(Words {
             plane: 1,
             both: 4294901762,
         }),
-        2 => ReadWords::Words(Words {
+        2 => Ok(Words {
             plane: 2,
             both: 262143,
         }),
-        3 => ReadWords::Words(Words {
+        3 => Ok(Words {
             plane: 3,
             both: 4294901764,
         }),
-        4 => ReadWords::Words(Words {
+        4 => Ok(Words {
             plane: 4,
             both: 393215,
         }),
-        5 => ReadWords::Words(Words {
+        5 => Ok(Words {
             plane: 5,
             both: 4294967294,
         }),
-        _ => ReadWords::Refused(Refusal::NoSuchRecord),
+        _ => Err(Refusal::NoSuchRecord),
     }
 }
 
 // The words of a node of the file: a render node or a clip node.
-fn file_words(s: &[u8], nodes: Part, render: bool, index: usize) -> ReadWords
+fn file_words(s: &[u8], nodes: Part, render: bool, index: usize) -> Answer<Words>
     ensures { Fast.words_answer (Spec.file_table render) result ≡ Fast.node_in (Spec.file_table render) s.now nodes index }
 {
     if (nodes.count as usize) <= index {
-        return ReadWords::Refused(Refusal::NoSuchRecord);
+        return Err(Refusal::NoSuchRecord);
     }
     if render {
-        return match nodes.place(24, s.len(), index) {
-            Ok(at) => render_words(s, at),
-            Err(e) => ReadWords::Refused(e),
-        };
+        return render_words(s, nodes.place(24, s.len(), index)?);
     }
-    match nodes.place(8, s.len(), index) {
-        Ok(at) => clip_words(s, at),
-        Err(e) => ReadWords::Refused(e),
-    }
+    clip_words(s, nodes.place(8, s.len(), index)?)
 }
 
 // The words of a node.
-pub fn read_words(s: &[u8], t: Tables, index: usize) -> ReadWords
+#[tactic(auto, unfolding(crate::specs::Fast::words_answer, crate::specs::Fast::node_at))]
+pub fn read_words(s: &[u8], t: Tables, index: usize) -> Answer<Words>
     ensures { Fast.words_answer t.table result ≡ Fast.node_at s.now t index }
 {
     let table = t.table;
@@ -133,6 +120,7 @@ pub fn is_front(side: HyperplaneSide) -> bool
 }
 
 // The planes of a box, in the order of `for_bounds`.
+#[tactic(auto, unfolding(crate::specs::Fast::box_plane, format::specs::Answers::answer_of))]
 fn box_plane(mins: Vector3, maxs: Vector3, index: usize) -> Answer<Hyperplane>
     ensures { answer_of result ≡ Fast.box_plane mins maxs index }
 {
@@ -164,43 +152,35 @@ pub fn plane_at(s: &[u8], t: Tables, index: usize) -> Answer<Hyperplane>
 }
 
 // How far two points are from the plane of an index.
-pub fn dists_at(s: &[u8], t: Tables, index: usize, p: Vector3, q: Vector3) -> Dists
-    ensures { Fast.dists_answer result ≡ Fast.dists_from p q (Fast.plane_in s.now t index) }
+#[tactic(auto, unfolding(crate::specs::Fast::dists_from, crate::specs::Fast::two_dists))]
+pub fn dists_at(s: &[u8], t: Tables, index: usize, p: Vector3, q: Vector3) -> Answer<(f32, f32)>
+    ensures { answer_of result ≡ Fast.dists_from p q (Fast.plane_in s.now t index) }
 {
-    match plane_at(s, t, index) {
-        Ok(h) => Dists::Two(h.point_dist(p), h.point_dist(q)),
-        Err(e) => Dists::Refused(e),
-    }
+    let plane = plane_at(s, t, index)?;
+    Ok((plane.point_dist(p), plane.point_dist(q)))
 }
 
 // On which side of the plane of an index a point lies.
-pub fn side_at(s: &[u8], t: Tables, index: usize, p: Vector3) -> Sided
+#[tactic(auto, unfolding(crate::specs::Fast::side_from))]
+pub fn side_at(s: &[u8], t: Tables, index: usize, p: Vector3) -> Answer<bool>
     ensures { Fast.sided_answer result ≡ Fast.side_from p (Fast.plane_in s.now t index) }
 {
-    match plane_at(s, t, index) {
-        Ok(h) => Sided::Front(is_front(h.point_side(p))),
-        Err(e) => Sided::Refused(e),
-    }
+    let plane = plane_at(s, t, index)?;
+    Ok(is_front(plane.point_side(p)))
 }
 
 // The contents at an end, when it is met: 30, then 23; a word that is no contents is 23.
-pub fn end_contents(s: &[u8], t: Tables, word: u16) -> EndContents
-    ensures { Fast.end_answer result ≡ Fast.contents_met s.now t word }
+pub fn end_contents(s: &[u8], t: Tables, word: u16) -> Answer<BspLeafContents>
+    ensures { answer_of result ≡ Fast.contents_met s.now t word }
 {
     let table = t.table;
     let leaves = t.leaves;
     if table.is_render() {
         let leaf = (65535 - word) as usize;
         if (leaves.count as usize) <= leaf {
-            return EndContents::Refused(Refusal::IndexOutsideTable);
+            return Err(Refusal::IndexOutsideTable);
         }
-        return match leaves.place(28, s.len(), leaf) {
-            Ok(at) => leaf_contents(s, at),
-            Err(e) => EndContents::Refused(e),
-        };
+        return leaf_contents(s, leaves.place(28, s.len(), leaf)?);
     }
-    match contents_of(65536 - (word as u32)) {
-        Some(c) => EndContents::Contents(c),
-        None => EndContents::Refused(Refusal::Unreadable),
-    }
+    contents_of(65536 - (word as u32)).ok_or(Refusal::Unreadable)
 }

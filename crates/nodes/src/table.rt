@@ -17,6 +17,17 @@ pub enum HullTable {
 }
 
 impl HullTable {
+    // The render nodes or the clip nodes.
+    pub fn of_nodes(render: bool) -> HullTable
+        ensures { result ≡ Spec.file_table render }
+    {
+        if render {
+            HullTable::Render
+        } else {
+            HullTable::Clip
+        }
+    }
+
     pub fn is_render(self) -> bool
         ensures { result ≡ Fast.is_render self }
     {
@@ -123,6 +134,7 @@ pub fn tables_of(map: BspData, table: HullTable, mins: Vector3, maxs: Vector3) -
 
 impl Part {
     // Where the record of an index lies in a file of `len` bytes.
+    #[tactic(auto, unfolding(crate::specs::Fast::place_in, format::specs::Answers::answer_of))]
     pub fn place(self, size: u8, len: usize, index: usize) -> Answer<usize>
         ensures { answer_of result ≡ Fast.place_in self size len index }
     {

@@ -4,8 +4,9 @@ ghost use Rattle.nodes.specs.Fast as Fast;
 ghost use Rattle.nodes.specs.Walks as Walks;
 
 use crate::here::{clip_words, render_words};
-use crate::read::ReadWords;
+use crate::read::Words;
 use crate::table::{Part, Tables};
+use format::refusal::{Answer, Refusal};
 
 pub(crate) fn node_size(render: bool) -> u8
     ensures { result ≡ Fast.node_size render }
@@ -14,6 +15,7 @@ pub(crate) fn node_size(render: bool) -> u8
 }
 
 // Whether all records of a part are within the limit and lie in `len` bytes.
+#[tactic(auto, unfolding(crate::specs::Walks::is_whole))]
 pub(crate) fn is_whole(part: Part, size: u8, len: usize) -> bool
     ensures { result ≡ Walks.is_whole part size len }
 {
@@ -24,6 +26,7 @@ pub(crate) fn is_whole(part: Part, size: u8, len: usize) -> bool
 }
 
 // Whether all nodes and planes are; a box has none in the file.
+#[tactic(auto, unfolding(crate::specs::Walks::are_whole))]
 pub fn are_whole(t: Tables, len: usize) -> bool
     ensures { result ≡ Walks.are_whole t len }
 {
@@ -67,33 +70,57 @@ pub fn plane_bytes(s: &[u8], t: Tables, whole: bool) -> &[u8]
     bytes_of(s, t.planes, 20, whole)
 }
 
-// How many nodes the bytes have.
-pub fn node_count(nodes: &[u8], render: bool) -> usize
-    ensures { result ≡ length nodes.now / Fast.node_size render }
-{
-    if render {
-        return nodes.len() / 24;
-    }
-    nodes.len() / 8
+// The bytes of the nodes and of the planes, and whether the nodes are render nodes. A reader that is a call by itself is lent them.
+#[derive(Clone, Copy)]
+pub struct Sections<'a> {
+    pub nodes: &'a [u8],
+    pub planes: &'a [u8],
+    pub render: bool,
 }
 
-// Whether the bytes have a node of an index.
-pub(crate) fn has_node(nodes: &[u8], render: bool, index: usize) -> bool
-    ensures { result ≡ nat_lt index (length nodes.now / Fast.node_size render) }
-{
-    if render {
-        return index < nodes.len() / 24;
+impl<'a> Sections<'a> {
+    // How many nodes the bytes have.
+    #[inline(always)]
+    pub fn node_count(&self) -> usize
+        ensures { result ≡ length self.now.nodes.now / Fast.node_size self.now.render }
+    {
+        if self.render {
+            return self.nodes.len() / 24;
+        }
+        self.nodes.len() / 8
     }
-    index < nodes.len() / 8
-}
 
-// The words of a node, from its section's bytes.
-pub(crate) fn words_in(nodes: &[u8], render: bool, index: usize) -> ReadWords
-    requires { index * Fast.node_size render + Fast.node_size render ≤ length nodes.now }
-    ensures { Fast.ReadsNode render nodes.now (index * Fast.node_size render) result }
-{
-    if render {
-        return render_words(nodes, index * 24);
+    // Whether the bytes have a node of an index.
+    #[inline(always)]
+    pub(crate) fn has_node(&self, index: usize) -> bool
+        ensures { result ≡ nat_lt index (length self.now.nodes.now / Fast.node_size self.now.render) }
+    {
+        index < self.node_count()
     }
-    clip_words(nodes, index * 8)
+
+    // The words of a node.
+    #[inline(always)]
+    fn words_in(&self, index: usize) -> Answer<Words>
+        requires { index * Fast.node_size self.now.render + Fast.node_size self.now.render ≤ length self.now.nodes.now }
+        ensures { Fast.ReadsNode self.now.render self.now.nodes.now (index * Fast.node_size self.now.render) result }
+    {
+        if self.render {
+            return render_words(self.nodes, index * 24);
+        }
+        clip_words(self.nodes, index * 8)
+    }
+
+    // The words of a node and the place of its plane. Every reader of both is made of this one.
+    #[inline(always)]
+    pub(crate) fn found_in(&self, index: usize) -> Answer<(Words, usize)>
+        requires { index * Fast.node_size self.now.render + Fast.node_size self.now.render ≤ length self.now.nodes.now }
+        ensures { Walks.FoundIn self.now.render self.now.nodes.now self.now.planes.now (index * Fast.node_size self.now.render) result }
+    {
+        let words = self.words_in(index)?;
+        let plane = words.plane as usize;
+        if self.planes.len() / 20 <= plane {
+            return Err(Refusal::IndexOutsideTable);
+        }
+        Ok((words, plane * 20))
+    }
 }

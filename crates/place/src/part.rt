@@ -1,6 +1,5 @@
 // Where reading the records of a part of loading stops.
 ghost use Rattle.std.specs.Prelude.{◌≡◌};
-ghost use Rattle.format.specs.Answers.{step_of};
 ghost use Rattle.sections.specs.Answers.{position_step};
 ghost use Rattle.place.specs.Part as Spec;
 ghost use Rattle.place.specs.Private.{section_of_part};
@@ -100,7 +99,7 @@ impl Part {
     }
 }
 
-// Record i of a part, at a position: the position after it, or the refusal.
+// Record i of a part, at a position: the position after it, or the refusal. A match, since the arms take different arguments.
 #[tactic(auto, unfolding(crate::specs::Part::record_at))]
 fn read_record(s: &[u8], part: Part, map: BspData, i: u32, at: usize) -> Answer<usize>
     ensures { position_step result ≡ Spec.record_at part s.now map i at }

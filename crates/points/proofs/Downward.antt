@@ -13,19 +13,19 @@ use Rattle.math.specs.declared.plane.Hyperplane.{Hyperplane}
 use Rattle.walk.specs.Table.{Child}
 use Rattle.walk.specs.Walk.{Entered}
 use Rattle.nodes.specs.Tables.{End}
-use Rattle.nodes.specs.Fast.{table, child_of, node_of, word_on}
+use Rattle.nodes.proofs.Entering.{child_of_word}
+use Rattle.nodes.specs.Fast.{onto_child, onto_word, table, child_of, node_of, word_on}
 use Rattle.nodes.specs.declared.table.Tables.{Tables}
 use Rattle.nodes.specs.declared.read.Words.{Words as WordsT}
 use Rattle.ways.specs.Groups.{settled, onward, meets, fill, fronts, backs}
 use Rattle.ways.proofs.Divided.{reads_none, settled_reads, settled_bytes, some_left, divided_reads, divided_bytes, divided_other, reads_most, kept_length}
-use Rattle.points.specs.Going.{point_at, onto_child, onto_word, meeting_meets, met, reads_of, settled_by, Settles, PairIs, TwoSettled, Divides, Went}
-use Rattle.points.specs.declared.group.Onto.{Onto}
+use Rattle.points.specs.Going.{point_at, meeting_meets, met, reads_of, settled_by, Settles, PairIs, TwoSettled, Divides, Went}
+use Rattle.nodes.specs.declared.read.Onto.{Onto}
 use Rattle.points.specs.declared.one.Pair.{Pair}
 use Rattle.points.specs.declared.group.Meeting.{Meeting}
 use Rattle.points.specs.declared.group.Meeting.TheVariants as M
 use Rattle.points.specs.declared.group.Down.{Down}
 use Rattle.points.specs.declared.group.Down.TheVariants as D
-use Rattle.points.proofs.Meeting.{child_of_lem}
 
 no_entry : (l : List ℕ) → length l ≡ 0 → l ≡ []
 no_entry [] e = refl
@@ -134,7 +134,7 @@ module _ (s : List ℕ) (t : Tables) (cs : List Float) where
           pub all_behind : f ≡ 0 → c' ≡ onto_word (word_on w false) → Gone k₀ c₀ ids₀ aside₀ out₀ l aside' out c' j (n + 1)
           unfolding fill
           all_behind z e =
-              let d : child_at c' ≡ child_of t.table (word_on w false) = ap child_at e ∙ child_of_lem t.table (word_on w false) in
+              let d : child_at c' ≡ child_of t.table (word_on w false) = ap child_at e ∙ child_of_word t.table (word_on w false) in
               let no : F ≡ [] = no_entry F (sym parts.1 ∙ z) in
               let is : l ≡ B = parts.0 ∙ ap (λ (x : List ℕ). x ++ B) no in
               let none : reads_of s t cs j (child_of t.table (word_on w true)) F ≡ 0 = ap (reads_of s t cs j (child_of t.table (word_on w true))) no ∙ reads_none (table s t) code_of (point_at cs) j (child_of t.table (word_on w true)) in
@@ -155,7 +155,7 @@ module _ (s : List ℕ) (t : Tables) (cs : List Float) where
           pub all_in_front : length l ≤ f → c' ≡ onto_word (word_on w true) → Gone k₀ c₀ ids₀ aside₀ out₀ l aside' out c' j (n + 1)
           unfolding fill
           all_in_front z e =
-              let d : child_at c' ≡ child_of t.table (word_on w true) = ap child_at e ∙ child_of_lem t.table (word_on w true) in
+              let d : child_at c' ≡ child_of t.table (word_on w true) = ap child_at e ∙ child_of_word t.table (word_on w true) in
               let no : B ≡ [] = no_entry B (omega (arith, halves)) in
               let is : l ≡ F = parts.0 ∙ ap (λ (x : List ℕ). F ++ x) no ∙ append-nil F in
               let none : reads_of s t cs j (child_of t.table (word_on w false)) B ≡ 0 = ap (reads_of s t cs j (child_of t.table (word_on w false))) no ∙ reads_none (table s t) code_of (point_at cs) j (child_of t.table (word_on w false)) in

@@ -4,7 +4,6 @@ use native.Mathlib.Omega.{arith}
 use mathlib.Core.Bool.{Bool, true, false, cond}
 use mathlib.Core.List.{List, [], ◌∷◌, ◌++◌}
 use mathlib.Core.Path.{◌≡◌, refl, sym, ◌∙◌, ap, subst}
-use borrow.Author.Tests.{le-leb, lt-leb}
 use borrow.Rule.Slice.PartMut.{post_of, put_mid, mid_len, same_len_mid, take_put, drop_put}
 use lib.Dec.{leb}
 use lib.Ieee.{Float}
@@ -12,13 +11,13 @@ use lib.ListN.{length, take, drop, length-append, length-drop}
 use lib.Seq.{take_all, take-nil, take-take, take_at, drop_at, drop-drop, length-take-le}
 use Rattle.walk.specs.Table.{Child}
 use Rattle.nodes.specs.Tables.{End}
-use Rattle.nodes.specs.Fast.{child_of, word_on}
+use Rattle.nodes.proofs.Entering.{child_of_word}
+use Rattle.nodes.specs.Fast.{onto_child, onto_word, child_of, word_on}
 use Rattle.nodes.specs.declared.table.Tables.{Tables}
 use Rattle.nodes.specs.declared.read.Words.{Words as WordsT}
-use Rattle.points.specs.Going.{onto_child, onto_word, part, parts_of, reads_of, settled_by, Settles, Divides}
-use Rattle.points.specs.declared.group.Onto.{Onto}
+use Rattle.points.specs.Going.{part, parts_of, reads_of, settled_by, Settles, Divides}
+use Rattle.nodes.specs.declared.read.Onto.{Onto}
 use Rattle.points.specs.declared.group.Parts.{Parts}
-use Rattle.points.proofs.Meeting.{child_of_lem}
 use Rattle.points.proofs.Downward.{few_reads}
 
 -- ---- parts of a list
@@ -65,17 +64,6 @@ module _ (l : List ℕ) (lo hi f : ℕ) (h : lo + f ≤ hi) where
       sym
       (sym (part_as f (hi - lo) (drop lo l) (omega arith))
       ∙ ap (λ (n : ℕ). take n (drop f (drop lo l))) {x = hi - lo - f} {y = hi - (lo + f)} (omega arith) ∙ ap (take (hi - (lo + f))) (drop-drop f lo l))
-
--- ---- which part has fewer points
-
-module _ (w : WordsT) (lo f hi : ℕ) (a b : Onto) where
-  pub front_fewer : a ≡ onto_word (word_on w true) → b ≡ onto_word (word_on w false) → f ≤ hi - (lo + f) → record { fewer = a; from = lo; to = lo + f; more = b; lo = lo + f; hi = hi } ≡ parts_of w lo f hi
-  unfolding parts_of
-  front_fewer ea eb h = rw (ea, eb, le-leb f (hi - (lo + f)) h)
-
-  pub back_fewer : a ≡ onto_word (word_on w false) → b ≡ onto_word (word_on w true) → hi - (lo + f) < f → record { fewer = a; from = lo + f; to = hi; more = b; lo = lo; hi = lo + f } ≡ parts_of w lo f hi
-  unfolding parts_of
-  back_fewer ea eb h = rw (ea, eb, lt-leb f (hi - (lo + f)) h)
 
 -- ---- the loop
 
@@ -198,10 +186,10 @@ module _ (s : List ℕ) (t : Tables) (cs : List Float) where
             → Doing k₀ c₀ ids₀ aside₀ out₀ (put_mid p.from (p.to - p.from) ids₁ x) aside' out₂ p.more j (n + m + a) p.lo p.hi
 
         front_child : child_at (onto_word (word_on w true)) ≡ child_of t.table (word_on w true)
-        front_child = child_of_lem t.table (word_on w true)
+        front_child = child_of_word t.table (word_on w true)
 
         back_child : child_at (onto_word (word_on w false)) ≡ child_of t.table (word_on w false)
-        back_child = child_of_lem t.table (word_on w false)
+        back_child = child_of_word t.table (word_on w false)
 
         front_first : Next (record { fewer = onto_word (word_on w true); from = lo; to = lo + f; more = onto_word (word_on w false); lo = lo + f; hi = hi })
         front_first e z =

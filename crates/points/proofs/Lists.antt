@@ -6,10 +6,13 @@ use mathlib.Core.Bool.{Bool, true, false, cond, not}
 use mathlib.Core.List.{List, [], ◌∷◌, ◌++◌, append-nil}
 use mathlib.Core.Logic.{◌⊎◌, inl, inr}
 use mathlib.Core.Path.{◌≡◌, refl, sym, ◌∙◌, ap, subst}
-use borrow.Author.Tests.{eq-eqb, ne_eqb}
-use lib.ListN.{length, take, drop, get_or, set, length-set, length-append, drop_of_length-le}
-use lib.Seq.{take-suc, drop-cons, take-suc-set, take_all, drop-set-lt, take-set-le, set_out, get_or-drop, length-take-le}
-use borrow.Rule.Slice.PartMut.{mid_of, post_of, put_mid, mid_len, Post-is}
+use borrow.Author.Tests.{ltb-false}
+use lib.Dec.{eqb, ltb}
+use Rattle.std.specs.Prelude.{Option, Some, None, ◌==◌}
+use Rattle.std.specs.List.{position_or_len}
+use Rattle.std.specs.Option.{unwrap_or}
+use lib.ListN.{length, take, drop, get_or, set, length-set, length-append}
+use lib.Seq.{take-suc, drop-cons, take-suc-set, take_all, drop-set-lt, take-set-le, get_or-drop}
 use lib.Ieee.{Float, nan, le}
 use Rattle.math.specs.Plane as Pl
 use Rattle.ways.specs.Groups.{kept, fill, is_front, in_front}
@@ -20,14 +23,6 @@ use Rattle.math.specs.declared.plane.Alignment.{Alignment}
 use Rattle.math.specs.declared.plane.Alignment.TheVariants.{Axis as Aligned}
 use Rattle.math.specs.declared.plane.Hyperplane.{Hyperplane}
 use Rattle.points.specs.Going.{point_at, axis_number, reaches, Sided, first_zero, from}
-
--- ---- a copy
-
-pub copy_next : (l src : List ℕ) (i : ℕ) → i < length l → i < length src → take i l ≡ take i src → take (i + 1) (set l i (get_or src i 0)) ≡ take (i + 1) src
-copy_next l src i h k e = rw (add-one) (take-suc-set l i (get_or src i 0) h ∙ ap (λ (x : List ℕ). x ++ (get_or src i 0 ∷ [])) e ∙ sym (take-suc src i 0 k))
-
-pub copy_all : (l src : List ℕ) (i n : ℕ) → length l ≤ i → i ≤ n → length l ≡ n → take i l ≡ take i src → l ≡ take n src
-copy_all l src i n h k e t = let q : i ≡ n = omega arith in sym (take_all i l h) ∙ t ∙ ap (λ (j : ℕ). take j src) q
 
 -- ---- bytes filled in
 
@@ -45,13 +40,10 @@ fill_all v ids out i h = ap (λ (l : List ℕ). fill v l out) (none ids i h)
     none (x ∷ l) zero h = absurd (omega arith)
     none (x ∷ l) (suc i) h = none l i (omega arith)
 
--- an entry of the list is set, and one outside it changes nothing
+-- an entry of the list is set
 module _ (v : ℕ → ℕ) (ids before out : List ℕ) (i : ℕ) (h : i < length ids) (e : fill v (drop i ids) out ≡ fill v ids before) where
   pub fill_step : (out' : List ℕ) → out' ≡ set out (get_or ids i 0) (v (get_or ids i 0)) → fill v (drop (i + 1) ids) out' ≡ fill v ids before
   fill_step out' q = ap (fill v (drop (i + 1) ids)) q ∙ sym (fill_next v ids out i h) ∙ e
-
-  pub fill_skip : (out' : List ℕ) → out' ≡ out → length out ≤ get_or ids i 0 → fill v (drop (i + 1) ids) out' ≡ fill v ids before
-  fill_skip out' q m = fill_step out' (q ∙ sym (set_out out (get_or ids i 0) (v (get_or ids i 0)) m))
 
 -- ---- numbers in order
 
@@ -67,18 +59,31 @@ number_all l i n h k e t = let q : i ≡ n = omega arith in sym (take_all i l h)
 
 -- ---- the first zero
 
-pub zero_next : (l : List ℕ) (i : ℕ) → i < length l → (get_or l i 0 ≡ 0 → ⊥) → i + first_zero (drop i l) ≡ i + 1 + first_zero (drop (i + 1) l)
+-- where the library finds it
+zero_at_is : (l : List ℕ) → position_or_len (λ b. b == 0) l ≡ first_zero l
 unfolding first_zero
-zero_next l i h n =
-    rw (add-one, drop-cons l i 0, ne_eqb (get_or l i 0) 0 n) (omega arith)
+zero_at_is [] = refl
+zero_at_is (b ∷ l) = by (eqb b 0) (zero_at_is l)
+  where
+    by : (t : Bool) → position_or_len (λ b. b == 0) l ≡ first_zero l → cond (not t) (1 + position_or_len (λ b. b == 0) l) 0 ≡ cond t 0 (suc (first_zero l))
+    by true h = refl
+    by false h = omega (arith, h)
 
-pub zero_here : (l : List ℕ) (i : ℕ) → i < length l → get_or l i 0 ≡ 0 → i + first_zero (drop i l) ≡ i
+zero_in : (l : List ℕ) → first_zero l ≤ length l
 unfolding first_zero
-zero_here l i h n = rw (drop-cons l i 0, eq-eqb (get_or l i 0) 0 n) (omega arith)
+zero_in [] = omega arith
+zero_in (b ∷ l) = by (eqb b 0) (zero_in l)
+  where
+    by : (t : Bool) → first_zero l ≤ length l → cond t 0 (suc (first_zero l)) ≤ suc (length l)
+    by true h = omega arith
+    by false h = omega (arith, h)
 
-pub zero_none : (l : List ℕ) (i : ℕ) → length l ≤ i → i + first_zero (drop i l) ≡ i
-unfolding first_zero
-zero_none l i h = rw (drop_of_length-le l h) (omega arith)
+pub zero_found : (l : List ℕ) (r : Option ℕ) → r ≡ cond (ltb (position_or_len (λ b. b == 0) l) (length l)) (Some (position_or_len (λ b. b == 0) l)) None → unwrap_or r (length l) ≡ first_zero l
+zero_found l r e = ap (λ (o : Option ℕ). unwrap_or o (length l)) e ∙ by (ltb (position_or_len (λ b. b == 0) l) (length l)) refl
+  where
+    by : (t : Bool) → ltb (position_or_len (λ b. b == 0) l) (length l) ≡ t → unwrap_or (cond t (Some (position_or_len (λ b. b == 0) l)) None) (length l) ≡ first_zero l
+    by true q = zero_at_is l
+    by false q = omega (arith, zero_at_is l, zero_in l, ltb-false (position_or_len (λ b. b == 0) l) (length l) q)
 
 -- ---- points on either side
 
@@ -162,14 +167,6 @@ module _ (f : ℕ → Bool) (ids : List ℕ) where
       let e : i ≡ length ids = omega (arith, p.within, p.as_long) in
       let t : take i ids ≡ ids = take_all i ids (omega (arith, p.within, p.as_long)) in
       (omega (arith, p.few, p.within), (p.as_long, (p.in_front_lem ∙ ap (kept f) t, ap (λ (j : ℕ). take (j - n) aside) (sym e) ∙ p.behind ∙ ap (kept (λ q. not (f q))) t)))
-
-  -- the points behind the plane are put back after those in front
-  pub together : (l aside : List ℕ) (n : ℕ) → Sided f ids l aside n → (x : List ℕ) → x ≡ take (length (mid_of n (length l - n) l)) aside → (put_mid n (length l - n) l x ≡ kept f ids ++ kept (λ q. not (f q)) ids) × (n ≡ length (kept f ids))
-  together l aside n p x e =
-      let short : n ≤ length l = omega (arith, p.0, p.1.0) in
-      let is_x : x ≡ kept (λ q. not (f q)) ids = e ∙ ap (λ (j : ℕ). take j aside) (mid_len n (length l) l (omega arith) ∙ ap (λ (j : ℕ). j - n) p.1.0) ∙ p.1.1.1 in
-      let after : post_of n (length l - n) l ≡ [] = Post-is n (length l) l short ∙ drop_of_length-le l {i = length l} (omega arith) in
-      (cc (p.1.1.0, is_x, after, append-nil (kept (λ q. not (f q)) ids)), sym (length-take-le n l short) ∙ ap length p.1.1.0)
 
 -- ---- along an axis
 

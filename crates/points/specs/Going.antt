@@ -1,6 +1,6 @@
 -- For the contracts of functions that no other crate can name; a reader of the calls may leave this file out.
 -- For private contracts: a group of points on its way down.
-use Rattle.std.specs.Prelude.{ℕ, zero, suc, ◌+◌, ◌*◌, ◌<◌, ◌≤◌, ◌-◌, ◌/◌, ◌≡◌, Bool, true, false, cond, not, List, [], ◌∷◌, ltb, leb, eqb, Float, length, get_or, take, drop}
+use Rattle.std.specs.Prelude.{ℕ, zero, suc, ◌+◌, ◌*◌, ◌<◌, ◌≤◌, ◌-◌, ◌/◌, ◌≡◌, Bool, true, false, cond, not, List, [], ◌∷◌, leb, eqb, Float, length, get_or, take, drop}
 use Rattle.std.specs.Float.{nan}
 use Rattle.std.specs.Float.Ieee.{le}
 use Rattle.format.specs.Contents.{code_of}
@@ -9,18 +9,17 @@ use Rattle.math.specs.declared.vector.Vector3.{Vector3}
 use Rattle.math.specs.declared.vector.Axis.{Axis}
 use Rattle.math.specs.declared.vector.Axis.TheVariants.{X, Y, Z}
 use Rattle.math.specs.Plane as Pl
-use Rattle.walk.specs.Table.{Child, node, end, child_on}
+use Rattle.walk.specs.Table.{Child, child_on}
 use Rattle.nodes.specs.Tables.{End}
-use Rattle.nodes.specs.Fast.{table, end_of, child_of, node_of, word_on}
+use Rattle.nodes.specs.Fast.{table, onto_child, onto_word, child_of, node_of, word_on}
 use Rattle.nodes.specs.declared.table.HullTable.{HullTable}
 use Rattle.nodes.specs.declared.table.Tables.{Tables}
+use Rattle.nodes.specs.declared.read.Onto.{Onto}
 use Rattle.nodes.specs.declared.read.Words.{Words}
 use Rattle.ways.specs.Groups.{Meets, settled, onward, meets, byte_at, reads_at, fill, kept}
 use Rattle.points.specs.declared.one.Pair.{Pair}
 use Rattle.points.specs.declared.one.Passing.{Passing}
 use Rattle.points.specs.declared.one.Passing.TheVariants as Q
-use Rattle.points.specs.declared.group.Onto.{Onto}
-use Rattle.points.specs.declared.group.Onto.TheVariants as O
 use Rattle.points.specs.declared.group.Meeting.{Meeting}
 use Rattle.points.specs.declared.group.Meeting.TheVariants as H
 use Rattle.points.specs.declared.group.Parts.{Parts}
@@ -30,14 +29,6 @@ use Rattle.points.specs.declared.group.Down.TheVariants as D
 -- the point of a number; a NaN past the list's end
 abbrev pub point_at : List Float → ℕ → Vector3
 point_at cs q = vector (get_or cs (q * 3) nan) (get_or cs (q * 3 + 1) nan) (get_or cs (q * 3 + 2) nan)
-
--- the child that a group stands before
-abbrev pub onto_child : HullTable → Onto → Child End
-onto_child t (O.Node n) = node n
-onto_child t (O.End w) = end (end_of t w)
-
-abbrev pub onto_word : ℕ → Onto
-onto_word w = cond (ltb w 32768) (O.Node w) (O.End w)
 
 abbrev pub meeting_meets : HullTable → Meeting → Meets End
 meeting_meets t (H.Settled b) = settled b
@@ -68,6 +59,10 @@ axis_number Z = 2
 
 unfoldable pub reaches : List Float → ℕ → Float → ℕ → Bool
 reaches cs axis d q = le d (get_or cs (q * 3 + axis) nan)
+
+-- whatever a test that is passed by name says of a point is what f says
+abbrev pub Tests : (ℕ → Bool → Type 0) → (ℕ → Bool) → Type 0
+Tests says f = (q : ℕ) (b : Bool) → says q b → b ≡ f q
 
 -- points parted by a test: those for which it holds lie at the front of the list, the others aside
 abbrev pub Sided : (ℕ → Bool) → List ℕ → List ℕ → List ℕ → ℕ → Type 0

@@ -6,15 +6,8 @@ ghost use Rattle.points.specs.Going as Going;
 use crate::divide::{divide, settle};
 use crate::one::{settle_one, settle_two};
 use math::Hyperplane;
-use nodes::read::{EndContents, ReadWords, Words, end_contents, plane_at, read_words};
+use nodes::read::{Onto, Words, end_contents, plane_at, read_words};
 use nodes::table::Tables;
-
-// The child that a group stands before: a node by its index, or an end by its word.
-#[derive(Clone, Copy)]
-pub enum Onto {
-    Node(usize),
-    End(u16),
-}
 
 // What a group meets there: the byte that settles its points (a contents code, or 0 where they are refused), or a node and its plane.
 #[derive(Clone, Copy)]
@@ -31,23 +24,12 @@ pub enum Down {
     Divided(Words, usize, u32, u64),
 }
 
-// The child on a side.
-pub fn child_on(words: Words, front: bool) -> Onto
-    ensures { result ≡ Going.onto_word (Fast.word_on words front) }
-{
-    let word = words.on(front);
-    if word < 32768 {
-        return Onto::Node(word as usize);
-    }
-    Onto::End(word)
-}
-
 pub fn end_byte(s: &[u8], t: Tables, word: u16) -> u8
     ensures { Going.meeting_meets t.table (Meeting.Settled result) ≡ Going.met s.now t 0 (Onto.End word) }
 {
     match end_contents(s, t, word) {
-        EndContents::Refused(_) => 0,
-        EndContents::Contents(c) => c.code() as u8,
+        Ok(c) => c.code() as u8,
+        Err(_) => 0,
     }
 }
 
@@ -58,25 +40,24 @@ fn meet_child(s: &[u8], t: Tables, child: Onto, left: u32) -> Meeting
     match child {
         Onto::End(word) => Meeting::Settled(end_byte(s, t, word)),
         Onto::Node(node) => {
-            let nodes = t.nodes;
             if left == 0 {
                 return Meeting::Settled(0);
             }
-            if (nodes.count as usize) <= node {
+            if (t.nodes.count as usize) <= node {
                 return Meeting::Settled(0);
             }
-            match read_words(s, t, node) {
-                ReadWords::Refused(_) => Meeting::Settled(0),
-                ReadWords::Words(words) => match plane_at(s, t, words.plane as usize) {
-                    Err(_) => Meeting::Settled(0),
-                    Ok(plane) => Meeting::Node(words, plane),
-                },
-            }
+            let Ok(words) = read_words(s, t, node) else {
+                return Meeting::Settled(0);
+            };
+            let Ok(plane) = plane_at(s, t, words.plane as usize) else {
+                return Meeting::Settled(0);
+            };
+            Meeting::Node(words, plane)
         }
     }
 }
 
-// Down from a child to where the points are settled or divided.
+// Down from a child to where the points are settled or divided. A `for` over the nodes left would need an answer after its end.
 fn go_down(
     s: &[u8],
     t: Tables,
@@ -88,7 +69,7 @@ fn go_down(
     out: &mut [u8],
 ) -> Down
     requires { (0 < length ids.old) × (length ids.old ≤ length aside.old) }
-    ensures { Going.Went s.now t coords.now left (Going.onto_child t.table child) ids.old out.old result ids.new out.new }
+    ensures { Going.Went s.now t coords.now left (Fast.onto_child t.table child) ids.old out.old result ids.new out.new }
 {
     if ids.len() == 1 {
         return Down::Settled(settle_one(s, t, coords, child, left, ids, out));
@@ -104,10 +85,10 @@ fn go_down(
             }
             Meeting::Node(words, plane) => {
                 let front = divide(coords, plane, ids, aside);
-                more = more - 1;
-                reads = reads + 1;
+                more -= 1;
+                reads += 1;
                 if front == 0 {
-                    at = child_on(words, false);
+                    at = words.onto(false);
                 } else if front < ids.len() {
                     if ids.len() == 2 {
                         let n = settle_two(s, t, coords, words, more, ids, out);
@@ -115,7 +96,7 @@ fn go_down(
                     }
                     return Down::Divided(words, front, more, reads);
                 } else {
-                    at = child_on(words, true);
+                    at = words.onto(true);
                 }
             }
         }
@@ -133,6 +114,7 @@ pub struct Parts {
     pub hi: usize,
 }
 
+#[tactic(auto, unfolding(crate::specs::Going::parts_of))]
 fn parts_of(words: Words, lo: usize, front: usize, hi: usize) -> Parts
     requires { lo + front ≤ hi }
     ensures { result ≡ Going.parts_of words lo front hi }
@@ -140,26 +122,26 @@ fn parts_of(words: Words, lo: usize, front: usize, hi: usize) -> Parts
     let mid = lo + front;
     if front <= hi - mid {
         return Parts {
-            fewer: child_on(words, true),
+            fewer: words.onto(true),
             from: lo,
             to: mid,
-            more: child_on(words, false),
+            more: words.onto(false),
             lo: mid,
             hi,
         };
     }
     Parts {
-        fewer: child_on(words, false),
+        fewer: words.onto(false),
         from: mid,
         to: hi,
-        more: child_on(words, true),
+        more: words.onto(true),
         lo,
         hi: mid,
     }
 }
 
 // The points of a group, all the way down; how often a node was read. Where they are divided, this calls itself for the part with fewer
-// points and goes on with the other, so it calls itself at most ten deep for 1,024 points.
+// points and goes on with the other until that is settled, so it calls itself at most ten deep for 1,024 points.
 pub fn settle_group(
     s: &[u8],
     t: Tables,
@@ -171,7 +153,7 @@ pub fn settle_group(
     out: &mut [u8],
 ) -> u64
     requires { (0 < length ids.old) × ((length ids.old ≤ length aside.old) × (length aside.old ≤ 1024)) }
-    ensures { Going.Settles s.now t coords.now left (Going.onto_child t.table child) ids.old out.old result out.new }
+    ensures { Going.Settles s.now t coords.now left (Fast.onto_child t.table child) ids.old out.old result out.new }
 {
     let mut at = child;
     let mut more = left;

@@ -1,41 +1,27 @@
 // The contents at many points of a hull.
-ghost use Rattle.std.specs.Prelude.{◌≡◌, ◌≤◌, length, take};
+ghost use Rattle.std.specs.Prelude.{◌≡◌, ◌≤◌, length};
+ghost use Rattle.format.specs.Answers.{answer_of};
 ghost use Rattle.format.specs.Listed.{listed};
-ghost use Rattle.walk.specs.Walk.{with_visits, point_walk};
-ghost use Rattle.nodes.specs.Fast as Fast;
 ghost use Rattle.hull.specs.Hull.{hull_table};
-ghost use Rattle.hull.specs.Answers as Answers;
 ghost use Rattle.points.specs.Points as Points;
-ghost use Rattle.points.specs.Answers as Spec;
 ghost use Rattle.points.specs.Going as Going;
 
 use crate::divide::point_at;
-use crate::group::{Onto, settle_group};
-use format::refusal::Refusal;
+use crate::group::settle_group;
+use format::refusal::{Answer, Refusal};
 use format::section::BspData;
 use hull::collision::BspCollisionHull;
-use hull::point::PointContents;
-use math::Vector3;
-use nodes::read::{EndContents, end_contents};
-use nodes::table::{Tables, tables_of};
-use nodes::walking::{WalkEnd, walk_to_end};
-
-// How often a node was read.
-#[derive(Clone, Copy)]
-pub enum PointsAnswer {
-    Reads(u64),
-    Refused(Refusal),
-}
+use hull::point::contents_in;
+use nodes::read::Onto;
+use nodes::table::tables_of;
 
 // The list's entries are their own places.
 fn number(ids: &mut [u16])
     requires { length ids.old ≤ 1024 }
     ensures { ids.new ≡ Going.from 0 (length ids.old) }
 {
-    let mut i = 0;
-    while i < ids.len() {
+    for i in 0..ids.len() {
         ids[i] = i as u16;
-        i = i + 1;
     }
 }
 
@@ -43,39 +29,10 @@ fn number(ids: &mut [u16])
 fn first_zero(bytes: &[u8]) -> usize
     ensures { result ≡ Going.first_zero bytes.now }
 {
-    let mut i = 0;
-    while i < bytes.len() {
-        if bytes[i] == 0 {
-            return i;
-        }
-        i = i + 1;
-    }
-    bytes.len()
-}
-
-// The first bytes into the list, as many as it has.
-fn give(bytes: &[u8], list: &mut [u8])
-    requires { length list.old ≤ length bytes.now }
-    ensures { list.new ≡ take (length list.old) bytes.now }
-{
-    let mut i = 0;
-    while i < list.len() {
-        list[i] = bytes[i];
-        i = i + 1;
-    }
-}
-
-// What a point gets alone. It says what `contents_in` of `hull` says: a second caller of that would make it a call in `bsp_contents`.
-fn contents_alone(s: &[u8], t: Tables, root: usize, point: Vector3) -> PointContents
-    ensures { Answers.contents_answer result ≡ with_visits (point_walk (Fast.table s.now t) root point) }
-{
-    match walk_to_end(s, t, root, point.x, point.y, point.z) {
-        WalkEnd::Refused(e) => PointContents::Refused(e),
-        WalkEnd::Word(word, visits) => match end_contents(s, t, word) {
-            EndContents::Contents(c) => PointContents::Contents(c, visits),
-            EndContents::Refused(e) => PointContents::Refused(e),
-        },
-    }
+    bytes
+        .iter()
+        .position(|byte| *byte == 0)
+        .unwrap_or(bytes.len())
 }
 
 // The points, once they are known to be few enough for the list: their codes, or the refusal of the first that is refused.
@@ -88,20 +45,18 @@ fn answer_all(
     aside: &mut [u16],
     out: &mut [u8],
     list: &mut [u8],
-) -> PointsAnswer
+) -> Answer<u64>
     requires { Going.Ready coords.now (length ids.old) (length aside.old) (length out.old) (length list.old) }
-    ensures { listed (Spec.points_answer result) list.new ≡ Points.answered (hull_table s.now map hull) hull.node_id coords.now list.old }
+    ensures { listed (answer_of result) list.new ≡ Points.answered (hull_table s.now map hull) hull.node_id coords.now list.old }
 {
-    let table = hull.table;
-    let t = tables_of(map, table, hull.mins, hull.maxs);
-    let nodes = t.nodes;
+    let t = tables_of(map, hull.table, hull.mins, hull.maxs);
     number(ids);
     let reads = settle_group(
         s,
         t,
         coords,
         Onto::Node(hull.node_id),
-        nodes.count,
+        t.nodes.count,
         ids,
         aside,
         out,
@@ -109,84 +64,46 @@ fn answer_all(
     let zero = first_zero(out);
     let count = out.len();
     if zero < count {
-        return match contents_alone(s, t, hull.node_id, point_at(coords, zero as u16)) {
-            PointContents::Refused(e) => PointsAnswer::Refused(e),
-            // never: a point that is answered has a code
-            PointContents::Contents(_, _) => PointsAnswer::Refused(Refusal::NotPoints),
-        };
+        contents_in(s, t, hull.node_id, point_at(coords, zero as u16))?;
+        // never: a point that is answered has a code
+        return Err(Refusal::NotPoints);
     }
-    give(out, &mut list[..count]);
-    PointsAnswer::Reads(reads)
+    list[..count].copy_from_slice(out);
+    Ok(reads)
 }
 
-// One point: the walk that it takes alone. `contents_alone` with a second caller would be a call.
+// One point: the walk that it takes alone.
 fn answer_one(
     s: &[u8],
     map: BspData,
     hull: BspCollisionHull,
     coords: &[f32],
     list: &mut [u8],
-) -> PointsAnswer
+) -> Answer<u64>
     requires { Going.Asked 1 coords.now (length list.old) }
-    ensures { listed (Spec.points_answer result) list.new ≡ Points.answered (hull_table s.now map hull) hull.node_id coords.now list.old }
+    ensures { listed (answer_of result) list.new ≡ Points.answered (hull_table s.now map hull) hull.node_id coords.now list.old }
 {
-    let table = hull.table;
-    let t = tables_of(map, table, hull.mins, hull.maxs);
-    let p = point_at(coords, 0);
-    match walk_to_end(s, t, hull.node_id, p.x, p.y, p.z) {
-        WalkEnd::Refused(e) => PointsAnswer::Refused(e),
-        WalkEnd::Word(word, visits) => match end_contents(s, t, word) {
-            EndContents::Refused(e) => PointsAnswer::Refused(e),
-            EndContents::Contents(c) => {
-                list[0] = c.code() as u8;
-                PointsAnswer::Reads(visits)
-            }
-        },
-    }
+    let t = tables_of(map, hull.table, hull.mins, hull.maxs);
+    let (contents, visits) = contents_in(s, t, hull.node_id, point_at(coords, 0))?;
+    list[0] = contents.code() as u8;
+    Ok(visits)
 }
 
-// A few points: fewer entries to clear.
-fn answer_few(
+// Some points, at most N: the entries to clear are as few as N says.
+fn answer_up_to<const N: usize>(
     s: &[u8],
     map: BspData,
     hull: BspCollisionHull,
     coords: &[f32],
     list: &mut [u8],
-) -> PointsAnswer
-    requires { Going.Asked 32 coords.now (length list.old) }
-    ensures { listed (Spec.points_answer result) list.new ≡ Points.answered (hull_table s.now map hull) hull.node_id coords.now list.old }
+) -> Answer<u64>
+    requires { (N ≤ 1024) × Going.Asked N coords.now (length list.old) }
+    ensures { listed (answer_of result) list.new ≡ Points.answered (hull_table s.now map hull) hull.node_id coords.now list.old }
 {
     let count = coords.len() / 3;
-    let mut ids = [0u16; 32];
-    let mut aside = [0u16; 32];
-    let mut out = [0u8; 32];
-    answer_all(
-        s,
-        map,
-        hull,
-        coords,
-        &mut ids[..count],
-        &mut aside[..count],
-        &mut out[..count],
-        list,
-    )
-}
-
-// Any number of points that a call takes.
-fn answer_many(
-    s: &[u8],
-    map: BspData,
-    hull: BspCollisionHull,
-    coords: &[f32],
-    list: &mut [u8],
-) -> PointsAnswer
-    requires { Going.Asked 1024 coords.now (length list.old) }
-    ensures { listed (Spec.points_answer result) list.new ≡ Points.answered (hull_table s.now map hull) hull.node_id coords.now list.old }
-{
-    let count = coords.len() / 3;
-    let mut ids = [0u16; 1024];
-    let mut aside = [0u16; 1024];
-    let mut out = [0u8; 1024];
+    let mut ids = [0u16; N];
+    let mut aside = [0u16; N];
+    let mut out = [0u8; N];
     answer_all(
         s,
         map,
@@ -207,27 +124,27 @@ pub fn contents_at_points(
     hull: BspCollisionHull,
     coords: &[f32],
     list: &mut [u8],
-) -> PointsAnswer
-    ensures { listed (Spec.points_answer result) list.new ≡ Points.contents_of_points (hull_table s.now map hull) hull.node_id coords.now list.old }
+) -> Answer<u64>
+    ensures { listed (answer_of result) list.new ≡ Points.contents_of_points (hull_table s.now map hull) hull.node_id coords.now list.old }
 {
     if 3072 < coords.len() {
-        return PointsAnswer::Refused(Refusal::NotPoints);
+        return Err(Refusal::NotPoints);
     }
     if coords.len() % 3 != 0 {
-        return PointsAnswer::Refused(Refusal::NotPoints);
+        return Err(Refusal::NotPoints);
     }
     let count = coords.len() / 3;
     if list.len() < count {
-        return PointsAnswer::Refused(Refusal::ListTooShort);
+        return Err(Refusal::ListTooShort);
     }
     if count == 0 {
-        return PointsAnswer::Reads(0);
+        return Ok(0);
     }
     if count == 1 {
         return answer_one(s, map, hull, coords, list);
     }
     if count <= 32 {
-        return answer_few(s, map, hull, coords, list);
+        return answer_up_to::<32>(s, map, hull, coords, list);
     }
-    answer_many(s, map, hull, coords, list)
+    answer_up_to::<1024>(s, map, hull, coords, list)
 }

@@ -26,6 +26,7 @@ fn point_words(p: Point) -> [u64; 3]
     [signed_word(p.x), signed_word(p.y), signed_word(p.z)]
 }
 
+// The two child enums have a tag and a number each: a trait for them would be no plainer than the four functions.
 // 0 for a node, 1 for a leaf.
 fn render_child_tag(child: BspRenderNodeChild) -> u64
     ensures { result ≡ Layout.render_child_tag child }

@@ -1,5 +1,5 @@
 // Leaves.
-ghost use Rattle.std.specs.Prelude.{◌≡◌, get_or};
+ghost use Rattle.std.specs.Prelude.{◌≡◌};
 ghost use Rattle.format.specs.Answers.{step_of, answer_of};
 ghost use Rattle.records.specs.Leaf.{contents_at, sounds_at, up_to, leaf_at, leaf_of};
 
@@ -65,6 +65,8 @@ fn past_sounds(s: &[u8], at: usize) -> usize
 }
 
 // A leaf, whose sound bytes the file's end may cut short.
+// Set in where it is called: loading needs the tests alone, and there the value is then not made.
+#[inline(always)]
 #[tactic(auto, unfolding(crate::specs::Leaf::leaf_at, crate::specs::Leaf::leaf_end_at))]
 pub fn read_leaf(s: &[u8], at: usize) -> Read<BspLeaf>
     ensures { step_of result ≡ leaf_at s.now at }

@@ -10,7 +10,8 @@ use format::refusal::Answer;
 use format::section::{BspData, BspFileSectionId};
 use math::{Hyperplane, Vector3};
 
-// The plane of a type, a normal and a distance, as a file has them: of type 0, 1 or 2 the normal is ignored.
+// The plane of a type, a normal and a distance, as a file has them: of type 0, 1 or 2 the normal is ignored. A match, since the last arm takes
+// the normal too.
 #[tactic(auto, unfolding(crate::specs::Plane::file_plane))]
 fn file_plane(kind: i32, normal: Vector3, dist: f32) -> Hyperplane
     ensures { result ≡ file_plane kind normal dist }

@@ -11,11 +11,8 @@ use Rattle.report.specs.Text.{Printed, printed, front, decimal, line}
 use Rattle.report.specs.Pieces.{put_byte, puts}
 use Rattle.report.proofs.Decimals.{decimal_one, decimal_more, short}
 
-pub room : (b at : ℕ) (l : List ℕ) → at < length l → printed (at + 1) (set l at b) ≡ put_byte b (printed at l)
+room : (b at : ℕ) (l : List ℕ) → at < length l → printed (at + 1) (set l at b) ≡ put_byte b (printed at l)
 room b at l h = simp (lt-ltb at (length l) h)
-
-pub full : (b at : ℕ) (l : List ℕ) → length l ≤ at → printed at l ≡ put_byte b (printed at l)
-full b at l h = simp (le-ltb at (length l) h)
 
 pub puts_append : (t u : List ℕ) (w : Printed) → puts u (puts t w) ≡ puts (t ++ u) w
 unfolding puts
@@ -31,9 +28,9 @@ pub puts_then : (t u : List ℕ) (w : Printed) {x y : Printed} → y ≡ puts t 
 puts_then t u w e q = q ∙ ap (puts u) e ∙ puts_append t u w
 
 -- a loop over the bytes of a text: none, one more, all
-pub puts_none : (t : List ℕ) (w : Printed) → w ≡ puts (take 0 t) w
+pub puts_none : (w : Printed) → w ≡ puts [] w
 unfolding puts
-puts_none t w = refl
+puts_none w = refl
 
 pub puts_more : (t : List ℕ) (i : ℕ) (v w x : Printed) → i < length t → v ≡ puts (take i t) w → x ≡ put_byte (get_or t i 0) v → x ≡ puts (take (i + 1) t) w
 puts_more t i v w x h e q = q ∙ ap (put_byte (get_or t i 0)) e ∙ puts_byte (get_or t i 0) (take i t) w ∙ rw (add-one, take-suc t i 0)

@@ -38,6 +38,7 @@ fn put_counts(map: BspData, out: &mut [u8]) -> usize
 }
 
 // Puts the report on what was read at the front of the buffer, and answers its length. No report is longer than the buffer.
+#[tactic(auto, using(crate::proofs::Counting::too_long, crate::proofs::Counting::refuses, crate::proofs::Counting::counts))]
 pub fn report(input: &[u8], out: &mut [u8; 129]) -> usize
     ensures { printed result out.new ≡ front (report_text input.now) out.old }
 {

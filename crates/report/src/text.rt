@@ -16,19 +16,19 @@ fn put_byte(byte: u8, at: usize, out: &mut [u8]) -> usize
 }
 
 // The same for the bytes of a text.
+#[tactic(auto, using(crate::proofs::Putting::puts_none, crate::proofs::Putting::puts_more, crate::proofs::Putting::puts_all))]
 pub fn put_text(text: &[u8], at: usize, out: &mut [u8]) -> usize
     ensures { printed result out.new ≡ puts text.now (printed at out.old) }
 {
     let mut next = at;
-    let mut i = 0;
-    while i < text.len() {
-        next = put_byte(text[i], next, out);
-        i += 1;
+    for &byte in text {
+        next = put_byte(byte, next, out);
     }
     next
 }
 
 // The same for the digits of a number.
+#[tactic(auto, using(crate::proofs::Putting::puts_one, crate::proofs::Putting::puts_last))]
 fn put_decimal(n: u32, at: usize, out: &mut [u8]) -> usize
     ensures { printed result out.new ≡ puts (decimal n) (printed at out.old) }
 {
@@ -40,6 +40,7 @@ fn put_decimal(n: u32, at: usize, out: &mut [u8]) -> usize
 }
 
 // The same for a line: a name and a number. A number has at most ten digits.
+#[tactic(auto, using(crate::proofs::Putting::puts_line, crate::proofs::Putting::line_length_lem))]
 pub fn put_line(name: &[u8], number: u32, at: usize, out: &mut [u8]) -> usize
     ensures { Puts (line name.now number) (length name.now + 11) (printed at out.old) (printed result out.new) }
 {

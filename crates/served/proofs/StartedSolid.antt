@@ -1,5 +1,6 @@
 -- Note 13 about the calls for C (specs/StartedSolid.antt says it): loaded/proofs/StartedSolid.antt, and a status of 0 says that the answer was given.
 -- Assumes nothing.
+use Rattle.std.proofs.Common.{Ok}
 use Prim.Native.Nat.{ℕ, ◌≤◌}
 use native.Mathlib.Omega.{arith}
 use mathlib.Core.Bool.{Bool, true, false}
@@ -25,8 +26,6 @@ use Rattle.nodes.specs.Tables.{table_of}
 use Rattle.nodes.specs.declared.table.HullTable.{HullTable}
 use Rattle.hull.specs.Hull as Hull
 use Rattle.hull.specs.declared.collision.BspCollisionHull.{BspCollisionHull}
-use Rattle.hull.specs.declared.point.PointContents.TheVariants.{Contents}
-use Rattle.hull.specs.declared.tracing.Traced.TheVariants.{Trace}
 use Rattle.tree.specs.Readable.{Floats}
 use Rattle.loaded.specs.Refusals.{OneOf, of_walks, of_traces}
 use Rattle.loaded.proofs.Refusals.{every_refusal}
@@ -137,7 +136,7 @@ started_solid s map hull segment point F at_start out e room k = by (of_words hu
         sym (ap (λ (p : Vector3). with_visits (point_walk (Hull.hull_table s (map_of map) h) h.node_id p)) at_start) ∙ W.1 in
         let core : (T.0.0.start_solid ≡ true) ↔ (W.0.0 ≡ Solid) =
         Core.started_solid s (map_of map) h (word_floats hull 3) (word_floats hull 6) (point_at segment 0) (point_at segment 3) F
-        (Trace T.0.0 T.0.1) (sym T.1) (Contents W.0.0 W.0.1) (sym walk) T.0.0 T.0.1 refl W.0.0 W.0.1 refl in
+        (Ok (T.0.0, T.0.1)) (sym T.1) (Ok (W.0.0, W.0.1)) (sym walk) T.0.0 T.0.1 refl W.0.0 W.0.1 refl in
         let flag : trace_start_solid (bsp_trace s map hull segment out).list ≡ flag_word T.0.0.start_solid = ap trace_start_solid T.2 in
         let code : contents_code (bsp_contents s map hull point room).list ≡ code_of W.0.0 = ap contents_code W.2 in (
           λ x. code ∙ (code_is W.0.0).1 (core.0 ((flag_is T.0.0.start_solid).0 (sym flag ∙ x))),

@@ -1,3 +1,2 @@
 -- What holds of hulls whatever the body sizes.
-mod Laws
 pub mod AnySizes

@@ -2,11 +2,12 @@
 #![tactic(auto)]
 
 ghost use Rattle.std.specs.Prelude.{◌≡◌};
-ghost use Rattle.hull.specs.Answers.{hull_answer};
+ghost use Rattle.format.specs.Answers.{answer_of};
 ghost use Rattle.sized_hulls.specs.Sized as Sized;
 
+use format::refusal::Answer;
 use format::section::BspData;
-use hull::collision::{BspCollisionHull, HullAnswer};
+use hull::collision::BspCollisionHull;
 use math::Vector3;
 use sizes::{BodySizes, Bounds};
 
@@ -29,21 +30,15 @@ pub fn built_in() -> BodySizes
 fn with_bounds(hull: BspCollisionHull, body: Bounds) -> BspCollisionHull
     ensures { result ≡ Sized.with_bounds hull body }
 {
-    let table = hull.table;
-    let mins = body.mins;
-    let maxs = body.maxs;
     BspCollisionHull {
-        table,
-        node_id: hull.node_id,
-        node_count: hull.node_count,
-        mins,
-        maxs,
-        tree_nodes: hull.tree_nodes,
-        tree_height: hull.tree_height,
+        mins: body.mins,
+        maxs: body.maxs,
+        ..hull
     }
 }
 
 // The hull of an index with the bounds of its body. Hull 0 keeps its zeros.
+#[tactic(auto, unfolding(crate::specs::Sized::with_body))]
 fn with_body(hull: BspCollisionHull, sizes: BodySizes, index: usize) -> BspCollisionHull
     ensures { result ≡ Sized.with_body sizes index hull }
 {
@@ -55,17 +50,16 @@ fn with_body(hull: BspCollisionHull, sizes: BodySizes, index: usize) -> BspColli
 }
 
 // The hull of the model of an index with these body sizes, refused as `hull` is. The sizes are taken as they are.
+#[tactic(auto, unfolding(crate::specs::Sized::hull_sized))]
 pub fn hull_sized(
     s: &[u8],
     map: BspData,
     sizes: BodySizes,
     model: usize,
     index: usize,
-) -> HullAnswer
-    ensures { hull_answer result ≡ Sized.hull_sized s.now map sizes model index }
+) -> Answer<BspCollisionHull>
+    ensures { answer_of result ≡ Sized.hull_sized s.now map sizes model index }
 {
-    match hull::collision::hull(s, map, model, index) {
-        HullAnswer::Refused(e) => HullAnswer::Refused(e),
-        HullAnswer::Hull(own) => HullAnswer::Hull(with_body(own, sizes, index)),
-    }
+    let own = hull::collision::hull(s, map, model, index)?;
+    Ok(with_body(own, sizes, index))
 }

@@ -9,7 +9,8 @@ use native.Mathlib.Omega.{arith}
 use borrow.Author.Tests.{eqb-true, eq-eqb, ne_eqb, le-leb}
 use lib.Dec.{eqb, leb}
 use lib.ListN.{length, get_or}
-use Rattle.format.specs.Answer.{refused}
+use Rattle.format.specs.Answer.{Answer, refused}
+use Rattle.sizes.specs.declared.BodySizes.{BodySizes}
 use Rattle.sizes.specs.Sizes.{Field, FieldRow, row, cut_short, size_at, field_at, behind, field_then, row_from, is_known, all_known, times_of, is_whole, place_of, sizes_in, judged, judged_row, sizes_of, starts_field}
 use Rattle.sizes.specs.Files.{LaidOut}
 
@@ -265,30 +266,38 @@ else_26 s no-1 no-2 = by (row_from (length s) s 0) refl
     by (row fs) q = judge fs q (is_whole fs) refl
     by cut_short q = refl
 
--- ---- each way through `parse`
+-- ---- the way through `parse`
 
 pub not_54 : (s : List ℕ) → (length s ≡ 54 → ⊥) → refused 26 ≡ sizes_of s
 not_54 s h = sym (else_26 s (λ l. h l.bytes) (λ l. h l.bytes))
 
--- a test has one outcome
-apart : (b : Bool) → b ≡ true → b ≡ false → ⊥
-apart b p q = false≢true (sym q ∙ p)
+-- the two layouts, as `parse` tests for them
+pub parsed : (s : List ℕ) (y : Answer BodySizes)
+    → y ≡ cond (eqb (length s) 54)
+    (cond (starts_field s 0 1 && starts_field s 27 2) (judged (sizes_in s 3 30))
+    (cond (starts_field s 0 2 && starts_field s 27 1) (judged (sizes_in s 30 3)) (refused 26)))
+    (refused 26)
+    → y ≡ sizes_of s
+parsed s y = long (eqb (length s) 54) refl
+  where
+    first : Bool
+    first = starts_field s 0 1 && starts_field s 27 2
 
-module _ (s : List ℕ) (n : length s ≡ 54) where
-  pub in_order : starts_field s 0 1 ≡ true → starts_field s 27 2 ≡ true → judged (sizes_in s 3 30) ≡ sizes_of s
-  in_order p q = sym (first_then_second s (record { bytes = n; first = p; second = q }))
+    second : Bool
+    second = starts_field s 0 2 && starts_field s 27 1
 
-  pub turned : starts_field s 0 2 ≡ true → starts_field s 27 1 ≡ true → judged (sizes_in s 30 3) ≡ sizes_of s
-  turned p q = sym (second_then_first s (record { bytes = n; first = p; second = q }))
+    none : first ≡ false → second ≡ false → refused 26 ≡ sizes_of s
+    none p q =
+        sym (else_26 s (λ l. false≢true (sym p ∙ rw (l.first, l.second) refl)) (λ l. false≢true (sym q ∙ rw (l.first, l.second) refl)))
 
-  one_tag : starts_field s 0 1 ≡ true → starts_field s 0 2 ≡ true → ⊥
-  one_tag p q = let x = started_tag s 0 1 p in let y = started_tag s 0 2 q in omega (arith, x, y)
+    neither : length s ≡ 54 → first ≡ false → (t : Bool) → second ≡ t → y ≡ cond t (judged (sizes_in s 30 3)) (refused 26) → y ≡ sizes_of s
+    neither n p true q e = let (a, b) = both (starts_field s 0 2) (starts_field s 27 1) q in e ∙ sym (second_then_first s (record { bytes = n; first = a; second = b }))
+    neither n p false q e = e ∙ none p q
 
-  pub first_alone : starts_field s 0 1 ≡ true → starts_field s 27 2 ≡ false → refused 26 ≡ sizes_of s
-  first_alone p q = sym (else_26 s (λ l. apart (starts_field s 27 2) l.second q) (λ l. one_tag p l.first))
+    laid_out : length s ≡ 54 → (t : Bool) → first ≡ t → y ≡ cond t (judged (sizes_in s 3 30)) (cond second (judged (sizes_in s 30 3)) (refused 26)) → y ≡ sizes_of s
+    laid_out n true p e = let (a, b) = both (starts_field s 0 1) (starts_field s 27 2) p in e ∙ sym (first_then_second s (record { bytes = n; first = a; second = b }))
+    laid_out n false p e = neither n p second refl e
 
-  pub second_alone : starts_field s 0 1 ≡ false → starts_field s 27 1 ≡ false → refused 26 ≡ sizes_of s
-  second_alone p q = sym (else_26 s (λ l. apart (starts_field s 0 1) l.first p) (λ l. apart (starts_field s 27 1) l.second q))
-
-  pub neither : starts_field s 0 1 ≡ false → starts_field s 0 2 ≡ false → refused 26 ≡ sizes_of s
-  neither p q = sym (else_26 s (λ l. apart (starts_field s 0 1) l.first p) (λ l. apart (starts_field s 0 2) l.first q))
+    long : (t : Bool) → eqb (length s) 54 ≡ t → y ≡ cond t (cond first (judged (sizes_in s 3 30)) (cond second (judged (sizes_in s 30 3)) (refused 26))) (refused 26) → y ≡ sizes_of s
+    long true n e = laid_out (eqb-true (length s) 54 n) first refl e
+    long false n e = e ∙ not_54 s (λ h. false≢true (sym n ∙ eq-eqb (length s) 54 h))

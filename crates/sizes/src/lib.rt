@@ -1,7 +1,7 @@
 // The body sizes that a hall brings in a file of its own.
 #![tactic(auto)]
 
-ghost use Rattle.std.specs.Prelude.{◌≡◌, ◌+◌, ◌*◌, ◌≤◌, length};
+ghost use Rattle.std.specs.Prelude.{◌≡◌, ◌+◌, ◌≤◌, length};
 ghost use Rattle.format.specs.Answers.{answer_of};
 ghost use Rattle.sizes.specs.Sizes as Sizes;
 
@@ -27,18 +27,7 @@ fn starts_field(s: &[u8], at: usize, tag: u8) -> bool
     requires { at + 3 ≤ length s.now }
     ensures { result ≡ Sizes.starts_field s.now at tag }
 {
-    if s[at] == tag {
-        if s[at + 1] == 24 {
-            return s[at + 2] == 0;
-        }
-    }
-    false
-}
-
-fn le32(a: u8, b: u8, c: u8, d: u8) -> u32
-    ensures { result ≡ a + 256 * b + 65536 * c + 16777216 * d }
-{
-    (a as u32) + 256 * (b as u32) + 65536 * (c as u32) + 16777216 * (d as u32)
+    s[at] == tag && s[at + 1] == 24 && s[at + 2] == 0
 }
 
 // The float of the four bytes at a place.
@@ -46,9 +35,11 @@ fn float_in(s: &[u8], at: usize) -> f32
     requires { at + 4 ≤ length s.now }
     ensures { result ≡ Sizes.float_in s.now at }
 {
-    float::num::from_bits(le32(s[at], s[at + 1], s[at + 2], s[at + 3]))
+    float::num::from_bits(u32::from_le_bytes([s[at], s[at + 1], s[at + 2], s[at + 3]]))
 }
 
+// (`vector_in` and `bounds_in` read the fields of a record at fixed places, as others do of other records: one function for them would take
+// a reader and a constructor, and be no plainer.)
 fn vector_in(s: &[u8], at: usize) -> Vector3
     requires { at + 12 ≤ length s.now }
     ensures { result ≡ Sizes.vector_in s.now at }
@@ -74,12 +65,7 @@ fn bounds_in(s: &[u8], at: usize) -> Bounds
 fn is_span(min: f32, max: f32) -> bool
     ensures { result ≡ Sizes.is_span min max }
 {
-    if float::num::is_finite(min) {
-        if float::num::is_finite(max) {
-            return min < max;
-        }
-    }
-    false
+    float::num::is_finite(min) && float::num::is_finite(max) && min < max
 }
 
 fn is_body(bounds: Bounds) -> bool
@@ -87,24 +73,18 @@ fn is_body(bounds: Bounds) -> bool
 {
     let mins = bounds.mins;
     let maxs = bounds.maxs;
-    if is_span(mins.x, maxs.x) {
-        if is_span(mins.y, maxs.y) {
-            return is_span(mins.z, maxs.z);
-        }
-    }
-    false
+    is_span(mins.x, maxs.x) && is_span(mins.y, maxs.y) && is_span(mins.z, maxs.z)
 }
 
 // The sizes, if both are bodies.
 fn judge(sizes: BodySizes) -> Answer<BodySizes>
     ensures { answer_of result ≡ Sizes.judged sizes }
 {
-    if is_body(sizes.hull_1) {
-        if is_body(sizes.hull_2) {
-            return Ok(sizes);
-        }
+    if is_body(sizes.hull_1) && is_body(sizes.hull_2) {
+        Ok(sizes)
+    } else {
+        Err(Refusal::NotABody)
     }
-    Err(Refusal::NotABody)
 }
 
 // The sizes with hull 1's value at one place and hull 2's at another.
@@ -120,23 +100,18 @@ fn sizes_in(s: &[u8], one: usize, two: usize) -> Answer<BodySizes>
 
 // The sizes of a file. 26: a field cut short, a wrong length, an unknown, missing or repeated tag; then 27: a bound not finite or a
 // minimum at or above its maximum. Only two layouts of 54 bytes have no 26.
+#[tactic(auto, using(crate::proofs::Rows::parsed))]
 pub fn parse(s: &[u8]) -> Answer<BodySizes>
     ensures { answer_of result ≡ Sizes.sizes_of s.now }
 {
     if s.len() != 54 {
         return Err(Refusal::InvalidSizesFile);
     }
-    if starts_field(s, 0, 1) {
-        if starts_field(s, 27, 2) {
-            return sizes_in(s, 3, 30);
-        }
-        return Err(Refusal::InvalidSizesFile);
+    if starts_field(s, 0, 1) && starts_field(s, 27, 2) {
+        return sizes_in(s, 3, 30);
     }
-    if starts_field(s, 0, 2) {
-        if starts_field(s, 27, 1) {
-            return sizes_in(s, 30, 3);
-        }
-        return Err(Refusal::InvalidSizesFile);
+    if starts_field(s, 0, 2) && starts_field(s, 27, 1) {
+        return sizes_in(s, 30, 3);
     }
     Err(Refusal::InvalidSizesFile)
 }

@@ -1,5 +1,6 @@
 -- Whether the players' lists are answered: what a list that finds no room tells, and the players one after another. Assumes nothing.
-use Rattle.std.specs.Prelude.{Option, Some, None}
+use Rattle.std.specs.Prelude.{Option, Some, None, Result}
+use Rattle.std.specs.Result.{IsErrAnd}
 use mathlib.Core.Path.{◌≡◌, refl, sym, ap, ◌∙◌}
 use mathlib.Core.Bool.{Bool, true, false, cond}
 use mathlib.Core.List.{List, [], ◌∷◌, ◌++◌}
@@ -10,6 +11,10 @@ use lib.Dec.{eqb, ltb, leb}
 use lib.ListN.{length, drop, take, get_or, drop_of_length-le}
 use lib.Seq.{drop-cons}
 use Rattle.format.specs.Answer.{Answer, answer, refused, mapped, then_answer}
+use Rattle.format.specs.Answers.{answer_of}
+use Rattle.format.specs.Refusal.{number_of}
+use Rattle.format.specs.declared.refusal.Refusal.{Refusal}
+use Rattle.vis.proofs.Chain.{handed_on}
 use Rattle.format.specs.Listed.{Listed, listed, into}
 use Rattle.format.specs.Section.{place, section_of, record_count, within_limit, element_size}
 use Rattle.format.specs.Step.{Step}
@@ -83,24 +88,24 @@ pvs_not22 file map leaf count = go (eqb leaf 0) (leaf_of file map leaf) (leaf_no
     go false (refused n) h = h
 
 -- what is left in a lent list tells whether there is an answer
-pub told_listed : (a : Answer (List ℕ)) (lent l : List ℕ) (n : ℕ) → listed (answer n) l ≡ into a lent → answer 0 ≡ whether a
+pub told_listed : (a : Answer (List ℕ)) (lent l : List ℕ) (n : ℕ) → listed (answer n) l ≡ into a lent → answer tt ≡ whether a
 told_listed (answer xs) lent l n e = refl
 told_listed (refused k) lent l n e =
     let q : ◌≡◌ {A = Answer ℕ} (answer n) (refused k) = ap (λ (x : Listed). x.answered) e in
     let z : ◌≡◌ {A = ℕ} 0 1 = cc in
     absurd (omega arith)
 
-pub told_short : (a : Answer (List ℕ)) (lent l : List ℕ) (k : ℕ) → k ≡ 22 → not22 a → listed (refused k) l ≡ into a lent → answer 0 ≡ whether a
-told_short (answer xs) lent l k s h e = refl
-told_short (refused j) lent l k s h e =
-    let q : ◌≡◌ {A = Answer ℕ} (refused k) (refused j) = ap (λ (x : Listed). x.answered) e in
-    let z : k ≡ j = cc in
-    absurd (h (sym z ∙ s))
+pub told_short : (a : Answer (List ℕ)) (lent l : List ℕ) → not22 a → listed (refused 22) l ≡ into a lent → answer tt ≡ whether a
+told_short (answer xs) lent l h e = refl
+told_short (refused j) lent l h e =
+    let q : ◌≡◌ {A = Answer ℕ} (refused 22) (refused j) = ap (λ (x : Listed). x.answered) e in
+    let z : 22 ≡ j = cc in
+    absurd (h (sym z))
 
 pub told_refused : (a : Answer (List ℕ)) (lent l : List ℕ) (k : ℕ) → (k ≡ 22 → ⊥) → listed (refused k) l ≡ into a lent → refused k ≡ whether a
 told_refused (answer xs) lent l k h e = go (ltb (length lent) (length xs)) (xs ++ drop (length xs) lent) e
   where
-    go : (t : Bool) (m : List ℕ) → listed (refused k) l ≡ cond t (listed (refused 22) lent) (listed (answer (length xs)) m) → ◌≡◌ {A = Answer ℕ} (refused k) (answer 0)
+    go : (t : Bool) (m : List ℕ) → listed (refused k) l ≡ cond t (listed (refused 22) lent) (listed (answer (length xs)) m) → ◌≡◌ {A = Answer Unit} (refused k) (answer tt)
     go true m q =
         let r : ◌≡◌ {A = Answer ℕ} (refused k) (refused 22) = ap (λ (x : Listed). x.answered) q in
         let z : k ≡ 22 = cc in
@@ -109,18 +114,21 @@ told_refused (answer xs) lent l k h e = go (ltb (length lent) (length xs)) (xs +
         let r : ◌≡◌ {A = Answer ℕ} (refused k) (answer (length xs)) = ap (λ (x : Listed). x.answered) q in
         let z : ◌≡◌ {A = ℕ} 0 1 = cc in
         absurd (omega arith)
-told_refused (refused j) lent l k h e = ap (λ (x : Listed). x.answered) e
+told_refused (refused j) lent l k h e =
+    let q : ◌≡◌ {A = Answer ℕ} (refused k) (refused j) = ap (λ (x : Listed). x.answered) e in
+    let z : k ≡ j = cc in
+    rw z
 
 -- the players one after another
 module _ (file : List ℕ) (map : BspData) (count : ℕ) where
-  abbrev pub asked : List ℕ → Answer ℕ
+  abbrev pub asked : List ℕ → Answer Unit
   asked leaves = whether (lists_of file map count leaves)
 
-  first_asked : (leaf : ℕ) (leaves : List ℕ) (n : ℕ) → answer n ≡ whether (pvs_of file map leaf count) → asked leaves ≡ asked (leaf ∷ leaves)
+  first_asked : (leaf : ℕ) (leaves : List ℕ) → answer tt ≡ whether (pvs_of file map leaf count) → asked leaves ≡ asked (leaf ∷ leaves)
   unfolding lists_of
-  first_asked leaf leaves n e = go (pvs_of file map leaf count) (lists_of file map count leaves) e
+  first_asked leaf leaves e = go (pvs_of file map leaf count) (lists_of file map count leaves) e
     where
-      go : (a : Answer (List ℕ)) (b : Answer (List (List ℕ))) → answer n ≡ whether a → whether b ≡ whether (then_answer a (λ l. mapped (λ (ls : List (List ℕ)). l ∷ ls) b))
+      go : (a : Answer (List ℕ)) (b : Answer (List (List ℕ))) → answer tt ≡ whether a → whether b ≡ whether (then_answer a (λ l. mapped (λ (ls : List (List ℕ)). l ∷ ls) b))
       go (answer l) (answer ls) e = refl
       go (answer l) (refused k) e = refl
       go (refused k) b e = let z : ◌≡◌ {A = ℕ} 0 1 = cc in absurd (omega arith)
@@ -133,25 +141,20 @@ module _ (file : List ℕ) (map : BspData) (count : ℕ) where
       go (answer l) b e = let z : ◌≡◌ {A = ℕ} 0 1 = cc in absurd (omega arith)
       go (refused j) b e = e
 
-  none_asked : answer 0 ≡ asked []
+  none_asked : answer tt ≡ asked []
   unfolding lists_of
   none_asked = refl
 
-  module _ (leaves : List ℕ) where
-    -- the players before the i-th are answered
-    abbrev pub Asking : ℕ → Type 0
-    Asking i = (i ≤ length leaves) × (asked (drop i leaves) ≡ asked leaves)
+  -- the players before the i-th are answered
+  module _ (leaves : List ℕ) (i : ℕ) (p : asked (drop i leaves) ≡ asked leaves) where
+    pub ask_ends : length leaves ≤ i → answer tt ≡ asked leaves
+    ask_ends h = none_asked ∙ sym (ap asked (drop_of_length-le leaves h)) ∙ p
 
-    module _ (i : ℕ) (p : Asking i) where
-      pub ask_ends : length leaves ≤ i → answer 0 ≡ asked leaves
-      ask_ends h = none_asked ∙ sym (ap asked (drop_of_length-le leaves h)) ∙ p.1
+    module _ (h : i < length leaves) where
+      pub ask_refused : (e : Refusal) (q : Result Unit Refusal) → refused (number_of e) ≡ whether (pvs_of file map (get_or leaves i 0) count)
+          → IsErrAnd q (λ d. d ≡ e) → answer_of q ≡ asked leaves
+      ask_refused e q r d =
+          handed_on e q d ∙ first_refused (get_or leaves i 0) (drop (suc i) leaves) (number_of e) r ∙ sym (ap asked (drop-cons leaves i 0 h)) ∙ p
 
-      module _ (h : i < length leaves) where
-        pub ask_refused : (k : ℕ) → refused k ≡ whether (pvs_of file map (get_or leaves i 0) count) → refused k ≡ asked leaves
-        ask_refused k e = first_refused (get_or leaves i 0) (drop (suc i) leaves) k e ∙ sym (ap asked (drop-cons leaves i 0 h)) ∙ p.1
-
-        pub ask_next : (n : ℕ) → answer n ≡ whether (pvs_of file map (get_or leaves i 0) count) → Asking (i + 1)
-        ask_next n e = (
-          omega arith,
-          rw add-one (first_asked (get_or leaves i 0) (drop (suc i) leaves) n e ∙ sym (ap asked (drop-cons leaves i 0 h)) ∙ p.1),
-        )
+      pub ask_next : answer tt ≡ whether (pvs_of file map (get_or leaves i 0) count) → asked (drop (i + 1) leaves) ≡ asked leaves
+      ask_next e = rw add-one (first_asked (get_or leaves i 0) (drop (suc i) leaves) e ∙ sym (ap asked (drop-cons leaves i 0 h)) ∙ p)

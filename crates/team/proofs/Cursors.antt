@@ -9,8 +9,7 @@ use native.Mathlib.Omega.{arith}
 use lib.Dec.{leb}
 use lib.ListN.{length, drop, get_or}
 use Rattle.format.specs.Answer.{refused}
-use Rattle.vis.specs.Row.{before, in_byte, row_from}
-use Rattle.vis.specs.Private.{byte_leaves}
+use Rattle.vis.specs.Row.{before, in_byte, row_from, byte_leaves}
 use Rattle.team.specs.SideBySide.{kept_bits}
 use Rattle.vis.proofs.SetBits.{none_set}
 use Rattle.vis.proofs.Rows.{before_none, ended, cut, skipped, byte}

@@ -5,12 +5,12 @@ use mathlib.Core.Path.{◌≡◌, refl, sym, ap, ◌∙◌}
 use mathlib.Core.Bool.{Bool, true, false, cond}
 use mathlib.Core.List.{List, [], ◌∷◌, ◌++◌, append_assoc, append-nil}
 use Prim.Native.Nat.{ℕ, zero, suc, ◌+◌, ◌-◌, ◌<◌, ◌≤◌}
-use native.Mathlib.Nat.{add-zero, min-le_left}
+use native.Mathlib.Nat.{min-le_left}
 use native.Mathlib.Numerals.{add-one}
 use native.Mathlib.Omega.{arith}
 use lib.Dec.{eqb, ltb, leb}
-use lib.ListN.{length, drop, take, get_or, set, length-set, replicate, length-replicate, get_or-replicate, length-take, drop_of_length-le}
-use lib.Seq.{drop-cons, take-set-le, take-suc-set, get_or-take, length-take-le}
+use lib.ListN.{length, drop, take, get_or, set, replicate, length-replicate, get_or-replicate, length-take, drop_of_length-le}
+use lib.Seq.{drop-cons, take-suc-set, get_or-take, length-take-le}
 use Rattle.format.proofs.Listing.{into_short, into_list}
 use Rattle.format.specs.Answer.{Answer, answer, refused, mapped, then_answer}
 use Rattle.format.specs.Listed.{listed, into}
@@ -29,44 +29,16 @@ use Rattle.team.proofs.Unions.{holds_none}
 use Rattle.team.proofs.Pools.{pooled_same, pooled_none}
 use Rattle.team.proofs.Pooled.{first_list}
 
--- ---- one leaf
-
-module _ (file : List ℕ) (map : BspData) (leaf : ℕ) where
-  pub zero_start : leaf ≡ 0 → (0 ≤ 1) × (take 0 (0 ∷ []) ≡ start_of file map leaf)
-  unfolding start_of
-  zero_start e = (omega arith, rw (eq-eqb leaf 0 e))
-
-  module _ (some : leaf ≡ 0 → ⊥) where
-    pub no_leaf_start : (n : ℕ) → refused n ≡ leaf_of file map leaf → (0 ≤ 1) × (take 0 (0 ∷ []) ≡ start_of file map leaf)
-    unfolding start_of
-    no_leaf_start n e = (omega arith, rw (ne_eqb leaf 0 some, ← e))
-
-    module _ (l : BspLeaf) (e : answer l ≡ leaf_of file map leaf) where
-      pub no_offset_start : l.vis_offset ≡ None → (0 ≤ 1) × (take 0 (0 ∷ []) ≡ start_of file map leaf)
-      unfolding start_of
-      no_offset_start o = (omega arith, rw (ne_eqb leaf 0 some, ← e, o))
-
-      pub offset_start : (offset : ℕ) → l.vis_offset ≡ Some offset → (1 ≤ 1) × (take 1 (offset ∷ []) ≡ start_of file map leaf)
-      unfolding start_of
-      offset_start offset o = (omega arith, rw (ne_eqb leaf 0 some, ← e, o))
-
 -- ---- the leaves one after another
-
-write_start : (rows r at : ℕ) (starts : List ℕ) → r ≤ 1 → rows < length starts → take (rows + r) (set starts rows at) ≡ take rows starts ++ take r (at ∷ [])
-write_start rows zero at starts h k = rw (add-zero rows, take-set-le rows starts rows at (omega arith)) (sym (append-nil (take rows starts)))
-write_start rows (suc zero) at starts h k = rw (add-one rows) (take-suc-set starts rows at k)
-write_start rows (suc (suc r)) at starts h k = absurd (omega arith)
 
 module _ (file : List ℕ) (map : BspData) (leaves starts₀ : List ℕ) where
   -- i leaves have given their starts
   pub record Finding (starts : List ℕ) (rows i : ℕ) : Type 0 where
-    pub as_many : length starts ≡ length starts₀
-    pub passed : i ≤ length leaves
     pub few : rows ≤ i
     pub front : take rows starts ++ starts_of file map (drop i leaves) ≡ starts_of file map leaves
 
   pub find_starts : Finding starts₀ 0 0
-  find_starts = record { as_many = refl; passed = omega arith; few = omega arith; front = refl }
+  find_starts = record { few = omega arith; front = refl }
 
   no_starts : starts_of file map [] ≡ []
   unfolding starts_of
@@ -77,28 +49,34 @@ module _ (file : List ℕ) (map : BspData) (leaves starts₀ : List ℕ) where
   next_starts leaf more = refl
 
   module _ (starts : List ℕ) (rows i : ℕ) (p : Finding starts rows i) where
-    pub find_ends : length leaves ≤ i → (rows ≤ length leaves) × (take rows starts ≡ starts_of file map leaves)
-    find_ends h = (
-      omega (arith, p.few, p.passed),
+    pub find_ends : i ≤ length leaves → length leaves ≤ i → (rows ≤ length leaves) × (take rows starts ≡ starts_of file map leaves)
+    find_ends k h = (
+      omega (arith, p.few),
       sym (append-nil (take rows starts)) ∙ ap (λ (l : List ℕ). take rows starts ++ l) (sym (ap (starts_of file map) (drop_of_length-le leaves h) ∙ no_starts)) ∙ p.front,
     )
 
-    pub find_next : length leaves ≤ length starts₀ → i < length leaves → (r at : ℕ) → (r ≤ 1) × (take r (at ∷ []) ≡ start_of file map (get_or leaves i 0))
-        → Finding (set starts rows at) (rows + r) (i + 1)
-    find_next room h r at e =
-        let k : rows < length starts = omega (arith, p.few, p.as_many) in
-        let w = write_start rows r at starts e.0 k in
-        let more = starts_of file map (drop (suc i) leaves) in
-        record {
-          as_many = length-set starts rows at ∙ p.as_many;
-          passed = omega arith;
-          few = omega (arith, p.few, e.0);
-          front = rw (add-one i)
-              (ap (λ (l : List ℕ). l ++ more) (w ∙ ap (λ (l : List ℕ). take rows starts ++ l) e.1)
-              ∙ append_assoc (take rows starts) (start_of file map (get_or leaves i 0)) more
-              ∙ ap (λ (l : List ℕ). take rows starts ++ l) (sym (ap (starts_of file map) (drop-cons leaves i 0 h) ∙ next_starts (get_or leaves i 0) (drop (suc i) leaves)))
-              ∙ p.front);
-        }
+    module _ (h : i < length leaves) where
+      -- the start of one more leaf, if it has one, behind those that are there
+      more : (o : Option ℕ) → offset_in o ≡ start_of file map (get_or leaves i 0)
+          → (take rows starts ++ offset_in o) ++ starts_of file map (drop (i + 1) leaves) ≡ starts_of file map leaves
+      more o e =
+          rw add-one
+          (append_assoc (take rows starts) (offset_in o) (starts_of file map (drop (suc i) leaves))
+          ∙ ap (λ (l : List ℕ). take rows starts ++ (l ++ starts_of file map (drop (suc i) leaves))) e
+          ∙ ap (λ (l : List ℕ). take rows starts ++ l) (sym (ap (starts_of file map) (drop-cons leaves i 0 h) ∙ next_starts (get_or leaves i 0) (drop (suc i) leaves)))
+          ∙ p.front)
+
+      pub find_none : offset_in None ≡ start_of file map (get_or leaves i 0) → Finding starts rows (i + 1)
+      find_none e = record {
+        few = omega (arith, p.few);
+        front = ap (λ (l : List ℕ). l ++ starts_of file map (drop (i + 1) leaves)) (sym (append-nil (take rows starts))) ∙ more None e;
+      }
+
+      pub find_some : (at : ℕ) → rows < length starts → offset_in (Some at) ≡ start_of file map (get_or leaves i 0) → Finding (set starts rows at) (rows + 1) (i + 1)
+      find_some at k e = record {
+        few = omega (arith, p.few);
+        front = ap (λ (l : List ℕ). l ++ starts_of file map (drop (i + 1) leaves)) (rw add-one (take-suc-set starts rows at k)) ∙ more (Some at) e;
+      }
 
 -- ---- the players' lists are the rows at their starts
 
@@ -185,11 +163,11 @@ module _ (file : List ℕ) (map : BspData) (count : ℕ) where
           go (answer ls) e = let z : ◌≡◌ {A = ℕ} 0 1 = cc in absurd (omega arith)
           go (refused j) e = let z : k ≡ j = cc in rw z
 
-      module _ (n : ℕ) (e : answer n ≡ whether (lists_of file map count leaves)) where
+      module _ (e : answer tt ≡ whether (lists_of file map count leaves)) where
         all_lists : (lists : List (List ℕ)) × (answer lists ≡ lists_of file map count leaves)
         all_lists = go (lists_of file map count leaves) e
           where
-            go : (a : Answer (List (List ℕ))) → answer n ≡ whether a → (lists : List (List ℕ)) × (answer lists ≡ a)
+            go : (a : Answer (List (List ℕ))) → answer tt ≡ whether a → (lists : List (List ℕ)) × (answer lists ≡ a)
             go (answer ls) e = (ls, refl)
             go (refused j) e = let z : ◌≡◌ {A = ℕ} 0 1 = cc in absurd (omega arith)
 

@@ -12,8 +12,7 @@ use lib.Dec.{leb}
 use lib.ListN.{length, take, drop, length-append}
 use lib.Seq.{length-take-le, take_all}
 use Rattle.format.specs.Answer.{Answer, answer, refused}
-use Rattle.vis.specs.Row.{bits, visible, in_byte, row_from}
-use Rattle.vis.specs.Private.{byte_leaves}
+use Rattle.vis.specs.Row.{bits, visible, in_byte, row_from, byte_leaves}
 use Rattle.vis.proofs.SetBits.{length_bits, length_visible, ones_in_lem}
 use Rattle.vis.proofs.Rows.{kept_leaves}
 use Rattle.vis.proofs.Passes.{kept_small}

@@ -13,8 +13,7 @@ use Rattle.format.specs.Answer.{Answer, answer, refused, then_answer}
 use Rattle.format.specs.declared.section.BspData.{BspData}
 use Rattle.records.specs.Leaf.{leaf_of}
 use Rattle.records.specs.declared.leaf.BspLeaf.{BspLeaf}
-use Rattle.vis.specs.Row.{bits, before, in_byte, visible, row_from, row_at}
-use Rattle.vis.specs.Private.{byte_leaves}
+use Rattle.vis.specs.Row.{bits, before, in_byte, visible, row_from, row_at, byte_leaves}
 use Rattle.vis.specs.Pvs.{visibility_of, section_row, row_of, pvs_of}
 use Rattle.vis.proofs.SetBits.{length_bits}
 use Rattle.vis.proofs.Rows.{done, none_left, zero_left, zero_byte, bit_byte, kept_leaves}

@@ -11,8 +11,7 @@ use lib.Dec.{eqb, ltb, leb}
 use lib.ListN.{length, drop, get_or, set, length-set}
 use lib.Seq.{get_or-set_same, get_or-set_other}
 use Rattle.format.specs.Answer.{Answer, answer, refused}
-use Rattle.vis.specs.Row.{bits, before, visible, in_byte, row_from}
-use Rattle.vis.specs.Private.{byte_leaves}
+use Rattle.vis.specs.Row.{bits, before, visible, in_byte, row_from, byte_leaves}
 use Rattle.team.specs.Team.{holds, seen}
 use Rattle.team.specs.Starts.{or_none}
 use Rattle.team.specs.SideBySide.{kept_bits, rest_of, rests_of, Whole, Cursors, Together}

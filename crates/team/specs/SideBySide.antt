@@ -2,8 +2,7 @@
 -- The rows of a team side by side: what is left of each from its cursor on, eight leaves at a time.
 use Rattle.std.specs.Prelude.{◌≡◌, ℕ, ◌+◌, ◌*◌, ◌%◌, ◌^◌, ◌<◌, ◌≤◌, true, cond, List, [], ◌∷◌, length, drop, get_or}
 use Rattle.format.specs.Answer.{refused}
-use Rattle.vis.specs.Row.{in_byte, row_from}
-use Rattle.vis.specs.Private.{byte_leaves}
+use Rattle.vis.specs.Row.{in_byte, row_from, byte_leaves}
 use Rattle.team.specs.Team.{holds, seen}
 use Rattle.team.specs.Starts.{or_none}
 

@@ -9,8 +9,8 @@ use Rattle.records.specs.declared.leaf.BspLeaf.{BspLeaf}
 use Rattle.vis.specs.Pvs.{visibility_of}
 
 -- whether there is an answer, or with what it is refused
-abbrev pub whether : {A : Type 0} → Answer A → Answer ℕ
-whether (answer a) = answer 0
+abbrev pub whether : {A : Type 0} → Answer A → Answer Unit
+whether (answer a) = answer tt
 whether (refused n) = refused n
 
 -- the entries of an answer, none of a refusal

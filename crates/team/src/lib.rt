@@ -14,6 +14,7 @@ mod pool;
 
 // Lists the leaves that one of up to 16 players sees, of as many leaves as the caller says, from the players' leaves. The lent list gets
 // them at its front in order, each once, and its other entries are kept; a refusal writes nothing.
+#[tactic(auto, using(format::proofs::Listing::into_none, crate::proofs::Found::too_many, crate::proofs::Found::team_refused, crate::proofs::Found::team_whole, crate::proofs::Found::team_lies, crate::proofs::Found::team_rows, crate::proofs::Found::team_none, crate::proofs::Found::none_found, crate::proofs::Found::some_found))]
 pub fn pvs_team(
     file: &[u8],
     map: BspData,
@@ -26,10 +27,7 @@ pub fn pvs_team(
     if 16 < leaves.len() {
         return Err(Refusal::TooManyPlayers);
     }
-    let told = players::ask_all(file, map, leaves, leaf_count);
-    let Ok(_) = told else {
-        return told;
-    };
+    players::ask_all(file, map, leaves, leaf_count)?;
     let mut starts = [0usize; 16];
     let rows = players::find_rows(file, map, leaves, &mut starts);
     if rows == 0 {

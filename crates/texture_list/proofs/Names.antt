@@ -48,7 +48,8 @@ lowered_zero b = by (ltb b 65) (ltb 90 b)
     by false false e = absurd (omega (arith, e))
 
 -- eight bytes as a number, of which those past a list are zeros
-pub number_is : (xs : List ℕ) → length xs ≤ 8 → from_le_bytes w64 (xs ++ drop (length xs) (replicate 8 0)) ≡ little_endian xs
+pub number_is : (xs : List ℕ) → length xs ≤ 8
+    → from_le_bytes w64 (get_or xs 0 0 ∷ get_or xs 1 0 ∷ get_or xs 2 0 ∷ get_or xs 3 0 ∷ get_or xs 4 0 ∷ get_or xs 5 0 ∷ get_or xs 6 0 ∷ get_or xs 7 0 ∷ []) ≡ little_endian xs
 unfolding little_endian
 number_is [] h = refl
 number_is (a ∷ []) h = omega arith

@@ -1,6 +1,7 @@
 // What is answered of a texture by its number in the file.
 // A texture by its number in the file: whether it is there; the 16 bytes of its name, lowered, with zeros from the first zero on, as two
-// numbers whose lowest byte comes first; its width and height. An absent one has zeros.
+// numbers whose lowest byte comes first; its width and height. An absent one has zeros: these are the words that C reads, so the flag is a
+// word and no `Option`.
 #[derive(Clone, Copy)]
 pub struct BspTexture {
     pub present: bool,

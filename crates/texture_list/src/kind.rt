@@ -31,6 +31,8 @@ const NO_KEY: Key = Key {
 };
 
 // The name of the texture of a number in the file.
+// Set in where it is called: who asks for the kind of a texture alone does not read the rest of its name then.
+#[inline(always)]
 #[tactic(auto, unfolding(crate::specs::Kind::key_of))]
 pub fn key_of(s: &[u8], base: u32, index: u32) -> Key
     ensures { result ≡ key_of s.now base index }

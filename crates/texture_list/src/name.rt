@@ -20,6 +20,7 @@ pub fn is_ascii(s: &[u8], at: usize) -> bool
 }
 
 // The 16 bytes of the name at a position: lowered, with zeros from the first zero on.
+#[inline(always)]
 pub fn read_name(s: &[u8], at: usize) -> [u8; 16]
     requires { at ≤ 17179869184 }
     ensures { result ≡ name_at s.now at }
@@ -35,17 +36,27 @@ pub fn read_name(s: &[u8], at: usize) -> [u8; 16]
     name
 }
 
-// At most eight bytes as a number, the lowest first.
+// At most eight bytes as a number, the lowest first. (Copied into a list of eight they would go through memory, which is slower.)
+#[tactic(auto, using(crate::proofs::Names::number_is))]
 pub fn number_of(bytes: &[u8]) -> u64
     requires { length bytes.now ≤ 8 }
     ensures { result ≡ little_endian bytes.now }
 {
-    let mut all = [0; 8];
-    all[..bytes.len()].copy_from_slice(bytes);
-    u64::from_le_bytes(all)
+    let byte = |i: usize| bytes.get(i).copied().unwrap_or(0);
+    u64::from_le_bytes([
+        byte(0),
+        byte(1),
+        byte(2),
+        byte(3),
+        byte(4),
+        byte(5),
+        byte(6),
+        byte(7),
+    ])
 }
 
 // The key of the name at a position.
+#[inline(always)]
 #[tactic(auto, unfolding(crate::specs::Key::key_at))]
 pub fn read_key(s: &[u8], at: usize) -> Key
     requires { at ≤ 17179869184 }

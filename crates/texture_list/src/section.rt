@@ -81,7 +81,7 @@ fn read_list(s: &[u8], base: u32, count: u32, first: usize, end: usize) -> Answe
     Ok(end)
 }
 
-// The offsets of the list alone.
+// The offsets of the list alone; `count` is the file's number of textures, not the length of `s`.
 fn read_offsets(s: &[u8], count: u32, first: usize) -> Answer<usize>
     ensures { position_step result ≡ records offset_at s.now count first }
 {

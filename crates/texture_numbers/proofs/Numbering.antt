@@ -5,32 +5,15 @@ use mathlib.Core.Path.{◌≡◌, refl, sym, ap, ◌∙◌}
 use mathlib.Core.Bool.{Bool, true, false, cond}
 use mathlib.Core.List.{List}
 use native.Mathlib.Omega.{arith}
-use borrow.Author.Tests.{eqb-true, eqb-false, eq-eqb, ne_eqb, ltb-true, ltb-false, lt-ltb, le-ltb}
+use borrow.Author.Tests.{eqb-true, eqb-false, ne_eqb, ltb-true, ltb-false, lt-ltb, le-ltb}
 use lib.Dec.{eqb, ltb}
+use mir.Val.{bool_byte}
 use lib.ListN.{length, get_or, set}
 use lib.Seq.{get_or-set_same, get_or-set_other}
 use Rattle.textures.specs.Count.{count, values_below}
-use Rattle.textures.proofs.Firsts.{counts_next}
+use Rattle.textures.proofs.Firsts.{flag_more}
 use Rattle.textures.proofs.Leads.{each_is}
 use Rattle.texture_numbers.specs.Renumber.{has_none, leads, number_in, Led, Partly}
-
--- the ways through `same`
-pub same_one : (a b : ℕ) → a ≡ b → ◌≡◌ {A = ℕ} 1 (cond (eqb a b) 1 0)
-same_one a b e = rw (eq-eqb a b e) refl
-
-pub same_zero : (a b : ℕ) → (a ≡ b → ⊥) → ◌≡◌ {A = ℕ} 0 (cond (eqb a b) 1 0)
-same_zero a b e = rw (ne_eqb a b e) refl
-
--- the ways through `number_of`
-module _ (list : List ℕ) (first index before statics firsts : ℕ) where
-  pub of_static : first ≡ 4294967295 → before ≡ cond (eqb first 4294967295) before (cond (eqb first index) (statics + firsts) (get_or list first 0))
-  of_static e = rw (eq-eqb first 4294967295 e) refl
-
-  pub of_first : (first ≡ 4294967295 → ⊥) → first ≡ index → statics + firsts ≡ cond (eqb first 4294967295) before (cond (eqb first index) (statics + firsts) (get_or list first 0))
-  of_first z e = rw (ne_eqb first 4294967295 z, eq-eqb first index e) refl
-
-  pub of_later : (first ≡ 4294967295 → ⊥) → (first ≡ index → ⊥) → get_or list first 0 ≡ cond (eqb first 4294967295) before (cond (eqb first index) (statics + firsts) (get_or list first 0))
-  of_later z e = rw (ne_eqb first 4294967295 z, ne_eqb first index e) refl
 
 module _ (l : List ℕ) where
   pub starts : Partly l 0 l
@@ -66,11 +49,11 @@ module _ (l : List ℕ) where
             let n = eqb-false (get_or l j 0) j f in
             rw (e, f) (later_is z (omega (arith, n, (led j inside z).0)) ∙ rw e refl)
 
-    pub counts_none : (before one : ℕ) → before ≡ count (has_none l) j → one ≡ cond (eqb (get_or list j 0) 4294967295) 1 0 → before + one ≡ count (has_none l) (j + 1)
-    counts_none before one eb e = counts_next (has_none l) j before eb one (e ∙ ap (λ (x : ℕ). cond (eqb x 4294967295) 1 0) first_is)
+    pub counts_none : (before : ℕ) → before ≡ count (has_none l) j → before + bool_byte (eqb (get_or list j 0) 4294967295) ≡ count (has_none l) (j + 1)
+    counts_none before e = flag_more (has_none l) j before _ e (ap (λ (x : ℕ). eqb x 4294967295) first_is)
 
-    pub counts_first : (firsts one : ℕ) → firsts ≡ count (leads l) j → one ≡ cond (eqb (get_or list j 0) j) 1 0 → firsts + one ≡ count (leads l) (j + 1)
-    counts_first firsts one ef e = counts_next (leads l) j firsts ef one (e ∙ ap (λ (x : ℕ). cond (eqb x j) 1 0) first_is)
+    pub counts_first : (firsts : ℕ) → firsts ≡ count (leads l) j → firsts + bool_byte (eqb (get_or list j 0) j) ≡ count (leads l) (j + 1)
+    counts_first firsts e = flag_more (leads l) j firsts _ e (ap (λ (x : ℕ). eqb x j) first_is)
 
     pub next : (x : ℕ) → length list ≡ length l → x ≡ number_in l j → Partly l (j + 1) (set list j x)
     next x k e i h = by (eqb i j) refl

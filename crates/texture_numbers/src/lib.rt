@@ -15,32 +15,21 @@ use textures::earliest::earliest_textures;
 // What stands for a static texture, which has no stem.
 const NONE: u32 = 4294967295;
 
-// 1 where two numbers are the same.
-fn same(a: u32, b: u32) -> u32
-    ensures { result ≡ cond (eqb a b) 1 0 }
-{
-    if a == b {
-        return 1;
-    }
-    0
-}
-
 // How many textures are static.
 fn count_static(list: &[u32]) -> u32
     requires { length list.now ≤ 2097152 }
     ensures { result ≡ count (has_none list.now) (length list.now) }
 {
-    let mut i: usize = 0;
-    let mut n: u32 = 0;
-    while i < list.len() {
-        n = n + same(list[i], NONE);
-        i = i + 1;
+    let mut n = 0;
+    for &first in list {
+        n += u32::from(first == NONE);
     }
     n
 }
 
 // The new number of a texture, where `first` is the first one with its stem: so many static textures and firsts are before it, and all textures
 // before it have their numbers.
+#[tactic(auto, using(format::proofs::Chain::tests))]
 fn number_of(list: &[u32], first: u32, index: u32, before: u32, statics: u32, firsts: u32) -> u32
     requires { (statics + firsts < 4294967296) × ((first ≡ 4294967295 → ⊥) → first < length list.now) }
     ensures { result ≡ cond (eqb first 4294967295) before (cond (eqb first index) (statics + firsts) (get_or list.now first 0)) }
@@ -60,16 +49,14 @@ fn number_all(list: &mut [u32])
     ensures { list.new ≡ values_below (number_in list.old) (length list.old) }
 {
     let statics = count_static(list);
-    let mut i: usize = 0;
-    let mut before: u32 = 0;
-    let mut firsts: u32 = 0;
-    while i < list.len() {
+    let mut before = 0;
+    let mut firsts = 0;
+    for i in 0..list.len() {
         let first = list[i];
         let number = number_of(list, first, i as u32, before, statics, firsts);
-        before = before + same(first, NONE);
-        firsts = firsts + same(first, i as u32);
+        before += u32::from(first == NONE);
+        firsts += u32::from(first == i as u32);
         list[i] = number;
-        i = i + 1;
     }
 }
 
@@ -78,12 +65,7 @@ fn number_all(list: &mut [u32])
 pub fn texture_numbers(file: &[u8], map: BspData, list: &mut [u32]) -> Answer<u32>
     ensures { listed (answer_of result) list.new ≡ into (texture_numbers file.now map) list.old }
 {
-    match earliest_textures(file, map, list) {
-        Err(e) => Err(e),
-        Ok(count) => {
-            let end = count as usize;
-            number_all(&mut list[..end]);
-            Ok(count)
-        }
-    }
+    let count = earliest_textures(file, map, list)?;
+    number_all(&mut list[..count as usize]);
+    Ok(count)
 }

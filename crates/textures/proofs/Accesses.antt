@@ -1,8 +1,6 @@
 -- The ways through the accessors of textures.
 -- Assumes nothing.
-use Rattle.std.specs.Prelude.{Result, Ok, Err}
 use Prim.Native.Nat.{ℕ, ◌-◌, ◌<◌, ◌≤◌}
-use Rattle.format.specs.Answers.{answer_of}
 use mathlib.Core.Path.{◌≡◌, refl, sym, ◌∙◌}
 use mathlib.Core.Bool.{Bool, true, false, ◌&&◌, cond}
 use mathlib.Core.List.{List}
@@ -10,17 +8,13 @@ use native.Mathlib.Omega.{arith}
 use borrow.Author.Tests.{ne_eqb, le-ltb, leb-true, le-leb, lt-leb}
 use lib.Dec.{eqb, ltb}
 use Rattle.format.specs.Answer.{Answer, answer, refused, then_answer}
-use Rattle.format.specs.Refusal.{number_of}
-use Rattle.format.specs.declared.refusal.Refusal.{Refusal}
 use Rattle.format.specs.declared.section.BspData.{BspData}
-use Rattle.records.specs.Texinfo.{texinfo_of}
 use Rattle.records.specs.declared.texinfo.BspTexInfo.{BspTexInfo}
-use Rattle.sections.specs.Answers.{position_step}
 use Rattle.texture_list.specs.Kind.{lettered}
 use Rattle.textures.specs.Count.{count, lowest, nth}
-use Rattle.textures.specs.Group.{is_static, is_first, alike, precedes, place_of, within, sequenced, numbered_by, static_by, frame_by}
-use Rattle.texture_list.specs.List.{textures_at, names_of}
-use Rattle.textures.specs.Access.{sound_at, is_sound, info_at, names_in, frame_texture, static_texture, renumbered, texture_info}
+use Rattle.textures.specs.Group.{is_static, is_first, alike, precedes, place_of, within, numbered_by, static_by, frame_by}
+use Rattle.texture_list.specs.List.{names_of}
+use Rattle.textures.specs.Access.{sound_at, is_sound, info_at, names_in, frame_texture, static_texture, renumbered}
 use Rattle.textures.proofs.Marks.{any_none, and_left}
 use Rattle.textures.proofs.Firsts.{count_below, lowest_none}
 

@@ -6,7 +6,7 @@ use mathlib.Core.Bool.{Bool, true, false, ◌||◌, cond}
 use mathlib.Core.List.{List, [], ◌∷◌, ◌++◌}
 use native.Mathlib.Nat.{not-suc-le-zero}
 use native.Mathlib.Omega.{arith}
-use borrow.Author.Tests.{eqb-true, eqb-false, eq-eqb, ltb-true, ltb-false, lt-ltb, le-ltb}
+use borrow.Author.Tests.{eqb-true, eqb-false, eq-eqb, ltb-true, ltb-false, lt-ltb}
 use lib.Dec.{eqb, ltb}
 use lib.ListN.{length, get_or, set, replicate, drop, get_or-replicate}
 use lib.Seq.{get_or-set_same, get_or-set_other}
@@ -22,9 +22,8 @@ use Rattle.texture_list.specs.List.{names_of}
 use Rattle.textures.specs.Table.{holds, seek, Filled, hits, earliest_of, is_like, known_of, Known, KnownTo, Heads}
 use Rattle.textures.specs.Sieve.{SameNode}
 use Rattle.texture_list.specs.declared.kind.Kind.TheVariants.{Animated}
-use Rattle.textures.specs.declared.table.Located.{Located}
-use Rattle.textures.specs.declared.table.Located.TheVariants.{At}
-use Rattle.textures.proofs.Tables.{true_false, at_at, found_node}
+use Rattle.std.specs.Prelude.{Option, Some}
+use Rattle.textures.proofs.Tables.{true_false, found_node}
 use Rattle.textures.proofs.Marks.{any_next, any_below, any_at, any_none, any_same, and_left, and_right, holds_seek}
 use Rattle.textures.proofs.Firsts.{lowest_at}
 use Rattle.textures.proofs.Numbers.{lowest_same, animated_is, like_is}
@@ -172,18 +171,18 @@ module _ (p : ℕ → Bool) (ka kb : ℕ → ℕ) where
     stays_static e = (sym (known_no to j e), heads_skip (λ v a b c. rw e refl))
 
     -- a texture whose stem no texture before the part has
-    module _ (passes : p j ≡ true) (unknown : known_of p ka kb from j ≡ 4294967295) (l : Located) (is : SameNode l (seek t (ka j) (kb j) 145 0 0)) where
+    module _ (passes : p j ≡ true) (unknown : known_of p ka kb from j ≡ 4294967295) (l : Option ℕ) (is : SameNode l (seek t (ka j) (kb j) 145 0 0)) where
       not_before : any (is_like p ka kb j) from ≡ false
       not_before = is_none (is_like p ka kb j) from (omega (arith, after, small)) (sym (known_some from j passes) ∙ unknown)
 
-      misses : (v : ℕ) → 0 < v → v < w → (l ≡ At v → ⊥) → hits p ka kb t v j ≡ false
+      misses : (v : ℕ) → 0 < v → v < w → (l ≡ Some v → ⊥) → hits p ka kb t v j ≡ false
       misses v h k z = by (holds t v (ka j) (kb j)) refl
         where
           by : (x : Bool) → holds t v (ka j) (kb j) ≡ x → hits p ka kb t v j ≡ false
           by true e = absurd (z (is.1 v (holds_seek t w filled.table v (ka j) (kb j) h k e)))
           by false e = rw (passes, e) refl
 
-      pub not_in_part : ((v : ℕ) → l ≡ At v → ⊥) → (4294967295 ≡ known_of p ka kb to j) × Heads p ka kb t w from heads (j + 1)
+      pub not_in_part : ((v : ℕ) → l ≡ Some v → ⊥) → (4294967295 ≡ known_of p ka kb to j) × Heads p ka kb t w from heads (j + 1)
       not_in_part z = (sym (known_some to j passes ∙ none_yet (is_like p ka kb j) to (any_none _ to one)), heads_skip (λ v a b c. misses v a b (z v)))
         where
           found : (i : ℕ) → from ≤ i → i < to → is_like p ka kb j i ≡ true → ⊥
@@ -202,7 +201,7 @@ module _ (p : ℕ → Bool) (ka kb : ℕ → ℕ) where
               by false true e f = absurd (found i (ltb-false i from e) h f)
               by false false e f = f
 
-      module _ (v : ℕ) (at : l ≡ At v) where
+      module _ (v : ℕ) (at : l ≡ Some v) where
         node : (0 < v) × ((v < w) × (holds t v (ka j) (kb j) ≡ true))
         node = found_node t w filled.table.below (ka j) (kb j) 145 0 0 v filled.table.some (omega arith) (is.0 v at)
 
@@ -227,8 +226,11 @@ module _ (p : ℕ → Bool) (ka kb : ℕ → ℕ) where
         any_in_part : any (is_like p ka kb j) to ≡ true
         any_in_part = any_at _ to in_part.number in_part.below in_part.passes
 
+        same : (u : ℕ) → Some u ≡ Some v → u ≡ v
+        same u e = cc
+
         others : (u : ℕ) → 0 < u → u < w → (u ≡ v → ⊥) → hits p ka kb t u j ≡ false
-        others u h k z = misses u h k (λ e. z (at_at u v (sym e ∙ at)))
+        others u h k z = misses u h k (λ e. z (same u (sym e ∙ at)))
 
         pub has_head : (get_or heads v 0 ≡ 4294967295 → ⊥) → (get_or heads v 0 ≡ known_of p ka kb to j) × Heads p ka kb t w from heads (j + 1)
         has_head z =
@@ -269,8 +271,8 @@ module _ (p : ℕ → Bool) (ka kb : ℕ → ℕ) where
 
   -- ---- all textures, and part by part
 
-  pub no_heads : (t : List ℕ) (w from : ℕ) (heads : List ℕ) → heads ≡ replicate (length heads) 4294967295 → w ≤ length heads → Heads p ka kb t w from heads from
-  no_heads t w from heads e room v h k f = ap (λ (l : List ℕ). get_or l v 0) e ∙ (get_or-replicate (length heads) v 4294967295 0 (omega (arith, k, room)) ∙ sym (none_yet (hits p ka kb t v) from f))
+  pub no_heads : (t : List ℕ) (w from : ℕ) (heads : List ℕ) → heads ≡ replicate w 4294967295 → Heads p ka kb t w from heads from
+  no_heads t w from heads e v h k f = ap (λ (l : List ℕ). get_or l v 0) e ∙ (get_or-replicate w v 4294967295 0 k ∙ sym (none_yet (hits p ka kb t v) from f))
 
   module _ (n from to : ℕ) (order : from ≤ to) where
     pub known_start : (list : List ℕ) → Known p ka kb n from list → KnownTo p ka kb n from to from list
@@ -280,34 +282,12 @@ module _ (p : ℕ → Bool) (ka kb : ℕ → ℕ) where
         by true e = rw e (known_before from to i order (ltb-true i from e))
         by false e = rw e refl
 
-    pub known_at : (list : List ℕ) (j : ℕ) → j < n → KnownTo p ka kb n from to j list → get_or list j 0 ≡ known_of p ka kb from j
-    known_at list j h known = known j h ∙ rw (le-ltb j j (omega arith)) refl
-
-    pub known_next : (list : List ℕ) (j x : ℕ) → j < length list → x ≡ known_of p ka kb to j → KnownTo p ka kb n from to j list → KnownTo p ka kb n from to (j + 1) (set list j x)
-    known_next list j x room e known i h = by (eqb i j) refl
-      where
-        by : (y : Bool) → eqb i j ≡ y → get_or (set list j x) i 0 ≡ known_of p ka kb (cond (ltb i (j + 1)) to from) i
-        by true g =
-            let q : i ≡ j = eqb-true i j g in
-            rw (q, lt-ltb j (j + 1) (omega arith)) (get_or-set_same list j x 0 room ∙ e)
-        by false g = get_or-set_other list j i x 0 (eqb-false i j g) ∙ (known i h ∙ ap (λ (b : Bool). known_of p ka kb (cond b to from) i) (sym (same_side_lem (eqb-false i j g))))
-          where
-            same_side_lem : (i ≡ j → ⊥) → ltb i (j + 1) ≡ ltb i j
-            same_side_lem z = side (ltb i j) refl
-              where
-                side : (y : Bool) → ltb i j ≡ y → ltb i (j + 1) ≡ y
-                side true e = lt-ltb i (j + 1) (omega (arith, ltb-true i j e))
-                side false e = le-ltb i (j + 1) (omega (arith, ltb-false i j e, z))
-
     pub known_all : (list : List ℕ) (j : ℕ) → n ≤ j → KnownTo p ka kb n from to j list → Known p ka kb n to list
     known_all list j h known i k = known i k ∙ rw (lt-ltb i j (omega (arith, h, k))) refl
 
-  pub known_end : (n m : ℕ) (list : List ℕ) → m ≤ n → n ≤ m → Known p ka kb n m list → Known p ka kb n n list
-  known_end n m list h k known = let e : m ≡ n = omega (arith, h, k) in subst (λ (x : ℕ). Known p ka kb n x list) e known
-
-  pub known_none : (n : ℕ) (list : List ℕ) → length list ≡ n → list ≡ replicate (length list) 4294967295 → Known p ka kb n 0 list
+  pub known_none : (n : ℕ) (list : List ℕ) → list ≡ replicate n 4294967295 → Known p ka kb n 0 list
   unfolding any
-  known_none n list e f i h = ap (λ (l : List ℕ). get_or l i 0) f ∙ (get_or-replicate (length list) i 4294967295 0 (omega (arith, e, h)) ∙ by (p i) refl)
+  known_none n list f i h = ap (λ (l : List ℕ). get_or l i 0) f ∙ (get_or-replicate n i 4294967295 0 h ∙ by (p i) refl)
     where
       by : (x : Bool) → p i ≡ x → 4294967295 ≡ known_of p ka kb 0 i
       by true g = sym (known_some 0 i g ∙ none_yet (is_like p ka kb i) 0 refl)

@@ -13,3 +13,4 @@ pub mod Leads
 mod Places
 pub mod Accesses
 mod Trials
+mod Scans

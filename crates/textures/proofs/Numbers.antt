@@ -5,17 +5,16 @@ use mathlib.Core.Path.{◌≡◌, refl, sym, ap, ◌∙◌, subst}
 use mathlib.Core.Bool.{Bool, true, false, not, ◌&&◌}
 use mathlib.Core.List.{List}
 use native.Mathlib.Omega.{arith}
-use borrow.Author.Tests.{eq-eqb, ne_eqb, ltb-true, ltb-false, lt-ltb, le-ltb}
+use borrow.Author.Tests.{ltb-true, ltb-false}
 use lib.Dec.{eqb, ltb}
 use lib.ListN.{get_or}
-use Rattle.format.specs.Answer.{answer, refused}
+use Rattle.format.specs.Answer.{Answer}
 use Rattle.texture_list.specs.Name.{is_animated}
 use Rattle.textures.specs.Count.{any, count, lowest, nth}
-use Rattle.textures.specs.Group.{alike, is_static, is_first, numbered_by, static_by}
+use Rattle.textures.specs.Group.{alike, is_static, is_first, within, numbered_by, static_by}
 use Rattle.texture_list.specs.Kind.{is_of, is_kind, key_of, passing, starts, ends}
 use Rattle.texture_list.specs.List.{names_of}
 use Rattle.textures.specs.Table.{is_earliest, Reached}
-use Rattle.texture_list.specs.declared.kind.Kind.{Kind}
 use Rattle.texture_list.specs.declared.kind.Kind.TheVariants.{Animated}
 use Rattle.texture_list.specs.declared.kind.Key.{Key}
 use Rattle.texture_list.proofs.Keys.{kind_is, same_is}
@@ -29,17 +28,6 @@ pub lowest_same : (p q : ℕ → Bool) (n : ℕ) → ((i : ℕ) → p i ≡ q i)
 unfolding lowest
 lowest_same p q zero h = refl
 lowest_same p q (suc n) h = rw (any_same p q n h, lowest_same p q n h, h n) refl
-
--- the ways through `is_like`
-module _ (kind : Kind) (key of : Key) (is_key : key ≡ of) (x : Bool) (is-kind : x ≡ is_kind kind key) (a b : ℕ) where
-  pub like_both : (y : Bool) → x ≡ true → a ≡ key.stem_start → eqb b key.stem_end ≡ y → y ≡ (is_kind kind of && (eqb a of.stem_start && eqb b of.stem_end))
-  like_both y e f g = rw (← is_key, ← is-kind, e, eq-eqb a key.stem_start f) (sym g)
-
-  pub like_not : x ≡ true → (a ≡ key.stem_start → ⊥) → false ≡ (is_kind kind of && (eqb a of.stem_start && eqb b of.stem_end))
-  like_not e f = rw (← is_key, ← is-kind, e, ne_eqb a key.stem_start f) refl
-
-  pub like_none : x ≡ false → false ≡ (is_kind kind of && (eqb a of.stem_start && eqb b of.stem_end))
-  like_none e = rw (← is_key, ← is-kind, e) refl
 
 -- the ways through a loop that looks for the lowest
 module _ (p : ℕ → Bool) (n i : ℕ) (none : any p i ≡ false) where
@@ -103,10 +91,6 @@ module _ (s : List ℕ) (base n k at seen : ℕ) (reached : Reached (λ i. not (
   nth_static_is : nth (is_static (names_of s base)) k n ≡ at
   nth_static_is = nth_same _ _ k n (λ i. ap not (animated_is s base i)) ∙ reached_nth _ k n at seen reached
 
-  pub finds_static : at < n → answer at ≡ static_by (names_of s base) n k
+  pub static_within : (r : Answer ℕ) → r ≡ within n at → r ≡ static_by (names_of s base) n k
   unfolding static_by
-  finds_static h = rw nth_static_is (simp (lt-ltb at n h))
-
-  pub finds_no_static : n ≤ at → refused 20 ≡ static_by (names_of s base) n k
-  unfolding static_by
-  finds_no_static h = rw nth_static_is (simp (le-ltb at n h))
+  static_within r e = rw nth_static_is e

@@ -3,18 +3,18 @@
 use Rattle.std.specs.Prelude.{Option, Some, None}
 use Prim.Native.Nat.{ℕ, zero, suc, ◌+◌, ◌*◌, ◌-◌, ◌<◌, ◌≤◌}
 use mathlib.Core.Path.{◌≡◌, refl, sym, ap, ◌∙◌, subst}
-use mathlib.Core.Bool.{Bool, true, false, not, ◌&&◌, ◌||◌, cond}
+use mathlib.Core.Bool.{Bool, true, false, not, ◌&&◌, ◌||◌}
 use mathlib.Core.List.{List, [], ◌∷◌}
 use native.Mathlib.Omega.{arith}
-use borrow.Author.Tests.{eqb-true, eq-eqb, ne_eqb, lt-ltb, le-ltb, leb-true, le-leb}
+use borrow.Author.Tests.{eqb-true, eq-eqb, lt-ltb, le-ltb, leb-true, le-leb}
 use lib.Dec.{eqb, ltb, leb}
 use lib.ListN.{get_or}
-use Rattle.format.specs.Answer.{answer, refused}
+use Rattle.format.specs.Answer.{Answer, refused}
 use Rattle.format.specs.Step.{Step, ok}
 use Rattle.records.specs.Number.{offset_at}
 use Rattle.texture_list.specs.Name.{chars, stem_of, same, less}
 use Rattle.textures.specs.Count.{any, count, lowest, nth}
-use Rattle.textures.specs.Group.{alike, is_static, is_first, precedes, place_of, frame_by}
+use Rattle.textures.specs.Group.{alike, is_static, is_first, precedes, place_of, within, frame_by}
 use Rattle.texture_list.specs.Key.{key_at}
 use Rattle.texture_list.specs.Kind.{passing, starts, ends, key_by, key_of, lettered, grouped, is_frame, framed, frames}
 use Rattle.texture_list.specs.List.{name_of, names_of}
@@ -78,34 +78,6 @@ less_frames a f g stem = rw (le-ltb a a (omega arith), eq-eqb a a refl, less_sel
 same_frames : (a f g : ℕ) (stem : List ℕ) → same (a ∷ f ∷ stem) (a ∷ g ∷ stem) ≡ eqb f g
 unfolding same
 same_frames a f g stem = rw (eq-eqb a a refl, same_self stem) (and_true (eqb f g))
-
--- ---- the ways through `is_frame` and `frame_one`
-
-module _ (k : Key) (a b c : ℕ) where
-  pub not_animated : (k.first ≡ 43 → ⊥) → false ≡ is_frame k a b c
-  unfolding is_frame
-  not_animated h = rw (ne_eqb k.first 43 h) refl
-
-  module _ (e : k.first ≡ 43) where
-    pub other_letter : (k.frame ≡ c → ⊥) → false ≡ is_frame k a b c
-    unfolding is_frame
-    other_letter h = rw (eq-eqb k.first 43 e, ne_eqb k.frame c h) refl
-
-    module _ (f : k.frame ≡ c) where
-      pub other_start : (a ≡ k.stem_start → ⊥) → false ≡ is_frame k a b c
-      unfolding is_frame
-      other_start h = rw (eq-eqb k.first 43 e, eq-eqb k.frame c f, ne_eqb a k.stem_start h) refl
-
-      pub end_decides : (y : Bool) → a ≡ k.stem_start → eqb b k.stem_end ≡ y → y ≡ is_frame k a b c
-      unfolding is_frame
-      end_decides y h g = rw (eq-eqb k.first 43 e, eq-eqb k.frame c f, eq-eqb a k.stem_start h) (sym g)
-
-module _ (key of : Key) (is : key ≡ of) (a b c : ℕ) (x : Bool) (asked : x ≡ is_frame key a b c) where
-  pub one_frame : x ≡ true → ◌≡◌ {A = ℕ} 1 (cond (is_frame of a b c) 1 0)
-  one_frame e = rw (← is, ← asked, e) refl
-
-  pub no_frame : x ≡ false → ◌≡◌ {A = ℕ} 0 (cond (is_frame of a b c) 1 0)
-  no_frame e = rw (← is, ← asked, e) refl
 
 -- ---- names and keys
 
@@ -282,10 +254,6 @@ module _ (lo : ℕ) (s : List ℕ) (bytes : (i : ℕ) → get_or s i 0 < 256) (b
         found_is : lowest (λ j. alike (lettered lo) (names_of s base) at j && eqb (place_of (lettered lo) (names_of s base) n j) place) n ≡ j
         found_is = lowest_is at n place ∙ sym (subst (λ (k : Key). j ≡ lowest (λ j. grouped lo s base k.stem_start k.stem_end j && eqb (ranked (grouped lo s base k.stem_start k.stem_end) (frames s base) n j) place) n) is_key is-j)
 
-        pub frame_found : j < n → answer j ≡ frame_by (lettered lo) (names_of s base) n number place
+        pub frame_within : (r : Answer ℕ) → r ≡ within n j → r ≡ frame_by (lettered lo) (names_of s base) n number place
         unfolding frame_by
-        frame_found h = rw (static_count, first_at) (simp (le-ltb number st above, lt-ltb at n inside) (rw found_is (simp (lt-ltb j n h))))
-
-        pub frame_missing : n ≤ j → refused 20 ≡ frame_by (lettered lo) (names_of s base) n number place
-        unfolding frame_by
-        frame_missing h = rw (static_count, first_at) (simp (le-ltb number st above, lt-ltb at n inside) (rw found_is (simp (le-ltb j n h))))
+        frame_within r e = rw (static_count, first_at) (simp (le-ltb number st above, lt-ltb at n inside) (rw found_is e))

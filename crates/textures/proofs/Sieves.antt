@@ -1,11 +1,12 @@
 -- The sieve: the table has no stem that it may not have.
 -- Assumes nothing.
 use Prim.Native.Nat.{ℕ, ◌+◌, ◌*◌, ◌<◌, ◌≤◌}
-use mathlib.Core.Path.{◌≡◌, refl, sym, ap, ◌∙◌, subst}
+use mathlib.Core.Path.{◌≡◌, refl, sym, ap, ◌∙◌}
 use mathlib.Core.Bool.{Bool, true, false}
-use mathlib.Core.List.{List}
+use mathlib.Core.List.{List, []}
+use Rattle.std.specs.Prelude.{Option, Some, None}
 use native.Mathlib.Omega.{arith}
-use borrow.Author.Tests.{eqb-true, eqb-false, ne_eqb, lt-ltb, le-ltb}
+use borrow.Author.Tests.{eqb-true, eqb-false, lt-ltb, le-ltb}
 use lib.Dec.{eqb}
 use lib.ListN.{length, get_or, set, length-set}
 use lib.Seq.{get_or-set_same, get_or-set_other}
@@ -13,8 +14,8 @@ use Rattle.textures.specs.Table.{holds, seek, Table, Marked}
 use Rattle.textures.specs.Sieve.{place_of, may_have, Sifted, Sieved, SameNode}
 use Rattle.texture_list.specs.declared.kind.Key.{Key}
 use Rattle.textures.specs.declared.table.Located.{Located}
-use Rattle.textures.specs.declared.table.Located.TheVariants.{At, Free, Deep}
-use Rattle.textures.proofs.Tables.{true_false, found_node, free_at, deep_at}
+use Rattle.textures.specs.declared.table.Located.TheVariants.{At}
+use Rattle.textures.proofs.Tables.{true_false, found_node}
 use Rattle.textures.proofs.Marks.{and_left, and_right, mark_miss, mark_hit}
 
 module _ (sieve : List ℕ) (a b place : ℕ) (is : place ≡ place_of a b) where
@@ -22,14 +23,6 @@ module _ (sieve : List ℕ) (a b place : ℕ) (is : place ≡ place_of a b) wher
   pub may_past : length sieve ≤ place → true ≡ may_have sieve a b
   unfolding may_have
   may_past h = rw (← is, le-ltb place (length sieve) h) refl
-
-  pub may_not : place < length sieve → get_or sieve place 0 ≡ 0 → false ≡ may_have sieve a b
-  unfolding may_have
-  may_not h e = rw (← is, lt-ltb place (length sieve) h, e) refl
-
-  pub may_be : place < length sieve → (get_or sieve place 0 ≡ 0 → ⊥) → true ≡ may_have sieve a b
-  unfolding may_have
-  may_be h e = rw (← is, lt-ltb place (length sieve) h, ne_eqb (get_or sieve place 0) 0 e) refl
 
   pub sift_past : length sieve ≤ place → Sifted sieve a b sieve
   sift_past h = (sym (may_past h), λ x y e. e)
@@ -48,49 +41,35 @@ module _ (sieve : List ℕ) (a b place : ℕ) (is : place ≡ place_of a b) wher
           by true f = put x y (sym (eqb-true (place_of x y) place f))
           by false f = rw (length-set sieve place 1, get_or-set_other sieve place (place_of x y) 1 0 (eqb-false (place_of x y) place f)) e
 
--- one node more
-pub sieved_none : (t sieve : List ℕ) → Sieved t 1 sieve
-sieved_none t sieve v h k = absurd (omega (arith, h, k))
+pub sieved_by_none : (t : List ℕ) (w : ℕ) → Sieved t w []
+unfolding may_have
+sieved_by_none t w v h k = rw (le-ltb (place_of (get_or t (4 * v) 0) (get_or t (4 * v + 1) 0)) 0 (omega arith)) refl
 
-pub sieved_next : (t : List ℕ) (v : ℕ) (before after : List ℕ) → Sieved t v before → Sifted before (get_or t (4 * v) 0) (get_or t (4 * v + 1) 0) after → Sieved t (v + 1) after
-sieved_next t v before after sieved sifted u h k = by (eqb u v) refl
-  where
-    by : (z : Bool) → eqb u v ≡ z → may_have after (get_or t (4 * u) 0) (get_or t (4 * u + 1) 0) ≡ true
-    by true e = let q : v ≡ u = sym (eqb-true u v e) in subst (λ (x : ℕ). may_have after (get_or t (4 * x) 0) (get_or t (4 * x + 1) 0) ≡ true) q sifted.0
-    by false e = sifted.1 _ _ (sieved u h (omega (arith, k, eqb-false u v e)))
+pub sieve_none : (k : Located) → ((v : ℕ) → k ≡ At v → ⊥) → SameNode None k
+sieve_none k not-at = (λ v f. cc, λ v f. absurd (not-at v f))
 
-pub sieved_all : (t : List ℕ) (nodes v : ℕ) (sieve : List ℕ) → nodes ≤ v → Sieved t v sieve → Sieved t nodes sieve
-sieved_all t nodes v sieve h sieved u p k = sieved u p (omega (arith, h, k))
-
--- the search by the sieve
-pub same_seek : (l k : Located) → l ≡ k → SameNode l k
-same_seek l k e = (λ v f. sym e ∙ f, λ v f. e ∙ f)
-
-pub not_sieved : (t : List ℕ) (w : ℕ) (sieve : List ℕ) (a b : ℕ) → Table t w → Sieved t w sieve → may_have sieve a b ≡ false → SameNode Deep (seek t a b 145 0 0)
+pub not_sieved : (t : List ℕ) (w : ℕ) (sieve : List ℕ) (a b : ℕ) → Table t w → Sieved t w sieve → may_have sieve a b ≡ false → SameNode None (seek t a b 145 0 0)
 unfolding holds
-not_sieved t w sieve a b table sieved none = (λ v e. deep_at v e, at)
+not_sieved t w sieve a b table sieved none = sieve_none _ not-at
   where
-    at : (v : ℕ) → seek t a b 145 0 0 ≡ At v → Deep ≡ At v
-    at v e =
+    not-at : (v : ℕ) → seek t a b 145 0 0 ≡ At v → ⊥
+    not-at v e =
         let n = found_node t w table.below a b 145 0 0 v table.some (omega arith) e in
         let p : get_or t (4 * v) 0 ≡ a = eqb-true _ _ (and_left _ _ n.1.1) in
         let q : get_or t (4 * v + 1) 0 ≡ b = eqb-true _ _ (and_right (eqb (get_or t (4 * v) 0) a) _ n.1.1) in
-        absurd (true_false (sym (sieved v n.0 n.1.0) ∙ (ap (λ (x : ℕ). may_have sieve x (get_or t (4 * v + 1) 0)) p ∙ (ap (λ (x : ℕ). may_have sieve a x) q ∙ none))))
+        true_false (sym (sieved v n.0 n.1.0) ∙ (ap (λ (x : ℕ). may_have sieve x (get_or t (4 * v + 1) 0)) p ∙ (ap (λ (x : ℕ). may_have sieve a x) q ∙ none)))
 
-pub sought_sifted : (key of : Key) → key ≡ of → (t : List ℕ) (l : Located) → SameNode l (seek t key.stem_start key.stem_end 145 0 0) → SameNode l (seek t of.stem_start of.stem_end 145 0 0)
+pub sought_sifted : (key of : Key) → key ≡ of → (t : List ℕ) (l : Option ℕ) → SameNode l (seek t key.stem_start key.stem_end 145 0 0) → SameNode l (seek t of.stem_start of.stem_end 145 0 0)
 sought_sifted key of is_key t l e = rw (← is_key) e
 
 -- a node is marked by the search by the sieve
-module _ (p : ℕ → Bool) (ka kb : ℕ → ℕ) (t : List ℕ) (w : ℕ) (table : Table t w) (marks : List ℕ) (j : ℕ) (marked : Marked p ka kb t w marks j) (l : Located)
+module _ (p : ℕ → Bool) (ka kb : ℕ → ℕ) (t : List ℕ) (w : ℕ) (table : Table t w) (marks : List ℕ) (j : ℕ) (marked : Marked p ka kb t w marks j) (l : Option ℕ)
     (is : SameNode l (seek t (ka j) (kb j) 145 0 0)) where
-  pub sifted_free : (f : ℕ) → l ≡ Free f → Marked p ka kb t w marks (j + 1)
-  sifted_free f e = mark_miss p ka kb t w table marks j marked (λ v q. free_at f v (sym e ∙ is.1 v q))
+  pub sifted_none : ((v : ℕ) → l ≡ Some v → ⊥) → Marked p ka kb t w marks (j + 1)
+  sifted_none none = mark_miss p ka kb t w table marks j marked (λ v q. none v (is.1 v q))
 
-  pub sifted_deep : l ≡ Deep → Marked p ka kb t w marks (j + 1)
-  sifted_deep e = mark_miss p ka kb t w table marks j marked (λ v q. deep_at v (sym e ∙ is.1 v q))
-
-  pub sifted_at : (u : ℕ) → p j ≡ true → l ≡ At u → w ≤ length marks → Marked p ka kb t w (set marks u 1) (j + 1)
+  pub sifted_at : (u : ℕ) → p j ≡ true → l ≡ Some u → w ≤ length marks → Marked p ka kb t w (set marks u 1) (j + 1)
   sifted_at u h e k = mark_hit p ka kb t w table marks j marked u h (is.0 u e) k
 
-  pub sifted_inside : (u : ℕ) → l ≡ At u → u < w
+  pub sifted_inside : (u : ℕ) → l ≡ Some u → u < w
   sifted_inside u e = (found_node t w table.below (ka j) (kb j) 145 0 0 u table.some (omega arith) (is.0 u e)).1.0

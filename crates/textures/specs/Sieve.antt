@@ -1,6 +1,6 @@
 -- For the contracts of functions that no other crate can name; a reader of the calls may leave this file out.
 -- A sieve: bytes by which most stems that the table of Table.antt has not are told from those that it has.
-use Rattle.std.specs.Prelude.{ℕ, ◌+◌, ◌*◌, ◌/◌, ◌<◌, ◌≡◌, Bool, true, not, cond, List, eqb, ltb, length, get_or}
+use Rattle.std.specs.Prelude.{ℕ, ◌+◌, ◌*◌, ◌/◌, ◌<◌, ◌≡◌, Bool, true, not, cond, List, eqb, ltb, length, get_or, Option, Some}
 use Rattle.textures.specs.Table.{mix}
 use Rattle.textures.specs.declared.table.Located.{Located}
 use Rattle.textures.specs.declared.table.Located.TheVariants.{At}
@@ -21,6 +21,6 @@ Sifted before a b after = (may_have after a b ≡ true) × ((x y : ℕ) → may_
 abbrev pub Sieved : List ℕ → ℕ → List ℕ → Type 0
 Sieved t w sieve = (v : ℕ) → 0 < v → v < w → may_have sieve (get_or t (4 * v) 0) (get_or t (4 * v + 1) 0) ≡ true
 
--- one answer names a node exactly where the other does
-abbrev pub SameNode : Located → Located → Type 0
-SameNode l k = ((v : ℕ) → l ≡ At v → k ≡ At v) × ((v : ℕ) → k ≡ At v → l ≡ At v)
+-- a node is answered exactly where the search names one, and it is that one
+abbrev pub SameNode : Option ℕ → Located → Type 0
+SameNode l k = ((v : ℕ) → l ≡ Some v → k ≡ At v) × ((v : ℕ) → k ≡ At v → l ≡ Some v)

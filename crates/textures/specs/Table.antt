@@ -2,7 +2,7 @@
 -- The table of stems in which the code searches, for a part of the textures at a time: a tree over the bits of the two numbers of a stem.
 -- Node v, from 1 on, has its stem's numbers at 4v and 4v + 1, and its two branches at 4v + 2 and 4v + 3, where 0 stands for no node. The
 -- tree hangs at the first branch of node 0. No answer depends on how the tree is shaped: laws in proofs/Tables.antt.
-use Rattle.std.specs.Prelude.{ℕ, zero, suc, ◌+◌, ◌*◌, ◌-◌, ◌/◌, ◌%◌, ◌^◌, ◌<◌, ◌≤◌, ◌≡◌, Bool, true, false, not, ◌&&◌, cond, List, eqb, leb, ltb, length, get_or, set}
+use Rattle.std.specs.Prelude.{ℕ, zero, suc, ◌+◌, ◌*◌, ◌-◌, ◌/◌, ◌%◌, ◌^◌, ◌<◌, ◌≤◌, ◌≡◌, Bool, true, false, not, ◌&&◌, cond, List, eqb, leb, ltb, length, get_or, set, Option, Some, None}
 use Rattle.textures.specs.Count.{any, count, lowest}
 use Rattle.textures.specs.declared.table.Located.{Located}
 use Rattle.textures.specs.declared.table.Located.TheVariants.{At, Free, Deep}
@@ -49,12 +49,12 @@ pub record Table (t : List ℕ) (w : ℕ) : Type 0 where
   pub finds : (v : ℕ) → 0 < v → v < w → seek t (get_or t (4 * v) 0) (get_or t (4 * v + 1) 0) 145 0 0 ≡ At v
 
 -- What becomes of a table of the nodes below w and of w where a texture is met that passes a test or not: it is skipped; its stem is there;
--- it is added; or there is no room, said by 0, which does not happen while there is no node.
-pub data Insertion (passes : Bool) (t : List ℕ) (w a b : ℕ) : List ℕ → ℕ → Type 0 where
-  skip : passes ≡ false → Insertion passes t w a b t w
-  known : (v : ℕ) → seek t a b 145 0 0 ≡ At v → Insertion passes t w a b t w
-  new : (f : ℕ) → passes ≡ true → seek t a b 145 0 0 ≡ Free f → 4 * w + 4 ≤ length t → Insertion passes t w a b (added t f w a b) (w + 1)
-  full : 1 < w → Insertion passes t w a b t 0
+-- it is added; or there is no room, said by `None`, which does not happen while there is no node.
+pub data Insertion (passes : Bool) (t : List ℕ) (w a b : ℕ) : List ℕ → Option ℕ → Type 0 where
+  skip : passes ≡ false → Insertion passes t w a b t (Some w)
+  known : (v : ℕ) → seek t a b 145 0 0 ≡ At v → Insertion passes t w a b t (Some w)
+  new : (f : ℕ) → passes ≡ true → seek t a b 145 0 0 ≡ Free f → 4 * w + 4 ≤ length t → Insertion passes t w a b (added t f w a b) (Some (w + 1))
+  full : 1 < w → Insertion passes t w a b t None
 
 -- a node with a stem
 pub record Node (t : List ℕ) (w a b : ℕ) : Type 0 where

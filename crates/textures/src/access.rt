@@ -17,13 +17,13 @@ use records::texinfo::{BspTexInfo, texinfo};
 pub fn static_texture(file: &[u8], map: BspData, number: u64) -> Answer<u32>
     ensures { answer_of result ≡ Access.static_texture file.now map number }
 {
-    if is_sound(file, map.textures.offset, map.texture_count) {
-        if 4294967295 < number {
-            return Err(Refusal::NoSuchRecord);
-        }
-        return find_static(file, map.textures.offset, map.texture_count, number as u32);
+    if !is_sound(file, map.textures.offset, map.texture_count) {
+        return Err(Refusal::Unreadable);
     }
-    Err(Refusal::Unreadable)
+    let Ok(number) = u32::try_from(number) else {
+        return Err(Refusal::NoSuchRecord);
+    };
+    find_static(file, map.textures.offset, map.texture_count, number)
 }
 
 // The frame at a place of a group of a section that reads; its letters start at `lo`.
@@ -31,52 +31,38 @@ fn group_frame(s: &[u8], base: u32, count: u32, lo: u8, number: u64, place: u64)
     requires { (lo ≤ 97) × (count ≤ 2097152) }
     ensures { answer_of result ≡ frame_by (lettered lo) (names_of s.now base) count number place }
 {
-    if 4294967295 < number {
+    let Ok(number) = u32::try_from(number) else {
         return Err(Refusal::NoSuchRecord);
-    }
-    if 4294967295 < place {
+    };
+    let Ok(place) = u32::try_from(place) else {
         return Err(Refusal::NoSuchRecord);
-    }
-    find_frame(s, base, count, lo, number as u32, place as u32)
+    };
+    find_frame(s, base, count, lo, number, place)
 }
 
 // The frame at a place of a group, 0 the primary and 1 the alternate one, of the texture of a new number.
 pub fn frame_texture(file: &[u8], map: BspData, number: u64, group: u32, place: u64) -> Answer<u32>
     ensures { answer_of result ≡ Access.frame_texture file.now map number group place }
 {
-    if is_sound(file, map.textures.offset, map.texture_count) {
-        if group == 0 {
-            return group_frame(
-                file,
-                map.textures.offset,
-                map.texture_count,
-                48,
-                number,
-                place,
-            );
-        }
-        if group == 1 {
-            return group_frame(
-                file,
-                map.textures.offset,
-                map.texture_count,
-                97,
-                number,
-                place,
-            );
-        }
-        return Err(Refusal::NoSuchRecord);
+    if !is_sound(file, map.textures.offset, map.texture_count) {
+        return Err(Refusal::Unreadable);
     }
-    Err(Refusal::Unreadable)
+    let (base, count) = (map.textures.offset, map.texture_count);
+    match group {
+        0 => group_frame(file, base, count, b'0', number, place),
+        1 => group_frame(file, base, count, b'a', number, place),
+        _ => Err(Refusal::NoSuchRecord),
+    }
 }
 
 // A texture info with another texture number.
 fn renumber(info: BspTexInfo, number: u32) -> BspTexInfo
     ensures { result ≡ Access.renumbered info number }
 {
-    let mut x = info;
-    x.tex_id = number as usize;
-    x
+    BspTexInfo {
+        tex_id: number as usize,
+        ..info
+    }
 }
 
 // A texture info with its texture's new number.
@@ -84,17 +70,15 @@ fn number_info(s: &[u8], base: u32, count: u32, info: BspTexInfo) -> Answer<BspT
     ensures { answer_of result ≡ Access.info_at s.now base count info }
 {
     let id = info.tex_id;
-    if (count as usize) <= id {
+    if (count as usize) <= id || !is_sound(s, base, count) {
         return Err(Refusal::Unreadable);
     }
-    if is_sound(s, base, count) {
-        let number = texture_number(s, base, count, id as u32);
-        return Ok(renumber(info, number));
-    }
-    Err(Refusal::Unreadable)
+    Ok(renumber(info, texture_number(s, base, count, id as u32)))
 }
 
-// The texture info of an index, with its texture's new number.
+// The texture info of an index, with its texture's new number. A call of its own, since the tables that the number is found with lie in its
+// frame, which is written to page by page: what reads another record does without them.
+#[inline(never)]
 #[tactic(auto, using(format::proofs::Chain::steps), unfolding(crate::specs::Access::texture_info))]
 pub fn texture_info(file: &[u8], map: BspData, index: usize) -> Answer<BspTexInfo>
     ensures { answer_of result ≡ Access.texture_info file.now map index }

@@ -1,21 +1,19 @@
 // The first texture with the stem of each texture, for all textures at once. A table of stems is filled with those of a part of the textures
 // at a time, and all textures from there on are looked up in it, so that the time grows with the textures and the parts. A sieve spares most
 // of the searches for stems of other parts.
-ghost use Rattle.std.specs.Prelude.{◌≡◌, ◌≤◌, ◌<◌, ◌+◌, ◌*◌, length, replicate};
+ghost use Rattle.std.specs.Prelude.{◌≡◌, ◌≤◌, ◌<◌, ◌+◌, ◌*◌, length};
 ghost use Rattle.format.specs.Listed.{listed, into};
 ghost use Rattle.textures.specs.Count.{values_below};
 ghost use Rattle.texture_list.specs.List.{names_of};
 ghost use Rattle.format.specs.Answers.{answer_of};
 ghost use Rattle.textures.specs.Private.{earliest_by, earliest_textures};
-ghost use Rattle.texture_list.specs.Kind.{passing, starts, ends};
 ghost use Rattle.textures.specs.Sieve.{Sieved};
-ghost use Rattle.textures.specs.Table as Tab;
+ghost use Rattle.textures.specs.Stems as Stems;
 ghost use Rattle.texture_list.specs.declared.kind.Kind.TheVariants as Of;
 
 use crate::group::fill;
 use crate::sieve::{seek_sifted, sift_all};
 use crate::sound::is_sound_in;
-use crate::table::{Located, clear};
 use format::refusal::{Answer, Refusal};
 use format::section::BspData;
 use texture_list::kind::{Kind, is_kind, key_of};
@@ -23,12 +21,11 @@ use texture_list::kind::{Kind, is_kind, key_of};
 // No texture.
 const NONE: u32 = 4294967295;
 
-// The textures whose stems a table has, and its nodes.
+// The textures whose stems a table has.
 #[derive(Clone, Copy)]
 struct Part {
     from: u32,
     to: u32,
-    nodes: usize,
 }
 
 // The first texture with the stem of a texture, or what was known before the part. The first texture with the stem of each node is noted.
@@ -42,29 +39,25 @@ fn look_up(
     sieve: &[u8],
     heads: &mut [u32],
 ) -> u32
-    requires { Tab.Filled (passing s.now base Of.Animated) (starts s.now base) (ends s.now base) part.from part.to t.now part.nodes × ((part.nodes ≤ length heads.old) × (Tab.Heads (passing s.now base Of.Animated) (starts s.now base) (ends s.now base) t.now part.nodes part.from heads.old index × ((part.from ≤ index) × ((part.from ≤ part.to) × ((index < 2097152) × ((known ≡ Tab.known_of (passing s.now base Of.Animated) (starts s.now base) (ends s.now base) part.from index) × (Sieved t.now part.nodes sieve.now × (part.nodes ≤ 4611686018427387904)))))))) }
-    ensures { (result ≡ Tab.known_of (passing s.now base Of.Animated) (starts s.now base) (ends s.now base) part.to index) × Tab.Heads (passing s.now base Of.Animated) (starts s.now base) (ends s.now base) t.now part.nodes part.from heads.new (index + 1) }
+    requires { Stems.Filled s.now base Of.Animated part.from part.to t.now (length heads.old) × (Stems.Heads s.now base Of.Animated t.now (length heads.old) part.from heads.old index × ((part.from ≤ index) × ((part.from ≤ part.to) × ((index < 2097152) × ((known ≡ Stems.known_of s.now base Of.Animated part.from index) × Sieved t.now (length heads.old) sieve.now))))) }
+    ensures { (result ≡ Stems.known_of s.now base Of.Animated part.to index) × Stems.Heads s.now base Of.Animated t.now (length heads.old) part.from heads.new (index + 1) }
 {
     if known != NONE {
         return known;
     }
     let key = key_of(s, base, index);
-    if is_kind(Kind::Animated, key) {
-        match seek_sifted(t, part.nodes, sieve, key.stem_start, key.stem_end) {
-            Located::Free(_) => NONE,
-            Located::Deep => NONE,
-            Located::At(v) => {
-                let head = heads[v];
-                if head != NONE {
-                    return head;
-                }
-                heads[v] = index;
-                index
-            }
-        }
-    } else {
-        NONE
+    if !is_kind(Kind::Animated, key) {
+        return NONE;
     }
+    let Some(v) = seek_sifted(t, sieve, key.stem_start, key.stem_end) else {
+        return NONE;
+    };
+    let head = heads[v];
+    if head != NONE {
+        return head;
+    }
+    heads[v] = index;
+    index
 }
 
 // The same for all textures from the part on.
@@ -78,26 +71,13 @@ fn look_up_all(
     heads: &mut [u32],
     list: &mut [u32],
 )
-    requires { Tab.Filled (passing s.now base Of.Animated) (starts s.now base) (ends s.now base) part.from part.to t.now part.nodes × ((part.nodes ≤ length heads.old) × ((heads.old ≡ replicate (length heads.old) 4294967295) × ((part.from ≤ part.to) × ((part.to ≤ count) × ((count ≤ 2097152) × ((length list.old ≡ count) × (Tab.Known (passing s.now base Of.Animated) (starts s.now base) (ends s.now base) count part.from list.old × Sieved t.now part.nodes sieve.now))))))) }
-    ensures { Tab.Known (passing s.now base Of.Animated) (starts s.now base) (ends s.now base) count part.to list.new }
+    requires { Stems.Filled s.now base Of.Animated part.from part.to t.now (length heads.old) × ((part.from ≤ part.to) × ((part.to ≤ count) × ((count ≤ 2097152) × ((length list.old ≡ count) × (Stems.Known s.now base Of.Animated count part.from list.old × Sieved t.now (length heads.old) sieve.now))))) }
+    ensures { Stems.Known s.now base Of.Animated count part.to list.new }
 {
-    let mut i = part.from;
-    while i < count {
+    heads.fill(NONE);
+    for i in part.from..count {
         let known = list[i as usize];
-        let found = look_up(s, base, part, i, known, t, sieve, heads);
-        list[i as usize] = found;
-        i = i + 1;
-    }
-}
-
-// A list of no textures.
-fn forget(list: &mut [u32])
-    ensures { list.new ≡ replicate (length list.old) 4294967295 }
-{
-    let mut i = 0;
-    while i < list.len() {
-        list[i] = NONE;
-        i = i + 1;
+        list[i as usize] = look_up(s, base, part, i, known, t, sieve, heads);
     }
 }
 
@@ -111,24 +91,21 @@ fn look_up_parts(
     heads: &mut [u32],
     list: &mut [u32],
 )
-    requires { (8 ≤ length t.old) × ((length t.old ≡ 4 * length heads.old) × ((count ≤ 2097152) × ((length list.old ≡ count) × Tab.Known (passing s.now base Of.Animated) (starts s.now base) (ends s.now base) count 0 list.old))) }
-    ensures { Tab.Known (passing s.now base Of.Animated) (starts s.now base) (ends s.now base) count count list.new }
+    requires { (8 ≤ length t.old) × ((length t.old ≡ 4 * length heads.old) × ((count ≤ 2097152) × ((length list.old ≡ count) × Stems.Known s.now base Of.Animated count 0 list.old))) }
+    ensures { Stems.Known s.now base Of.Animated count count list.new }
 {
-    let mut from: u32 = 0;
+    let mut from = 0;
+    // not by `for`: a part ends where its table is full
     while from < count {
-        clear(t);
         let filling = fill(s, base, Kind::Animated, from, count, t);
-        let to = filling.to;
-        let nodes = filling.nodes;
-        forget(heads);
-        sift_all(t, nodes, sieve);
+        let heads = &mut heads[..filling.nodes];
+        sift_all(t, filling.nodes, sieve);
         let part = Part {
-            from: from,
-            to: to,
-            nodes: nodes,
+            from,
+            to: filling.to,
         };
         look_up_all(s, base, count, part, t, sieve, heads, list);
-        from = to;
+        from = filling.to;
     }
 }
 
@@ -145,7 +122,7 @@ fn find_each(
     requires { (8 ≤ length t.old) × ((length t.old ≡ 4 * length heads.old) × ((count ≤ 2097152) × (length list.old ≡ count))) }
     ensures { list.new ≡ values_below (earliest_by (names_of s.now base) count) count }
 {
-    forget(list);
+    list.fill(NONE);
     look_up_parts(s, base, count, t, sieve, heads, list);
 }
 
@@ -164,70 +141,40 @@ fn list_earliest(
     requires { (8 ≤ length t.old) × ((length t.old ≡ 4 * length marks.old) × (length t.old ≡ 4 * length heads.old)) }
     ensures { listed (answer_of result) list.new ≡ into (earliest_textures file.now map) list.old }
 {
-    let base = map.textures.offset;
-    if is_sound_in(file, base, map.texture_count, t, marks) {
-        let count = map.texture_count as usize;
-        if list.len() < count {
-            return Err(Refusal::ListTooShort);
-        }
-        find_each(
-            file,
-            base,
-            map.texture_count,
-            t,
-            sieve,
-            heads,
-            &mut list[..count],
-        );
-        return Ok(map.texture_count);
+    let (base, count) = (map.textures.offset, map.texture_count);
+    if !is_sound_in(file, base, count, t, marks) {
+        return Err(Refusal::Unreadable);
     }
-    Err(Refusal::Unreadable)
+    let end = count as usize;
+    if list.len() < end {
+        return Err(Refusal::ListTooShort);
+    }
+    find_each(file, base, count, t, sieve, heads, &mut list[..end]);
+    Ok(count)
 }
 
-// With a small table, of 1,024 nodes.
-fn list_few(file: &[u8], map: BspData, list: &mut [u32]) -> Answer<u32>
+// With a table of N nodes and so many words, and a sieve of so many bytes.
+fn list_sized<const WORDS: usize, const N: usize, const SIEVE: usize>(
+    file: &[u8],
+    map: BspData,
+    list: &mut [u32],
+) -> Answer<u32>
+    requires { (8 ≤ WORDS) × (WORDS ≡ 4 * N) × (WORDS ≤ 90112) × (SIEVE ≤ 131072) }
     ensures { listed (answer_of result) list.new ≡ into (earliest_textures file.now map) list.old }
 {
-    let mut t: [u64; 4096] = [0; 4096];
-    let mut marks: [u8; 1024] = [0; 1024];
-    let mut sieve: [u8; 1024] = [0; 1024];
-    let mut heads: [u32; 1024] = [0; 1024];
-    list_earliest(
-        file,
-        map,
-        &mut t[..],
-        &mut marks[..],
-        &mut sieve[..],
-        &mut heads[..],
-        list,
-    )
+    let mut t = [0; WORDS];
+    let mut marks = [0; N];
+    let mut sieve = [0; SIEVE];
+    let mut heads = [0; N];
+    list_earliest(file, map, &mut t, &mut marks, &mut sieve, &mut heads, list)
 }
 
-// With a large table, of 22,528 nodes: with the rest it stays below 1 MiB.
-fn list_many(file: &[u8], map: BspData, list: &mut [u32]) -> Answer<u32>
-    ensures { listed (answer_of result) list.new ≡ into (earliest_textures file.now map) list.old }
-{
-    let mut t: [u64; 90112] = [0; 90112];
-    let mut marks: [u8; 22528] = [0; 22528];
-    let mut sieve: [u8; 131072] = [0; 131072];
-    let mut heads: [u32; 22528] = [0; 22528];
-    list_earliest(
-        file,
-        map,
-        &mut t[..],
-        &mut marks[..],
-        &mut sieve[..],
-        &mut heads[..],
-        list,
-    )
-}
-
-// The same, with tables of its own.
+// The same, with tables of its own: small ones, of 1,024 nodes, or large ones, of 22,528 nodes, which stay below 1 MiB together.
 pub fn earliest_textures(file: &[u8], map: BspData, list: &mut [u32]) -> Answer<u32>
     ensures { listed (answer_of result) list.new ≡ into (earliest_textures file.now map) list.old }
 {
     if map.texture_count < 1024 {
-        return list_few(file, map, list);
+        return list_sized::<4096, 1024, 1024>(file, map, list);
     }
-    list_many(file, map, list)
+    list_sized::<90112, 22528, 131072>(file, map, list)
 }

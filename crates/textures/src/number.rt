@@ -1,119 +1,52 @@
 // The numbers that textures get: static textures first, and then a number for each stem, by its earliest texture.
-ghost use Rattle.std.specs.Prelude.{◌≡◌, true, not, ◌&&◌, cond, ◌≤◌, ◌<◌, ◌+◌, ◌*◌, eqb, length, replicate};
+ghost use Rattle.std.specs.Prelude.{ℕ, Bool, ◌≡◌, true, not, ◌&&◌, ◌≤◌, ◌<◌, ◌+◌, ◌*◌, eqb, length};
 ghost use Rattle.textures.specs.Count.{count, lowest};
 ghost use Rattle.textures.specs.Group.{numbered_by};
 ghost use Rattle.texture_list.specs.List.{names_of};
 ghost use Rattle.texture_list.specs.Kind.{passing, starts, ends};
-ghost use Rattle.textures.specs.Sieve.{Sieved};
+ghost use Rattle.textures.specs.Stems as Stems;
 ghost use Rattle.textures.specs.Table as Tab;
 ghost use Rattle.texture_list.specs.declared.kind.Kind.TheVariants as Of;
 
-use crate::group::fill;
-use crate::sieve::{seek_sifted, sift_all};
-use crate::table::{Located, clear, clear_marks, seek};
+use crate::group::{fill, mark};
+use crate::sieve::sift_all;
+use crate::table::{Located, seek};
 use texture_list::kind::{Kind, is_kind, key_of};
 
-// 1 for a static texture.
-fn static_one(s: &[u8], base: u32, index: u32) -> u32
-    ensures { result ≡ cond (not (passing s.now base Of.Animated index)) 1 0 }
+// Whether a texture is static.
+fn is_static(s: &[u8], base: u32, index: u32) -> bool
+    ensures { result ≡ not (passing s.now base Of.Animated index) }
 {
-    let key = key_of(s, base, index);
-    if is_kind(Kind::Animated, key) {
-        return 0;
-    }
-    1
+    !is_kind(Kind::Animated, key_of(s, base, index))
 }
 
 // How many of the first textures are static.
 pub fn count_static(s: &[u8], base: u32, upto: u32) -> u32
     ensures { result ≡ count (λ i. not (passing s.now base Of.Animated i)) upto }
 {
-    let mut i: u32 = 0;
-    let mut n: u32 = 0;
-    while i < upto {
-        n = n + static_one(s, base, i);
-        i = i + 1;
+    let mut n = 0;
+    for i in 0..upto {
+        n += u32::from(is_static(s, base, i));
     }
     n
 }
 
-// Marks the node with the stem of a texture, if the texture is animated.
-fn mark_stem(
-    s: &[u8],
-    base: u32,
-    index: u32,
-    t: &[u64],
-    nodes: usize,
-    sieve: &[u8],
-    marks: &mut [u8],
-)
-    requires { Tab.Table t.now nodes × ((nodes ≤ length marks.old) × (Tab.Marked (passing s.now base Of.Animated) (starts s.now base) (ends s.now base) t.now nodes marks.old index × Sieved t.now nodes sieve.now)) }
-    ensures { Tab.Marked (passing s.now base Of.Animated) (starts s.now base) (ends s.now base) t.now nodes marks.new (index + 1) }
+// Whether a texture is the earliest with its stem. The table has the stem, and marks the stems of the textures before this one; this one's is
+// marked too.
+fn is_first(s: &[u8], base: u32, index: u32, t: &[u64], marks: &mut [u8]) -> bool
+    requires { Tab.Table t.now (length marks.old) × (Stems.Marked s.now base Of.Animated t.now (length marks.old) marks.old index × (passing s.now base Of.Animated index ≡ true → Tab.Node t.now (length marks.old) (starts s.now base index) (ends s.now base index))) }
+    ensures { (result ≡ Stems.is_earliest s.now base Of.Animated index) × Stems.Marked s.now base Of.Animated t.now (length marks.old) marks.new (index + 1) }
 {
     let key = key_of(s, base, index);
-    if is_kind(Kind::Animated, key) {
-        match seek_sifted(t, nodes, sieve, key.stem_start, key.stem_end) {
-            Located::Free(_) => {}
-            Located::Deep => {}
-            Located::At(v) => {
-                marks[v] = 1;
-            }
-        }
+    if !is_kind(Kind::Animated, key) {
+        return false;
     }
-}
-
-// Marks the nodes with the stems of the first animated textures, and no other. The sieve spares most searches, since most of these stems are
-// of other parts.
-fn mark_stems(
-    s: &[u8],
-    base: u32,
-    count: u32,
-    t: &[u64],
-    nodes: usize,
-    sieve: &[u8],
-    marks: &mut [u8],
-)
-    requires { Tab.Table t.now nodes × ((nodes ≤ length marks.old) × ((marks.old ≡ replicate (length marks.old) 0) × Sieved t.now nodes sieve.now)) }
-    ensures { Tab.Marked (passing s.now base Of.Animated) (starts s.now base) (ends s.now base) t.now nodes marks.new count }
-{
-    let mut i: u32 = 0;
-    while i < count {
-        mark_stem(s, base, i, t, nodes, sieve, marks);
-        i = i + 1;
-    }
-}
-
-// 1 for the earliest texture with its stem. The table has the stem, and marks the stems of the textures before this one; this one's is marked too.
-fn first_one(s: &[u8], base: u32, index: u32, t: &[u64], nodes: usize, marks: &mut [u8]) -> u32
-    requires { Tab.Table t.now nodes × ((nodes ≤ length marks.old) × (Tab.Marked (passing s.now base Of.Animated) (starts s.now base) (ends s.now base) t.now nodes marks.old index × (passing s.now base Of.Animated index ≡ true → Tab.Node t.now nodes (starts s.now base index) (ends s.now base index)))) }
-    ensures { (result ≡ cond (Tab.is_earliest (passing s.now base Of.Animated) (starts s.now base) (ends s.now base) index) 1 0) × Tab.Marked (passing s.now base Of.Animated) (starts s.now base) (ends s.now base) t.now nodes marks.new (index + 1) }
-{
-    let key = key_of(s, base, index);
-    if is_kind(Kind::Animated, key) {
-        match seek(t, key.stem_start, key.stem_end) {
-            Located::Free(_) => 0,
-            Located::Deep => 0,
-            Located::At(v) => {
-                let old = marks[v];
-                marks[v] = 1;
-                if old == 0 {
-                    return 1;
-                }
-                0
-            }
-        }
-    } else {
-        0
-    }
-}
-
-pub fn is_sought(one: u32, seen: u32, k: u32) -> bool
-    ensures { result ≡ (eqb one 1 && eqb seen k) }
-{
-    if one == 1 {
-        return seen == k;
-    }
-    false
+    let Located::At(v) = seek(t, key.stem_start, key.stem_end) else {
+        return false;
+    };
+    let old = marks[v];
+    marks[v] = 1;
+    old == 0
 }
 
 // A texture, and how many stems have their earliest texture before it.
@@ -124,6 +57,7 @@ pub struct Firsts {
 }
 
 // The earliest texture of the stem with k stems before it, in the part of the textures whose stems the table has; the part's end if it is not there.
+#[tactic(auto, using(crate::proofs::Firsts::counting))]
 fn scan(
     s: &[u8],
     base: u32,
@@ -132,23 +66,23 @@ fn scan(
     k: u32,
     before: u32,
     t: &[u64],
-    nodes: usize,
     marks: &mut [u8],
 ) -> Firsts
-    requires { Tab.Filled (passing s.now base Of.Animated) (starts s.now base) (ends s.now base) from to t.now nodes × ((nodes ≤ length marks.old) × (Tab.Marked (passing s.now base Of.Animated) (starts s.now base) (ends s.now base) t.now nodes marks.old from × ((from ≤ to) × ((before ≡ count (Tab.is_earliest (passing s.now base Of.Animated) (starts s.now base) (ends s.now base)) from) × (before ≤ k))))) }
-    ensures { Tab.Reached (Tab.is_earliest (passing s.now base Of.Animated) (starts s.now base) (ends s.now base)) k to result.at result.seen }
+    requires { Stems.Filled s.now base Of.Animated from to t.now (length marks.old) × (Stems.Marked s.now base Of.Animated t.now (length marks.old) marks.old from × ((from ≤ to) × ((before ≡ count (Stems.is_earliest s.now base Of.Animated) from) × (before ≤ k)))) }
+    ensures { Tab.Reached (Stems.is_earliest s.now base Of.Animated) k to result.at result.seen }
 {
-    let mut i = from;
     let mut seen = before;
-    while i < to {
-        let one = first_one(s, base, i, t, nodes, marks);
-        if is_sought(one, seen, k) {
-            return Firsts { at: i, seen: seen };
+    // not by `nth_such`: the test writes the marks, and what it answers depends on those written before
+    for i in from..to {
+        if !is_first(s, base, i, t, marks) {
+            continue;
         }
-        seen = seen + one;
-        i = i + 1;
+        if seen == k {
+            return Firsts { at: i, seen };
+        }
+        seen += 1;
     }
-    Firsts { at: i, seen: seen }
+    Firsts { at: to, seen }
 }
 
 // The earliest texture of the stem with k stems before it, of the first textures; their end if there is none. The table, its sieve and the marks
@@ -163,88 +97,72 @@ fn find_first(
     marks: &mut [u8],
 ) -> Firsts
     requires { (8 ≤ length t.old) × (length t.old ≡ 4 * length marks.old) }
-    ensures { Tab.Reached (Tab.is_earliest (passing s.now base Of.Animated) (starts s.now base) (ends s.now base)) k upto result.at result.seen }
+    ensures { Tab.Reached (Stems.is_earliest s.now base Of.Animated) k upto result.at result.seen }
 {
-    let mut from: u32 = 0;
-    let mut seen: u32 = 0;
+    let mut from = 0;
+    let mut seen = 0;
+    // not by `for`: a part ends where its table is full
     while from < upto {
-        clear(t);
         let filling = fill(s, base, Kind::Animated, from, upto, t);
-        let nodes = filling.nodes;
-        let to = filling.to;
-        clear_marks(marks);
-        sift_all(t, nodes, sieve);
-        mark_stems(s, base, from, t, nodes, sieve, marks);
-        let part = scan(s, base, from, to, k, seen, t, nodes, marks);
-        if part.at < to {
+        let marks = &mut marks[..filling.nodes];
+        sift_all(t, filling.nodes, sieve);
+        mark(s, base, Kind::Animated, from, t, sieve, marks);
+        let part = scan(s, base, from, filling.to, k, seen, t, marks);
+        if part.at < filling.to {
             return part;
         }
-        from = to;
+        from = filling.to;
         seen = part.seen;
     }
-    Firsts {
-        at: from,
-        seen: seen,
-    }
+    Firsts { at: from, seen }
 }
 
 // Whether a texture is animated and has a stem.
+#[tactic(auto, using(format::proofs::Chain::tests))]
 fn is_like(s: &[u8], base: u32, index: u32, a: u64, b: u64) -> bool
     ensures { result ≡ (passing s.now base Of.Animated index && (eqb a (starts s.now base index) && eqb b (ends s.now base index))) }
 {
     let key = key_of(s, base, index);
-    if is_kind(Kind::Animated, key) {
-        if a == key.stem_start {
-            return b == key.stem_end;
-        }
-        return false;
-    }
-    false
+    is_kind(Kind::Animated, key) && a == key.stem_start && b == key.stem_end
 }
 
 // The earliest animated texture with a stem, or `upto` if none of the first textures has it.
 fn earliest_like(s: &[u8], base: u32, upto: u32, a: u64, b: u64) -> u32
     ensures { (result ≡ lowest (λ i. passing s.now base Of.Animated i && (eqb a (starts s.now base i) && eqb b (ends s.now base i))) upto) × (result ≤ upto) }
 {
-    let mut i: u32 = 0;
-    while i < upto {
+    for i in 0..upto {
         if is_like(s, base, i, a, b) {
             return i;
         }
-        i = i + 1;
     }
-    i
+    upto
 }
 
-// `find_first` with a small table, of 1,024 nodes.
-fn find_first_of_few(s: &[u8], base: u32, upto: u32, k: u32) -> Firsts
-    ensures { Tab.Reached (Tab.is_earliest (passing s.now base Of.Animated) (starts s.now base) (ends s.now base)) k upto result.at result.seen }
+// `find_first` with a table of N nodes and so many words, and a sieve of so many bytes.
+fn find_first_sized<const WORDS: usize, const N: usize, const SIEVE: usize>(
+    s: &[u8],
+    base: u32,
+    upto: u32,
+    k: u32,
+) -> Firsts
+    requires { (8 ≤ WORDS) × (WORDS ≡ 4 * N) × (WORDS ≤ 40960) × (SIEVE ≤ 131072) }
+    ensures { Tab.Reached (Stems.is_earliest s.now base Of.Animated) k upto result.at result.seen }
 {
-    let mut t: [u64; 4096] = [0; 4096];
-    let mut sieve: [u8; 1024] = [0; 1024];
-    let mut marks: [u8; 1024] = [0; 1024];
-    find_first(s, base, upto, k, &mut t[..], &mut sieve[..], &mut marks[..])
+    let mut t = [0; WORDS];
+    let mut sieve = [0; SIEVE];
+    let mut marks = [0; N];
+    find_first(s, base, upto, k, &mut t, &mut sieve, &mut marks)
 }
 
-// `find_first` with a large table, of 10,240 nodes: it may lie on the stack together with that of the test that the section reads, and both
-// stay below 1 MiB.
-fn find_first_of_many(s: &[u8], base: u32, upto: u32, k: u32) -> Firsts
-    ensures { Tab.Reached (Tab.is_earliest (passing s.now base Of.Animated) (starts s.now base) (ends s.now base)) k upto result.at result.seen }
-{
-    let mut t: [u64; 40960] = [0; 40960];
-    let mut sieve: [u8; 131072] = [0; 131072];
-    let mut marks: [u8; 10240] = [0; 10240];
-    find_first(s, base, upto, k, &mut t[..], &mut sieve[..], &mut marks[..])
-}
-
-// The earliest texture of the stem with k stems before it, of the first textures.
+// The earliest texture of the stem with k stems before it, of the first textures. The large table has 10,240 nodes: it may lie on the stack
+// together with that of the test that the section reads, and both stay below 1 MiB.
 pub fn first_of(s: &[u8], base: u32, upto: u32, k: u32) -> Firsts
-    ensures { Tab.Reached (Tab.is_earliest (passing s.now base Of.Animated) (starts s.now base) (ends s.now base)) k upto result.at result.seen }
+    ensures { Tab.Reached (Stems.is_earliest s.now base Of.Animated) k upto result.at result.seen }
 {
     if upto < 1024 {
-        return find_first_of_few(s, base, upto, k);
+        return find_first_sized::<4096, 1024, 1024>(s, base, upto, k);
     }
-    find_first_of_many(s, base, upto, k)
+    find_first_sized::<40960, 10240, 131072>(s, base, upto, k)
 }
 
 // The new number of a texture of the file.
@@ -261,19 +179,28 @@ pub fn texture_number(s: &[u8], base: u32, count: u32, index: u32) -> u32
     count_static(s, base, index)
 }
 
+// The lowest number with k others before it, of those below `count` that pass a test; `count` if there is none.
+#[tactic(auto, using(crate::proofs::Firsts::counting))]
+pub fn nth_such<F: Fn(u32) -> bool>(count: u32, k: u32, passes: F) -> Firsts
+    requires { F.IsAlwaysCallable passes }
+    ensures { (p : ℕ → Bool) → ((i : ℕ) (r : Bool) → i < count → F.post passes i r → r ≡ p i) → Tab.Reached p k count result.at result.seen }
+{
+    let mut seen = 0;
+    for i in 0..count {
+        if !passes(i) {
+            continue;
+        }
+        if seen == k {
+            return Firsts { at: i, seen };
+        }
+        seen += 1;
+    }
+    Firsts { at: count, seen }
+}
+
 // The static texture with k static ones before it: its number in the file, or `count` if there is none.
 pub fn nth_static(s: &[u8], base: u32, count: u32, k: u32) -> Firsts
     ensures { Tab.Reached (λ i. not (passing s.now base Of.Animated i)) k count result.at result.seen }
 {
-    let mut i: u32 = 0;
-    let mut seen: u32 = 0;
-    while i < count {
-        let one = static_one(s, base, i);
-        if is_sought(one, seen, k) {
-            return Firsts { at: i, seen: seen };
-        }
-        seen = seen + one;
-        i = i + 1;
-    }
-    Firsts { at: i, seen: seen }
+    nth_such(count, k, |i| is_static(s, base, i))
 }

@@ -1,11 +1,12 @@
 // A sieve: bytes by which most stems that a table has not are told from those that it has, before the table is searched.
-ghost use Rattle.std.specs.Prelude.{◌≡◌, ◌≤◌, ◌*◌, length};
+ghost use Rattle.std.specs.Prelude.{ℕ, ◌≡◌, ◌≤◌, ◌*◌, length};
 ghost use Rattle.textures.specs.Sieve.{place_of, may_have, Sifted, Sieved, SameNode};
 ghost use Rattle.textures.specs.Table as Tab;
 
-use crate::table::{Located, clear_marks, mix, seek};
+use crate::table::{Located, mix, seek};
 
 // The place of a stem, of 131,072.
+#[tactic(auto, unfolding(crate::specs::Sieve::place_of))]
 fn place_of(a: u64, b: u64) -> usize
     ensures { result ≡ place_of a b }
 {
@@ -17,46 +18,42 @@ fn sift(sieve: &mut [u8], a: u64, b: u64)
     ensures { Sifted sieve.old a b sieve.new }
 {
     let place = place_of(a, b);
-    if sieve.len() <= place {
-        return;
+    if place < sieve.len() {
+        sieve[place] = 1;
     }
-    sieve[place] = 1;
 }
 
-// Puts the stems of all nodes into the sieve, and no other.
+// Puts the stems of all nodes into the sieve, and no other. Not from a slice of the nodes: the searches have the whole table, and what the
+// sieve has would have to be said of both.
 pub fn sift_all(t: &[u64], nodes: usize, sieve: &mut [u8])
     requires { 4 * nodes ≤ length t.now }
     ensures { Sieved t.now nodes sieve.new }
 {
-    clear_marks(sieve);
-    let mut v: usize = 1;
-    while v < nodes {
+    sieve.fill(0);
+    for v in 1..nodes {
         sift(sieve, t[4 * v], t[4 * v + 1]);
-        v = v + 1;
     }
 }
 
 // Whether the table may have a stem.
+#[tactic(auto, using(format::proofs::Chain::tests), unfolding(crate::specs::Sieve::may_have))]
 fn may_have(sieve: &[u8], a: u64, b: u64) -> bool
     ensures { result ≡ may_have sieve.now a b }
 {
     let place = place_of(a, b);
-    if sieve.len() <= place {
-        return true;
-    }
-    if sieve[place] == 0 {
-        return false;
-    }
-    true
+    sieve.len() <= place || sieve[place] != 0
 }
 
 // The node with a stem, if there is one; the table is searched only where it may have the stem.
-pub fn seek_sifted(t: &[u64], nodes: usize, sieve: &[u8], a: u64, b: u64) -> Located
-    requires { Tab.Table t.now nodes × Sieved t.now nodes sieve.now }
+pub fn seek_sifted(t: &[u64], sieve: &[u8], a: u64, b: u64) -> Option<usize>
+    requires { (nodes : ℕ) × Tab.Table t.now nodes × Sieved t.now nodes sieve.now }
     ensures { SameNode result (Tab.seek t.now a b 145 0 0) }
 {
-    if may_have(sieve, a, b) {
-        return seek(t, a, b);
+    if !may_have(sieve, a, b) {
+        return None;
     }
-    Located::Deep
+    match seek(t, a, b) {
+        Located::At(v) => Some(v),
+        _ => None,
+    }
 }

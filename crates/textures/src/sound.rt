@@ -2,7 +2,7 @@
 ghost use Rattle.std.specs.Prelude.{◌≡◌, ◌≤◌, ◌*◌, length};
 ghost use Rattle.textures.specs.Access.{sound_at};
 
-use crate::group::check_groups_in;
+use crate::group::{check_groups, check_groups_in};
 use texture_list::section::read_textures;
 
 // Whether the section reads as it does on loading, its end position aside. The table and the marks are for the function's own use.
@@ -16,30 +16,12 @@ pub fn is_sound_in(s: &[u8], base: u32, count: u32, t: &mut [u64], marks: &mut [
         && check_groups_in(s, base, count, t, marks).is_ok()
 }
 
-// With a small table, of 1,024 nodes.
-fn is_sound_of_few(s: &[u8], base: u32, count: u32) -> bool
-    ensures { result ≡ sound_at s.now base count }
-{
-    let mut t: [u64; 4096] = [0; 4096];
-    let mut marks: [u8; 1024] = [0; 1024];
-    is_sound_in(s, base, count, &mut t[..], &mut marks[..])
-}
-
-// With a large table, of 16,384 nodes.
-fn is_sound_of_many(s: &[u8], base: u32, count: u32) -> bool
-    ensures { result ≡ sound_at s.now base count }
-{
-    let mut t: [u64; 65536] = [0; 65536];
-    let mut marks: [u8; 16384] = [0; 16384];
-    is_sound_in(s, base, count, &mut t[..], &mut marks[..])
-}
-
-// With a table of its own.
+// The same with a table of its own, of `check_groups`.
+#[tactic(auto, using(format::proofs::Chain::steps, format::proofs::Chain::tests), unfolding(crate::specs::Access::sound_at))]
 pub fn is_sound(s: &[u8], base: u32, count: u32) -> bool
     ensures { result ≡ sound_at s.now base count }
 {
-    if count < 1024 {
-        return is_sound_of_few(s, base, count);
-    }
-    is_sound_of_many(s, base, count)
+    count <= 2097152
+        && read_textures(s, base, count).is_ok()
+        && check_groups(s, base, count).is_ok()
 }

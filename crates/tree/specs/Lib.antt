@@ -2,4 +2,3 @@
 pub mod Check
 pub mod Readable
 pub mod Size
-pub mod Answers

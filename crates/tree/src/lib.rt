@@ -8,27 +8,13 @@ ghost use Rattle.walk.specs.Private as Private;
 ghost use Rattle.nodes.specs.Tables.{leaf_in, nodes_of};
 ghost use Rattle.nodes.specs.Fast as Fast;
 ghost use Rattle.tree.specs.Check as Check;
-ghost use Rattle.tree.specs.Answers as Answers;
+ghost use Rattle.format.specs.Answers.{answer_of};
 
-use format::refusal::Refusal;
+use format::refusal::{Answer, Refusal};
 use format::section::BspData;
 use math::Vector3;
-use nodes::read::{ReadWords, read_words};
+use nodes::read::read_words;
 use nodes::table::{HullTable, Tables, tables_of};
-
-// The tree's height, or the first refusal that the check meets.
-#[derive(Clone, Copy)]
-pub enum TreeChecked {
-    Height(u32),
-    Refused(Refusal),
-}
-
-// The tree's number of nodes and its height, or the first refusal that the check meets.
-#[derive(Clone, Copy)]
-pub enum TreeSized {
-    Size(usize, u32),
-    Refused(Refusal),
-}
 
 // Whether the end that a word stands for is in range: a leaf's number may be outside its table, contents never are.
 fn end_in_range(t: Tables, word: u16) -> bool
@@ -45,58 +31,45 @@ fn end_in_range(t: Tables, word: u16) -> bool
 // A node with so many levels left, itself included: its index (30), reached before (34), too deep (32), its record (23), its plane's
 // number (30), then the front child and then the back child.
 #[cycle(check_child_check_node)]
-fn check_node(file: &[u8], t: Tables, node: usize, levels: u32, marks: &mut [u8]) -> TreeChecked
+fn check_node(file: &[u8], t: Tables, node: usize, levels: u32, marks: &mut [u8]) -> Answer<u32>
     requires { t.nodes.count ≤ length marks.old }
-    ensures { Walk.checked (Answers.height_answer result) marks.new ≡ Walk.check_node (Fast.nodes file.now t) levels node marks.old }
+    ensures { Walk.checked (answer_of result) marks.new ≡ Walk.check_node (Fast.nodes file.now t) levels node marks.old }
 {
     let nodes = t.nodes;
     let planes = t.planes;
     if (nodes.count as usize) <= node {
-        return TreeChecked::Refused(Refusal::IndexOutsideTable);
+        return Err(Refusal::IndexOutsideTable);
     }
     let mark = marks[node];
     if mark != 0 {
-        return TreeChecked::Refused(Refusal::ReachedTwice);
+        return Err(Refusal::ReachedTwice);
     }
     if levels == 0 {
-        return TreeChecked::Refused(Refusal::TooDeep);
+        return Err(Refusal::TooDeep);
     }
     marks[node] = 1;
-    let words = match read_words(file, t, node) {
-        ReadWords::Words(w) => w,
-        ReadWords::Refused(e) => return TreeChecked::Refused(e),
-    };
+    let words = read_words(file, t, node)?;
     if planes.count <= words.plane {
-        return TreeChecked::Refused(Refusal::IndexOutsideTable);
+        return Err(Refusal::IndexOutsideTable);
     }
-    let front = check_child(file, t, words.on(true), levels - 1, marks);
-    let TreeChecked::Height(a) = front else {
-        return front;
-    };
-    let back = check_child(file, t, words.on(false), levels - 1, marks);
-    let TreeChecked::Height(b) = back else {
-        return back;
-    };
-    if a < b {
-        TreeChecked::Height(b + 1)
-    } else {
-        TreeChecked::Height(a + 1)
-    }
+    let front = check_child(file, t, words.on(true), levels - 1, marks)?;
+    let back = check_child(file, t, words.on(false), levels - 1, marks)?;
+    Ok(front.max(back) + 1)
 }
 
 // A child, by its word, with so many levels left below its parent. An end has no height; a leaf's number is tested (30).
 #[cycle(check_child_check_node)]
-fn check_child(file: &[u8], t: Tables, word: u16, levels: u32, marks: &mut [u8]) -> TreeChecked
+fn check_child(file: &[u8], t: Tables, word: u16, levels: u32, marks: &mut [u8]) -> Answer<u32>
     requires { t.nodes.count ≤ length marks.old }
-    ensures { Walk.checked (Answers.height_answer result) marks.new ≡ Check.check_word (Fast.nodes file.now t) t.table levels word marks.old }
+    ensures { Walk.checked (answer_of result) marks.new ≡ Check.check_word (Fast.nodes file.now t) t.table levels word marks.old }
 {
     if word < 32768 {
         return check_node(file, t, word as usize, levels, marks);
     }
     if end_in_range(t, word) {
-        TreeChecked::Height(0)
+        Ok(0)
     } else {
-        TreeChecked::Refused(Refusal::IndexOutsideTable)
+        Err(Refusal::IndexOutsideTable)
     }
 }
 
@@ -104,11 +77,7 @@ fn check_child(file: &[u8], t: Tables, word: u16, levels: u32, marks: &mut [u8])
 pub fn clear(marks: &mut [u8])
     ensures { marks.new ≡ replicate (length marks.old) 0 }
 {
-    let mut i = 0;
-    while i < marks.len() {
-        marks[i] = 0;
-        i += 1;
-    }
+    marks.fill(0);
 }
 
 // How many marks are set.
@@ -116,29 +85,25 @@ fn marks_set(marks: &[u8]) -> usize
     ensures { result ≡ Private.marked marks.now }
 {
     let mut n = 0;
-    let mut i: usize = 0;
-    while i < marks.len() {
-        if marks[i] != 0 {
+    for mark in marks {
+        if *mark != 0 {
             n += 1;
         }
-        i += 1;
     }
     n
 }
 
 // The check with exactly one mark for each node. Where it passes, the marks set are as many as the tree has nodes.
-fn check_cleared(file: &[u8], t: Tables, root: usize, marks: &mut [u8]) -> TreeSized
+fn check_cleared(file: &[u8], t: Tables, root: usize, marks: &mut [u8]) -> Answer<(usize, u32)>
     requires { length marks.old ≡ t.nodes.count }
-    ensures { Order.sized (Answers.size_answer result) marks.new ≡ Check.sized_cleared (Fast.nodes file.now t) root }
+    ensures { Order.sized (answer_of result) marks.new ≡ Check.sized_cleared (Fast.nodes file.now t) root }
 {
     clear(marks);
-    let r = check_node(file, t, root, 512, marks);
+    let checked = check_node(file, t, root, 512, marks);
     let n = marks_set(marks);
     clear(marks);
-    match r {
-        TreeChecked::Height(h) => TreeSized::Size(n, h),
-        TreeChecked::Refused(e) => TreeSized::Refused(e),
-    }
+    let height = checked?;
+    Ok((n, height))
 }
 
 // The tree check from a root of the render nodes, the clip nodes or a box's six, with one lent mark for each node (else 22, and the marks
@@ -150,15 +115,15 @@ pub fn tree_size(
     table: HullTable,
     root: usize,
     marks: &mut [u8],
-) -> TreeSized
-    ensures { Order.sized (Answers.size_answer result) marks.new ≡ Order.sized_check (nodes_of file.now map table) marks.old root }
+) -> Answer<(usize, u32)>
+    ensures { Order.sized (answer_of result) marks.new ≡ Order.sized_check (nodes_of file.now map table) marks.old root }
 {
     let none = Vector3::new(0.0, 0.0, 0.0);
     let t = tables_of(map, table, none, none);
     let nodes = t.nodes;
     let count = nodes.count as usize;
     if marks.len() < count {
-        return TreeSized::Refused(Refusal::ListTooShort);
+        return Err(Refusal::ListTooShort);
     }
     check_cleared(file, t, root, &mut marks[..count])
 }
@@ -170,11 +135,9 @@ pub fn tree_check(
     table: HullTable,
     root: usize,
     marks: &mut [u8],
-) -> TreeChecked
-    ensures { Walk.checked (Answers.height_answer result) marks.new ≡ Walk.tree_check (nodes_of file.now map table) marks.old root }
+) -> Answer<u32>
+    ensures { Walk.checked (answer_of result) marks.new ≡ Walk.tree_check (nodes_of file.now map table) marks.old root }
 {
-    match tree_size(file, map, table, root, marks) {
-        TreeSized::Size(_, h) => TreeChecked::Height(h),
-        TreeSized::Refused(e) => TreeChecked::Refused(e),
-    }
+    let (_, height) = tree_size(file, map, table, root, marks)?;
+    Ok(height)
 }

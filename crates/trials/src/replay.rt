@@ -28,6 +28,10 @@ use words::word_at_u64;
 const UNTOUCHED: u64 = 0xfefe_fefe_fefe_fefe;
 
 const UNTOUCHED_SHORT: u32 = 0xfefe_fefe;
+
+// How many words of a hull the Rust has.
+const RUST_WORDS: usize = 9;
+
 // No case expects this number, so a kind that there is not differs.
 const NO_KIND: u32 = 255;
 
@@ -68,15 +72,10 @@ fn low_byte(word: u64) -> u8 {
 fn set_file(args: &[u64], file: &mut [u8]) -> usize
     ensures { IsPrefixLen result file.new }
 {
-    let mut i = 0;
-    while i < args.len() {
-        if file.len() <= i {
-            return i;
-        }
-        file[i] = low_byte(args[i]);
-        i += 1;
+    for (byte, &word) in file.iter_mut().zip(args) {
+        *byte = low_byte(word);
     }
-    i
+    args.len().min(file.len())
 }
 
 // What an entry of a list is beside the word before it: an entry that the call did not write leaves the word.
@@ -88,26 +87,15 @@ fn written(entry: u32, word: u64) -> u64 {
     }
 }
 
-// The entries of a list, from a place of the words on, as far as there is room.
-fn put_list(list: &[u32], from: usize, out: &mut [u64]) {
-    let mut i = 0;
-    let mut at = from;
-    while i < list.len() {
-        if out.len() <= at {
-            return;
-        }
-        out[at] = written(list[i], out[at]);
-        i += 1;
-        at += 1;
+// The entries of a list at the front of the words, as far as there is room.
+fn put_list(list: &[u32], out: &mut [u64]) {
+    for (word, &entry) in out.iter_mut().zip(list) {
+        *word = written(entry, *word);
     }
 }
 
-// The entries of a list after its length.
-fn put_after_length(list: &[u32; 4096], out: &mut [u64; 4097]) {
-    put_list(list, 1, out);
-}
-
-// The calls that leave a list beside its length.
+// The calls that leave a list beside its length. (A `match` here and in `ask`: the kind is a number of the sample, and each call takes other
+// arguments, so a table of closures would say the same with a closure around each line.)
 fn call_list(
     kind: u64,
     args: &[u64],
@@ -151,7 +139,7 @@ fn ask_list(
 ) -> u32 {
     let mut list = [UNTOUCHED_SHORT; 4096];
     let refusal = call_list(kind, args, file, map, hull, &mut list, out);
-    put_after_length(&list, out);
+    put_list(&list, &mut out[1..]);
     refusal
 }
 
@@ -179,16 +167,9 @@ fn ask(
 fn ask_load(file: &[u8], map: &mut [u32; 31], out: &mut [u64; 4097]) -> u32 {
     let refusal = ffi_load::load(file, map);
     if refusal == 0 {
-        put_list(map, 0, out);
+        put_list(map, out);
     }
     refusal
-}
-
-// The words of a hull that the Rust has.
-fn rust_words(hull: &[u64; 11]) -> [u64; 9] {
-    [
-        hull[0], hull[1], hull[2], hull[3], hull[4], hull[5], hull[6], hull[7], hull[8],
-    ]
 }
 
 // A hull, of a model or of a box, which becomes the current one.
@@ -206,7 +187,7 @@ fn ask_hull(
         ffi_hull::hull_of_box(&segment(args), hull)
     };
     if refusal == 0 {
-        words::give(&rust_words(hull), out);
+        words::give(&hull[..RUST_WORDS], out);
     }
     refusal
 }
@@ -227,55 +208,43 @@ fn answer(
     }
 }
 
-// Where the number of a case's refusal stands, and where the next case starts; or that the words end before the case does.
+// Where the number of a case's refusal stands, and where the next case starts.
 #[derive(Clone, Copy)]
-pub enum CaseAt {
-    Case(usize, usize),
-    Broken,
+pub struct Case {
+    pub refusal: usize,
+    pub next: usize,
 }
 
-fn case_at(words: &[u64], at: usize) -> CaseAt
+// The case that starts at a place, or none where the words end before it does.
+fn case_at(words: &[u64], at: usize) -> Option<Case>
     requires { at < length words.now }
     ensures { Lies (length words.now) at result }
 {
     let left = words.len() - at;
     if left < 4 {
-        return CaseAt::Broken;
+        return None;
     }
     let arguments = words[at + 1] as usize;
     if left - 4 < arguments {
-        return CaseAt::Broken;
+        return None;
     }
     let refusal = at + 2 + arguments;
     let answers = words[refusal + 1] as usize;
     if words.len() - refusal - 2 < answers {
-        return CaseAt::Broken;
+        return None;
     }
-    CaseAt::Case(refusal, refusal + 2 + answers)
-}
-
-// The expected word of a place: past the answer it is untouched.
-fn expected_at(expected: &[u64], at: usize) -> u64 {
-    if at < expected.len() {
-        expected[at]
-    } else {
-        UNTOUCHED
-    }
+    Some(Case {
+        refusal,
+        next: refusal + 2 + answers,
+    })
 }
 
 // Whether the words are the expected ones, and all further words are untouched.
 fn same(expected: &[u64], out: &[u64]) -> bool {
-    if out.len() < expected.len() {
-        return false;
+    match out.split_at_checked(expected.len()) {
+        Some((answer, rest)) => answer == expected && rest.iter().all(|word| *word == UNTOUCHED),
+        None => false,
     }
-    let mut i = 0;
-    while i < out.len() {
-        if out[i] != expected_at(expected, i) {
-            return false;
-        }
-        i += 1;
-    }
-    true
 }
 
 // How many cases of each kind ran, how many in all, and how many of them agreed.
@@ -286,52 +255,21 @@ pub struct Tally {
     pub agreed: u64,
 }
 
-fn one_more(count: u64) -> u64 {
-    std::num::wrapping_add_u64(count, 1)
-}
-
 // A tally with one case more.
 fn counted(tally: Tally, kind: u64, agrees: bool) -> Tally {
     let mut ran = tally.ran;
     let at = (kind % 16) as usize;
-    ran[at] = one_more(ran[at]);
-    let all = one_more(tally.all);
-    if agrees {
-        return Tally {
-            ran,
-            all,
-            agreed: one_more(tally.agreed),
-        };
-    }
+    ran[at] = ran[at].wrapping_add(1);
     Tally {
         ran,
-        all,
-        agreed: tally.agreed,
+        all: tally.all.wrapping_add(1),
+        agreed: tally.agreed.wrapping_add(u64::from(agrees)),
     }
 }
 
 // Whether the refusal and the words are the expected ones.
 fn agree(refusal: u32, expected_refusal: u64, expected: &[u64], out: &[u64; 4097]) -> bool {
-    if refusal as u64 != expected_refusal {
-        return false;
-    }
-    same(expected, out)
-}
-
-// The first bytes of a file, or none where it is shorter.
-fn part(file: &[u8], size: usize) -> &[u8] {
-    if size <= file.len() {
-        return &file[..size];
-    }
-    &file[..0]
-}
-
-// The size of the current file: a case of kind 1 has a file of its own.
-fn size_after(kind: u64, args: &[u64], size: usize, file: &mut [u8]) -> usize {
-    if kind == 1 {
-        return set_file(args, file);
-    }
-    size
+    refusal as u64 == expected_refusal && same(expected, out)
 }
 
 // What is carried from case to case beside the lent lists: the size of the current file, and the tally.
@@ -341,34 +279,37 @@ pub struct Replayed {
     pub tally: Tally,
 }
 
-// One case, whose refusal's number stands at `refusal`, and after which the next one starts at `next`.
+// One case, which starts at a place.
 fn run_case(
     words: &[u64],
     at: usize,
-    refusal: usize,
-    next: usize,
+    case: Case,
     file: &mut [u8],
     map: &mut [u32; 31],
     hull: &mut [u64; 11],
     before: Replayed,
 ) -> Replayed
-    requires { (at + 2 ≤ refusal) × (refusal + 2 ≤ next) × (next ≤ length words.now) }
+    requires { (at + 2 ≤ case.refusal) × (case.refusal + 2 ≤ case.next) × (case.next ≤ length words.now) }
 {
     let kind = words[at];
-    let first = at + 2;
-    let answers = refusal + 2;
-    let args = &words[first..refusal];
-    let size = size_after(kind, args, before.size, file);
+    let args = &words[at + 2..case.refusal];
+    let size = match kind {
+        // (A case of kind 1 has a file of its own.)
+        1 => set_file(args, file),
+        _ => before.size,
+    };
     let mut out = [UNTOUCHED; 4097];
-    let number = answer(kind, args, part(file, size), map, hull, &mut out);
-    let agrees = agree(number, words[refusal], &words[answers..next], &out);
+    let current = file.get(..size).unwrap_or(&[]);
+    let number = answer(kind, args, current, map, hull, &mut out);
+    let expected = &words[case.refusal + 2..case.next];
+    let agrees = agree(number, words[case.refusal], expected, &out);
     Replayed {
         size,
         tally: counted(before.tally, kind, agrees),
     }
 }
 
-// Runs every case. A case that is broken off counts as one of kind 0 that differs.
+// Runs every case. A case that is broken off counts as one of kind 0 that differs. (No `for`: each case says where the next one starts.)
 pub fn replay(words: &[u64], file: &mut [u8]) -> Tally {
     let mut map = [0u32; 31];
     let mut hull = [0u64; 11];
@@ -382,11 +323,11 @@ pub fn replay(words: &[u64], file: &mut [u8]) -> Tally {
     };
     let mut at = 0;
     while at < words.len() {
-        let CaseAt::Case(refusal, next) = case_at(words, at) else {
+        let Some(case) = case_at(words, at) else {
             return counted(state.tally, 0, false);
         };
-        state = run_case(words, at, refusal, next, file, &mut map, &mut hull, state);
-        at = next;
+        state = run_case(words, at, case, file, &mut map, &mut hull, state);
+        at = case.next;
     }
     state.tally
 }

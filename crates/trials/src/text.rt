@@ -12,19 +12,17 @@ fn digit(byte: u8) -> u64 {
 
 // A word with one digit more; of more than sixteen digits the last sixteen count.
 fn longer(word: u64, digit: u64) -> u64 {
-    std::num::wrapping_add_u64(word % 1152921504606846976 * 16, digit)
+    (word % 1152921504606846976 * 16).wrapping_add(digit)
 }
 
 // Puts the words of the text at the front of the list, as many as it has room for, and answers how many there are.
 pub fn words_of(text: &[u8], words: &mut [u64]) -> usize
     ensures { IsPrefixLen result words.new }
 {
-    let mut at = 0;
     let mut count = 0;
     let mut word = 0;
-    while at < text.len() {
-        let value = digit(text[at]);
-        at += 1;
+    for &byte in text {
+        let value = digit(byte);
         if value < 16 {
             word = longer(word, value);
         } else if count < words.len() {

@@ -4,10 +4,11 @@
 use faces::extents::face;
 use faces::face::BspFace;
 use float::num::from_bits;
+use format::contents::BspLeafContents;
 use format::refusal::{Answer, Refusal};
 use format::section::BspData;
-use hull::collision::{BspCollisionHull, HullAnswer};
-use hull::point::{PointContents, contents_at_point};
+use hull::collision::BspCollisionHull;
+use hull::point::contents_at_point;
 use load::load;
 use math::Vector3;
 use std::io;
@@ -48,10 +49,10 @@ fn no_model(rt: &impl Print) -> io::Result<()> {
     print_loaded(rt, &smallest(0))
 }
 
-fn print_contents(rt: &impl Print, contents: PointContents) -> io::Result<()> {
+fn print_contents(rt: &impl Print, contents: Answer<(BspLeafContents, u64)>) -> io::Result<()> {
     match contents {
-        PointContents::Refused(refusal) => print_refusal(rt, refusal),
-        PointContents::Contents(c, _) => print_line(rt, "contents", c.code() as u64),
+        Err(refusal) => print_refusal(rt, refusal),
+        Ok((c, _)) => print_line(rt, "contents", c.code() as u64),
     }
 }
 
@@ -60,12 +61,12 @@ fn print_in_hull(
     rt: &impl Print,
     file: &[u8],
     map: BspData,
-    hull: HullAnswer,
+    hull: Answer<BspCollisionHull>,
     point: Vector3,
 ) -> io::Result<()> {
     match hull {
-        HullAnswer::Refused(refusal) => print_refusal(rt, refusal),
-        HullAnswer::Hull(h) => print_contents(rt, contents_at_point(file, map, h, point)),
+        Err(refusal) => print_refusal(rt, refusal),
+        Ok(h) => print_contents(rt, contents_at_point(file, map, h, point)),
     }
 }
 

@@ -4,6 +4,7 @@ pub mod Rows
 pub mod RustLoop
 pub mod Fits
 pub mod Chain
+pub mod Placed
 pub mod Passes
 pub mod Lists
 pub mod Sections

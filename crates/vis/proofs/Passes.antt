@@ -11,8 +11,7 @@ use lib.Dec.{leb}
 use lib.ListN.{length, take, drop, get_or, length-append}
 use lib.Seq.{length-take-le, take_all}
 use Rattle.format.specs.Answer.{Answer, answer, refused, mapped}
-use Rattle.vis.specs.Row.{before, in_byte, row_from}
-use Rattle.vis.specs.Private.{byte_leaves}
+use Rattle.vis.specs.Row.{before, in_byte, row_from, byte_leaves}
 use Rattle.vis.proofs.SetBits.{length_visible, ones_in_lem}
 use Rattle.vis.proofs.Rows.{kept_bits, before_none, before_before, done, ended, cut, skipped, byte}
 

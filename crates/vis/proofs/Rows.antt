@@ -11,8 +11,7 @@ use lib.Dec.{leb}
 use lib.ListN.{length, drop, get_or, replicate, length-replicate, drop_of_length-le}
 use lib.Seq.{drop-cons}
 use Rattle.format.specs.Answer.{Answer, answer, refused, mapped}
-use Rattle.vis.specs.Row.{bits, before, in_byte, row_bits, visible, row_from}
-use Rattle.vis.specs.Private.{byte_leaves}
+use Rattle.vis.specs.Row.{bits, before, in_byte, row_bits, visible, row_from, byte_leaves}
 use Rattle.vis.proofs.SetBits.{length_bits, low_bits}
 
 visible_append : (leaf n : ℕ) (xs ys : List Bool) → length xs ≡ n → visible leaf (xs ++ ys) ≡ visible leaf xs ++ visible (leaf + n) ys

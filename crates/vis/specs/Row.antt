@@ -32,6 +32,10 @@ visible leaf [] = []
 visible leaf (true ∷ more) = leaf ∷ visible (leaf + 1) more
 visible leaf (false ∷ more) = visible (leaf + 1) more
 
+-- the leaves that a byte lists, its lowest bit being that of `leaf`
+abbrev pub byte_leaves : ℕ → ℕ → List ℕ
+byte_leaves leaf byte = visible leaf (bits 8 byte)
+
 -- the leaves that the bytes of a row list, from `leaf` on
 abbrev pub row_from : ℕ → ℕ → List ℕ → Answer (List ℕ)
 row_from count leaf bytes = mapped (visible leaf) (row_bits count leaf bytes)

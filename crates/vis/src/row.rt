@@ -3,8 +3,7 @@ ghost use Rattle.std.specs.Prelude.{◌≡◌, ◌+◌, ◌%◌, ◌^◌, ◌≤
 ghost use Rattle.format.specs.Answers.{answer_of};
 ghost use Rattle.format.specs.Answer.{answer, mapped};
 ghost use Rattle.format.specs.Listed.{listed, into};
-ghost use Rattle.vis.specs.Row.{row_from, row_at};
-ghost use Rattle.vis.specs.Private.{byte_leaves};
+ghost use Rattle.vis.specs.Row.{row_from, row_at, byte_leaves};
 ghost use Rattle.vis.specs.Counts.{counts};
 ghost use Rattle.vis.specs.Pvs.{section_row};
 
@@ -22,10 +21,14 @@ pub fn kept_bits(byte: u8, left: usize) -> u8
     byte % (1u8 << (left as u32))
 }
 
+// Above this leaf there are no eight more whose numbers have 32 bits.
+const MOST_FIRST: u32 = 4294967287;
+
 // Lists the set bits of a byte, of which the lowest is that of the leaf `first`, past the `count` leaves that the list has, and answers how
 // many it has then. Each number is written before it is known whether its bit is set, and the next one takes its place if it is not.
+#[inline(always)]
 fn put_eight(byte: u8, first: u32, count: usize, list: &mut [u32]) -> usize
-    requires { (count + 8 ≤ length list.old) × (first < 4294967288) }
+    requires { (count + 8 ≤ length list.old) × (first ≤ 4294967287) }
     ensures { (result ≡ count + length (byte_leaves first byte)) × (take result list.new ≡ take count list.old ++ byte_leaves first byte) }
 {
     let mut rest = byte as usize;
@@ -38,17 +41,18 @@ fn put_eight(byte: u8, first: u32, count: usize, list: &mut [u32]) -> usize
     at
 }
 
-// The same where the list may have room for the set bits only: as long as one is left there is room.
+// The same where the list may have room for the set bits only: as long as one is left there is room. The leaves are worked out bit by bit.
 fn put_last(byte: u8, first: u32, count: usize, list: &mut [u32]) -> usize
-    requires { (count + length (byte_leaves first byte) ≤ length list.old) × (first < 4294967288) }
+    requires { (count + length (byte_leaves first byte) ≤ length list.old) × (first ≤ 4294967287) }
     ensures { (result ≡ count + length (byte_leaves first byte)) × (take result list.new ≡ take count list.old ++ byte_leaves first byte) }
 {
     let mut rest = byte as usize;
-    let mut leaf = first;
     let mut at = count;
-    while rest != 0 {
-        list[at] = leaf;
-        leaf += 1;
+    for shift in 0..8u32 {
+        if rest == 0 {
+            break;
+        }
+        list[at] = first + shift;
         at += rest % 2;
         rest = rest / 2;
     }
@@ -57,18 +61,33 @@ fn put_last(byte: u8, first: u32, count: usize, list: &mut [u32]) -> usize
 
 // The same for the lowest `left` bits of a byte: by eight where these are all of them and the list has room for eight.
 fn put_bits(byte: u8, left: usize, first: u32, count: usize, list: &mut [u32]) -> usize
-    requires { (count + length (byte_leaves first (byte % 2 ^ min 8 left)) ≤ length list.old) × (first < 4294967288) }
+    requires { (count + length (byte_leaves first (byte % 2 ^ min 8 left)) ≤ length list.old) × (first ≤ 4294967287) }
     ensures { (result ≡ count + length (byte_leaves first (byte % 2 ^ min 8 left))) × (take result list.new ≡ take count list.old ++ byte_leaves first (byte % 2 ^ min 8 left)) }
 {
-    if 8 <= left {
-        if 8 <= list.len() - count {
-            return put_eight(byte, first, count, list);
-        }
+    if 8 <= left && 8 <= list.len() - count {
+        return put_eight(byte, first, count, list);
     }
     put_last(kept_bits(byte, left), first, count, list)
 }
 
-// How many leaves the row at the offset lists, by the table of the numbers of set bits.
+// Lists the leaves of a byte at the front of any list, as many as there is room for, and answers how many. A first leaf above `MOST_FIRST`
+// counts as that one. A call: in line in `team` it makes a pool of many leaves slower.
+#[inline(never)]
+pub fn put_leaves(byte: u8, first: u32, list: &mut [u32]) -> usize
+    ensures { (result ≡ min (length list.old) (length (byte_leaves (min first 4294967287) byte))) × (take result list.new ≡ take (length list.old) (byte_leaves (min first 4294967287) byte)) }
+{
+    let first = first.min(MOST_FIRST);
+    if 8 <= list.len() {
+        return put_eight(byte, first, 0, list);
+    }
+    let mut eight = [0; 8];
+    let count = put_eight(byte, first, 0, &mut eight).min(list.len());
+    list[..count].copy_from_slice(&eight[..count]);
+    count
+}
+
+// How many leaves the row at the offset lists, by the table of the numbers of set bits. (No `for`, here and in `put_row`: the position moves
+// by one byte or by two, and the leaf by as many as the bytes say, so no range goes with either.)
 fn row_length(
     table: &[u8; 256],
     visibility: &[u8],
@@ -127,6 +146,7 @@ fn put_row(visibility: &[u8], offset: usize, leaf_count: usize, list: &mut [u32]
 }
 
 // Lists the row at the offset of the visibility data.
+#[tactic(auto, using(crate::proofs::Lists::row_past, crate::proofs::Lists::row_refused, crate::proofs::Lists::row_short, crate::proofs::Lists::row_listed, crate::proofs::Chain::handed_on))]
 fn list_row(visibility: &[u8], offset: usize, leaf_count: usize, list: &mut [u32]) -> Answer<usize>
     requires { length visibility.now ≤ 1048576 }
     ensures { listed (answer_of result) list.new ≡ into (row_at visibility.now offset leaf_count) list.old }
@@ -143,6 +163,7 @@ fn list_row(visibility: &[u8], offset: usize, leaf_count: usize, list: &mut [u32
 }
 
 // Lists the row at the offset of the visibility section.
+#[tactic(auto, unfolding(crate::specs::Pvs::section_row, crate::specs::Pvs::visibility_of))]
 pub fn list_section_row(
     file: &[u8],
     section: BspFileSection,

@@ -1,11 +1,20 @@
-// The words of a trace.
+// The words of contents and of a trace.
 #![tactic(auto)]
 
 ghost use Rattle.std.specs.Prelude.{◌≡◌};
 ghost use Rattle.walk_words.specs.Layout as Layout;
 
+use format::contents::BspLeafContents;
 use phys::{Trace, TraceEndBoundary, TraceEndKind};
 use words::{flag_word, float_word};
+
+// The code of the contents, and then the visits.
+pub fn contents_words(found: (BspLeafContents, u64)) -> [u64; 2]
+    ensures { result ≡ Layout.contents_words found }
+{
+    let (contents, visits) = found;
+    [contents.code() as u64, visits]
+}
 
 // 1, the ratio and the plane.
 fn boundary_words(boundary: TraceEndBoundary) -> [u64; 7]

@@ -51,6 +51,18 @@ pub fn give_u32(words: &[u32], out: &mut [u32]) -> u32
     }
 }
 
+// Answers 0 and writes the words that were answered to the front of the list, or 22 where it is too short; or answers the number of the
+// refusal, and the list stays as it was.
+#[inline(always)]
+pub fn give_words<const N: usize>(answer: Answer<[u64; N]>, out: &mut [u64]) -> u32
+    ensures { Words.written result out.new ≡ Words.told (answer_of answer.entry) out.old }
+{
+    match answer {
+        Ok(words) => give(&words, out),
+        Err(refusal) => refusal.number(),
+    }
+}
+
 // A number that stands in a word as it is.
 pub trait Number: Copy {
     ghost worth: { Self → ℕ };
@@ -89,7 +101,11 @@ pub fn give_number<N: Number>(answer: Answer<N>, out: &mut [u64]) -> u32
     ensures { Words.written result out.new ≡ Words.told (mapped (λ n. Words.number_words (N.worth n)) (answer_of answer)) out.old }
 {
     match answer {
-        Ok(n) => give(&[n.word()], out),
+        Ok(_) if out.is_empty() => LIST_TOO_SHORT,
+        Ok(n) => {
+            out[0] = n.word();
+            0
+        }
         Err(refusal) => refusal.number(),
     }
 }

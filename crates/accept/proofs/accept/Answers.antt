@@ -1,17 +1,9 @@
 -- `accept` meets its contract: with marks enough, the first ones are lent to `accept_marked` and the others stay as they were. Assumes nothing.
-use mathlib.Core.Path.{sym, ◌∙◌}
-use lib.Seq.{length-take-le}
 use Rattle.accept.proofs.Ways.{too_few, enough}
 use Rattle.accept.proofs.accept.Goals as goal
 
 pub returns-then-marks-count : goal.returns-then-marks-count
 returns-then-marks-count c = let a = c.args in too_few a.file.now a.map a.marks.now _ c.marks_for-count.ensures c.if-marks-count.true
-
-pub slice_bounds-accept_marked-end-2 : goal.slice_bounds-accept_marked-end-2
-slice_bounds-accept_marked-end-2 c = sym (length-take-le _ c.args.marks.now c.if-marks-count.false)
-
-pub accept_marked-requires : goal.accept_marked-requires
-accept_marked-requires c = length-take-le _ c.args.marks.now c.if-marks-count.false ∙ c.marks_for-count.ensures
 
 pub returns : goal.returns
 returns c = let a = c.args in

@@ -1,12 +1,12 @@
 -- `ffi_line::give_line` meets its contract. Assumes nothing.
 use mathlib.Core.Path.{refl}
 use Rattle.words.proofs.Giving.{refuses, gives}
-use Rattle.line.specs.Answers.{answer_of}
+use Rattle.format.specs.Answers.{answer_of}
 use Rattle.ffi_line.specs.Calls.{line_words}
 use Rattle.ffi_line.proofs.give_line.Goals as goal
 
-pub returns-in-Refused : goal.returns-in-Refused
-returns-in-Refused c = refuses answer_of line_words c.trace_line.ensures c.in-Refused.is refl c.number.ensures
+pub returns-in-Err : goal.returns-in-Err
+returns-in-Err c = refuses answer_of line_words c.trace_line.ensures c.in-Err.is refl c.number.ensures
 
-pub returns-in-Line : goal.returns-in-Line
-returns-in-Line c = gives answer_of line_words c.args.out.now c.trace_line.ensures c.in-Line.is refl c.line_words.ensures c.requires c.give.ensures
+pub returns-in-Ok : goal.returns-in-Ok
+returns-in-Ok c = gives answer_of line_words c.args.out.now c.trace_line.ensures c.in-Ok.is refl c.line_words.ensures c.requires c.give.ensures

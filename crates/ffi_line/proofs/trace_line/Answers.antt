@@ -47,15 +47,15 @@ pub returns-then-out-lt12 : goal.returns-then-out-lt12
 unfolding bsp_trace_line
 returns-then-out-lt12 c = simp (le-ltb _ _ c.if-map-lt31.false, le-ltb _ _ c.if-hull-lt-HULL_ASKED.false, le-ltb _ _ c.if-segment-lt6.false, lt-ltb _ _ c.if-out-lt12.true)
 
-pub returns-in-Refused : goal.returns-in-Refused
-returns-in-Refused c = let s = c.args in
-    at_hull (goal.at.returns-in-Refused c).After-walked_hull (refused _)
-    (no_hull s.file.now s.map.now s.hull.now (asked (point_at s.segment.now 0) (point_at s.segment.now 3)) _ c.walked_hull.ensures _ c.in-Refused.is _ c.number.ensures)
+pub returns-in-Err : goal.returns-in-Err
+returns-in-Err c = let s = c.args in
+    at_hull (goal.at.returns-in-Err c).After-walked_hull (refused _)
+    (no_hull s.file.now s.map.now s.hull.now (asked (point_at s.segment.now 0) (point_at s.segment.now 3)) _ c.walked_hull.ensures _ c.in-Err.is _ c.number.ensures)
 
-pub returns-in-Hull : goal.returns-in-Hull
-returns-in-Hull c = let s = c.args in
-    let h = c.in-Hull.h in
+pub returns-in-Ok : goal.returns-in-Ok
+returns-in-Ok c = let s = c.args in
+    let h = c.in-Ok.h in
     c.give_line.ensures
-    ∙ at_hull (goal.at.returns-in-Hull c).After-walked_hull _
+    ∙ at_hull (goal.at.returns-in-Ok c).After-walked_hull _
     (ap₂ (λ (p q : Vector3). asked p q (hull_table s.file.now c.walked_map.result h) h.node_id) c.first_point.ensures c.second_point.ensures
-    ∙ the_hull s.file.now s.map.now s.hull.now (asked (point_at s.segment.now 0) (point_at s.segment.now 3)) _ c.walked_hull.ensures h c.in-Hull.is _ c.walked_map.ensures)
+    ∙ the_hull s.file.now s.map.now s.hull.now (asked (point_at s.segment.now 0) (point_at s.segment.now 3)) _ c.walked_hull.ensures h c.in-Ok.is _ c.walked_map.ensures)

@@ -1,11 +1,9 @@
 -- `ffi_textures::frame` meets its contract. Assumes nothing.
-use Prim.Native.Nat.{ℕ}
-use mathlib.Core.Path.{ap, ◌∙◌}
+use Rattle.std.proofs.Common.{◌∙◌}
 use borrow.Author.Tests.{lt-ltb, le-ltb}
-use Rattle.format.specs.Answer.{Answer, mapped}
-use Rattle.format.specs.declared.section.BspData.{BspData}
-use Rattle.words.specs.Words.{given, number_words}
-use Rattle.textures.specs.Access.{frame_texture}
+use Rattle.format.specs.Answers.{answer_of}
+use Rattle.words.specs.Words.{number_words}
+use Rattle.words.proofs.Giving.{told_given}
 use Rattle.ffi_textures.specs.Calls.{bsp_texture_frame}
 use Rattle.ffi_textures.proofs.frame.Goals as goal
 
@@ -19,7 +17,6 @@ returns-then-out-lt1 c = simp (le-ltb _ _ c.if-map-lt31.false, lt-ltb _ _ c.if-o
 
 pub returns : goal.returns
 unfolding bsp_texture_frame
-returns c = let s = c.args in
+returns c =
     simp (le-ltb _ _ c.if-map-lt31.false, le-ltb _ _ c.if-out-lt1.false)
-    (c.give_number.ensures
-    ∙ ap (λ (a : Answer ℕ). given (mapped number_words a) s.out.now) (c.frame_texture.ensures ∙ ap (λ (m : BspData). frame_texture s.file.now m s.number s.group s.place) c.map_of.ensures))
+    (rw (← c.map_of.ensures, ← c.frame_texture.ensures) (c.give_number.ensures ∙ told_given number_words (answer_of c.frame_texture.result) _ (λ n. c.if-out-lt1.false)))

@@ -1,11 +1,9 @@
 -- `ffi_textures::texture` meets its contract. Assumes nothing.
-use mathlib.Core.Path.{ap, ◌∙◌}
+use Rattle.std.proofs.Common.{refl, ap, ◌∙◌, arith}
 use borrow.Author.Tests.{lt-ltb, le-ltb}
-use Rattle.format.specs.Answer.{Answer, mapped}
-use Rattle.format.specs.declared.section.BspData.{BspData}
-use Rattle.words.specs.Words.{given}
+use Rattle.format.specs.Answers.{answer_of}
 use Rattle.texture_list.specs.Texture.{texture_of}
-use Rattle.texture_list.specs.declared.answer.BspTexture.{BspTexture}
+use Rattle.words.proofs.Giving.{refuses, gives}
 use Rattle.ffi_textures.specs.Calls.{texture_words, bsp_texture}
 use Rattle.ffi_textures.proofs.texture.Goals as goal
 
@@ -17,9 +15,14 @@ pub returns-then-out-lt5 : goal.returns-then-out-lt5
 unfolding bsp_texture
 returns-then-out-lt5 c = simp (le-ltb _ _ c.if-map-lt31.false, lt-ltb _ _ c.if-out-lt5.true)
 
-pub returns : goal.returns
+pub returns-in-Ok : goal.returns-in-Ok
 unfolding bsp_texture
-returns c = let s = c.args in
+returns-in-Ok c = let s = c.args in
     simp (le-ltb _ _ c.if-map-lt31.false, le-ltb _ _ c.if-out-lt5.false)
-    (c.give_texture.ensures
-    ∙ ap (λ (a : Answer BspTexture). given (mapped texture_words a) s.out.now) (c.texture.ensures ∙ ap (λ (m : BspData). texture_of s.file.now m s.index) c.map_of.ensures))
+    (gives answer_of texture_words s.out.now (c.texture.ensures ∙ ap (λ m. texture_of s.file.now m s.index) c.map_of.ensures) c.in-Ok.is refl c.texture_words.ensures (omega (arith, c.if-out-lt5.false)) c.give.ensures)
+
+pub returns-in-Err : goal.returns-in-Err
+unfolding bsp_texture
+returns-in-Err c = let s = c.args in
+    simp (le-ltb _ _ c.if-map-lt31.false, le-ltb _ _ c.if-out-lt5.false)
+    (refuses answer_of texture_words (c.texture.ensures ∙ ap (λ m. texture_of s.file.now m s.index) c.map_of.ensures) c.in-Err.is refl c.number.ensures)

@@ -19,13 +19,13 @@ seven (Boundary b) = refl
 long : (a : Trace × ℕ) (n : ℕ) → 17 ≤ n → length (trace_words a) ≤ n
 long a n h = let e = seven a.0.end.kind in omega arith
 
-pub returns-in-Refused : goal.returns-in-Refused
-returns-in-Refused c = refuses (way_answer c.args.file.now c.tables_of-t.result (at_start c.args.start)) trace_words
-    (trace_is _ _ _ _ _ _ c.tables_of-t.ensures _ _ _ c.trace_way.ensures) c.in-Refused.is refl c.number.ensures
+pub returns-in-Err : goal.returns-in-Err
+returns-in-Err c = refuses (way_answer c.args.file.now c.tables_of-t.result (at_start c.args.start)) trace_words
+    (trace_is _ _ _ _ _ _ c.tables_of-t.ensures _ _ _ c.trace_way.ensures) c.in-Err.is refl c.number.ensures
 
-pub returns-in-Went : goal.returns-in-Went
-returns-in-Went c = let t = c.tables_of-t.result in
-    let part = c.in-Went.part in
+pub returns-in-Ok : goal.returns-in-Ok
+returns-in-Ok c = let t = c.tables_of-t.result in
+    let part = c.in-Ok.part in
     gives (way_answer c.args.file.now t (at_start c.args.start)) trace_words c.args.out.now
-    (trace_is _ _ _ _ _ _ c.tables_of-t.ensures _ _ _ c.trace_way.ensures) c.in-Went.is refl c.went_words.ensures
+    (trace_is _ _ _ _ _ _ c.tables_of-t.ensures _ _ _ c.trace_way.ensures) c.in-Ok.is refl c.went_words.ensures
     (long (went_trace c.args.file.now t (at_start c.args.start) part, part.visits) (length c.args.out.now) c.requires) c.give.ensures

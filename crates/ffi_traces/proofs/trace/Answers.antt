@@ -1,7 +1,6 @@
 -- `ffi_traces::trace` meets its contract. Assumes nothing.
 use Prim.Native.Nat.{ℕ}
 use mathlib.Core.Path.{◌≡◌, ap, ap₂, ◌∙◌}
-use borrow.Author.Tests.{lt-ltb, le-ltb}
 use Rattle.format.specs.Answer.{Answer, refused, mapped, then_answer}
 use Rattle.math.specs.declared.vector.Vector3.{Vector3}
 use Rattle.words.specs.Words.{given, map_of}
@@ -33,31 +32,15 @@ at_hull c a g =
     long_enough trace_words s.map.now s.hull.now s.segment.now 6 trace_length s.out.now (then_answer (hull_from s.hull.now) (λ h. asked (point_at s.segment.now 0) (point_at s.segment.now 3) (hull_table s.file.now (map_of s.map.now) h) h.node_id)) c.if-map-lt31.false c.if-hull-lt-HULL_ASKED.false c.if-segment-lt6.false c.if-out-lt17.false (given (mapped trace_words a) s.out.now)
     (ap (λ (a : Answer (Trace × ℕ)). given (mapped trace_words a) s.out.now) g)
 
-pub returns-then-map-lt31 : goal.returns-then-map-lt31
-unfolding bsp_trace
-returns-then-map-lt31 c = simp (lt-ltb _ _ c.if-map-lt31.true)
+pub returns-in-Err : goal.returns-in-Err
+returns-in-Err c = let s = c.args in
+    at_hull (goal.at.returns-in-Err c).After-walked_hull (refused _)
+    (no_hull s.file.now s.map.now s.hull.now (asked (point_at s.segment.now 0) (point_at s.segment.now 3)) _ c.walked_hull.ensures _ c.in-Err.is _ c.number.ensures)
 
-pub returns-then-hull-lt-HULL_ASKED : goal.returns-then-hull-lt-HULL_ASKED
-unfolding bsp_trace
-returns-then-hull-lt-HULL_ASKED c = simp (le-ltb _ _ c.if-map-lt31.false, lt-ltb _ _ c.if-hull-lt-HULL_ASKED.true)
-
-pub returns-then-segment-lt6 : goal.returns-then-segment-lt6
-unfolding bsp_trace
-returns-then-segment-lt6 c = simp (le-ltb _ _ c.if-map-lt31.false, le-ltb _ _ c.if-hull-lt-HULL_ASKED.false, lt-ltb _ _ c.if-segment-lt6.true)
-
-pub returns-then-out-lt17 : goal.returns-then-out-lt17
-unfolding bsp_trace
-returns-then-out-lt17 c = simp (le-ltb _ _ c.if-map-lt31.false, le-ltb _ _ c.if-hull-lt-HULL_ASKED.false, le-ltb _ _ c.if-segment-lt6.false, lt-ltb _ _ c.if-out-lt17.true)
-
-pub returns-in-Refused : goal.returns-in-Refused
-returns-in-Refused c = let s = c.args in
-    at_hull (goal.at.returns-in-Refused c).After-walked_hull (refused _)
-    (no_hull s.file.now s.map.now s.hull.now (asked (point_at s.segment.now 0) (point_at s.segment.now 3)) _ c.walked_hull.ensures _ c.in-Refused.is _ c.number.ensures)
-
-pub returns-in-Hull : goal.returns-in-Hull
-returns-in-Hull c = let s = c.args in
-    let h = c.in-Hull.h in
+pub returns-in-Ok : goal.returns-in-Ok
+returns-in-Ok c = let s = c.args in
+    let h = c.in-Ok.h in
     c.give_trace.ensures
-    ∙ at_hull (goal.at.returns-in-Hull c).After-walked_hull _
+    ∙ at_hull (goal.at.returns-in-Ok c).After-walked_hull _
     (ap₂ (λ (p q : Vector3). asked p q (hull_table s.file.now c.walked_map.result h) h.node_id) c.first_point.ensures c.second_point.ensures
-    ∙ the_hull s.file.now s.map.now s.hull.now (asked (point_at s.segment.now 0) (point_at s.segment.now 3)) _ c.walked_hull.ensures h c.in-Hull.is _ c.walked_map.ensures)
+    ∙ the_hull s.file.now s.map.now s.hull.now (asked (point_at s.segment.now 0) (point_at s.segment.now 3)) _ c.walked_hull.ensures h c.in-Ok.is _ c.walked_map.ensures)

@@ -1,7 +1,9 @@
 -- `ffi_tree::tree_check` meets its contract. Assumes nothing.
 use mathlib.Core.Path.{◌≡◌, sym, ap, ◌∙◌}
 use borrow.Author.Tests.{lt-ltb, le-ltb}
-use Rattle.words.specs.Words.{Left, beside}
+use Rattle.format.specs.Answers.{answer_of}
+use Rattle.words.specs.Words.{Left, beside, number_words}
+use Rattle.words.proofs.Giving.{told_given}
 use Rattle.walk.specs.TreeCheck.{tree_check}
 use Rattle.nodes.specs.Tables.{nodes_of}
 use Rattle.ffi_tree.specs.Calls.{checked_in, check_of, bsp_tree_check}
@@ -30,6 +32,6 @@ returns-in-None c = long_enough (goal.at.returns-in-None c).After-table_numbered
 pub returns-in-Some : goal.returns-in-Some
 returns-in-Some c = let s = c.args in
     long_enough (goal.at.returns-in-Some c).After-table_numbered _
-    (ap (beside c.tree_check.new.marks) c.give_height.ensures
+    (ap (beside c.tree_check.new.marks) (c.give_number.ensures ∙ told_given number_words (answer_of c.tree_check.result) s.out.now (λ n. c.if-out-lt1.false))
     ∙ ap (λ k. checked_in k s.out.now) (c.tree_check.ensures ∙ ap (λ m. tree_check (nodes_of s.file.now m c.in-Some.t) s.marks.now s.root) c.map_of.ensures)
     ∙ ap (λ t. check_of t s.file.now s.map.now s.root s.marks.now s.out.now) (sym c.in-Some.is))

@@ -9,7 +9,7 @@ use Rattle.nodes.specs.Fast.{tables_of}
 use Rattle.nodes.specs.Quick.{quick_walk, tables_by}
 use Rattle.ffi_hull.specs.Layout.{point_at, walked_map}
 use Rattle.ffi_walks.specs.Calls.{contents_words}
-use Rattle.ffi_walks.specs.Private.{contents_asked}
+use Rattle.ffi_walks.specs.Quick.{contents_asked}
 use Rattle.ffi_walks.proofs.Found.{two, contents_found}
 use Rattle.ffi_walks.proofs.quick_contents.Goals as goal
 
@@ -35,8 +35,8 @@ returns c = let s = c.args in
     two contents_words (contents_asked s.file.now s.map.now s.hull.now s.point.now) c.end_code-code.result (end % 4294967296) _ (omega arith) refl
     (contents_found s.file.now s.map.now (point_at s.point.now 0) t root end c.if-end-eq0.false s.hull.now k c.word_at_u64-kind.ensures (omega (arith, c.if-kind-ge2.false))
     (c.tables_of-t.ensures
-    ∙ ap (λ m. tables_of m c.node_table-table.result z z) c.walked_map.ensures
-    ∙ ap (λ tab. tables_of (walked_map s.map.now) tab z z) c.node_table-table.ensures
+    ∙ ap (λ m. tables_of m c.of_nodes-table.result z z) c.walked_map.ensures
+    ∙ ap (λ tab. tables_of (walked_map s.map.now) tab z z) c.of_nodes-table.ensures
     ∙ ap (λ v. tables_of (walked_map s.map.now) (file_table (eqb k 0)) v v) c.new-none.ensures)
     c.word_at_u64-id.ensures
     (c.walk_quick-end.ensures

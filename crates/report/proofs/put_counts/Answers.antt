@@ -1,13 +1,9 @@
 -- `put_counts` meets its contract: seven lines, each after the one before. Assumes nothing.
-use mathlib.Core.Path.{◌∙◌}
 use Rattle.format.specs.declared.section.BspFileSectionId.TheVariants.{Entities, RenderNodes, Faces, CollisionNodes, Leaves, Models}
 use Rattle.report.specs.Text.{ascii}
 use Rattle.report.specs.Report.{count_lines}
 use Rattle.report.proofs.Counting.{after}
 use Rattle.report.proofs.put_counts.Goals as goal
-
-pub shape_of-out : goal.shape_of-out
-shape_of-out c = c.put_count.auto.out ∙ c.put_count-f.auto.out ∙ c.put_count-e.auto.out ∙ c.put_count-d.auto.out ∙ c.put_count-c.auto.out ∙ c.put_count-b.auto.out ∙ c.put_count-a.auto.out
 
 pub returns : goal.returns
 unfolding count_lines

@@ -1,9 +1,9 @@
 -- `tree::tree_check` meets its contract: it is `tree_size` without the number of nodes. Assumes nothing.
-use Rattle.tree.proofs.Laws.{only_height, only_refused}
+use Rattle.tree.proofs.Laws.{without_size, handed_on}
 use Rattle.tree.proofs.tree_check.Goals as goal
 
-pub returns-in-Size : goal.returns-in-Size
-returns-in-Size c = only_height _ _ _ _ _ _ _ c.in-Size.is c.tree_size.ensures
+pub returns : goal.returns
+returns c = without_size _ _ _ _ _ c.in_ok-height.ensures
 
-pub returns-in-Refused : goal.returns-in-Refused
-returns-in-Refused c = only_refused _ _ _ _ _ _ c.in-Refused.is c.tree_size.ensures
+pub returns-in_err-height : goal.returns-in_err-height
+returns-in_err-height c = rw (handed_on c.from_residual.ensures.1) (without_size _ _ _ _ _ c.in_err-height.ensures)

@@ -10,9 +10,6 @@ use Rattle.accept.proofs.references.check_models_leaves.Given as goal
 
 abbrev pub invariant-loop-i : goal.invariant-loop-i
 invariant-loop-i l =
-    (leaf_id_of l.file l.map l.i ≡ answer l.first)
-    × (l.first < 2 ^ 32)
+    (leaf_id_of l.file l.map l.i ≡ answer l.last)
+    × (l.last < 2 ^ 32)
     × (each (model_leaves l.file l.map) (l.count - l.i) l.i ≡ each (model_leaves l.file l.map) (record_count Models l.map.models) 0)
-
-abbrev pub decreases-loop-i : goal.decreases-loop-i
-decreases-loop-i l = l.count - l.i

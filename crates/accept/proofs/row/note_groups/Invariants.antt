@@ -4,6 +4,3 @@ use Rattle.accept.proofs.row.note_groups.Given as goal
 
 abbrev pub invariant-loop-at : goal.invariant-loop-at
 invariant-loop-at l = Noting l.visibility l.notes l.at l.count l.next l.after
-
-abbrev pub decreases-loop-at : goal.decreases-loop-at
-decreases-loop-at l = l.at

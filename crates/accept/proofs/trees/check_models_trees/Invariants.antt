@@ -1,7 +1,6 @@
 -- `check_models_trees` meets its contract: the models left, from i on, say what all of them say, and the roots remembered have passed. Assumes nothing.
 use mathlib.Core.Path.{◌≡◌}
 use Prim.Native.Nat.{◌-◌}
-use lib.ListN.{length}
 use Rattle.format.specs.Section.{record_count}
 use Rattle.format.specs.declared.section.BspFileSectionId.TheVariants.{Models}
 use Rattle.accept.specs.Accept.{each, model_trees}
@@ -10,9 +9,5 @@ use Rattle.accept.proofs.trees.check_models_trees.Given as goal
 
 abbrev pub invariant-loop-i : goal.invariant-loop-i
 invariant-loop-i l =
-    (length l.marks ≡ length l.initial.marks)
-    × (BothRemembered l.file l.map l.render l.clip)
+    (BothRemembered l.file l.map l.passed)
     × (each (model_trees l.file l.map) (l.count - l.i) l.i ≡ each (model_trees l.file l.map) (record_count Models l.map.models) 0)
-
-abbrev pub decreases-loop-i : goal.decreases-loop-i
-decreases-loop-i l = l.count - l.i

@@ -2,10 +2,12 @@
 -- Assumes nothing.
 use Prim.Native.Nat.{suc, ◌*◌, ◌^◌, ◌≤◌}
 use native.Mathlib.Omega.{arith}
-use mathlib.Core.Path.{◌≡◌, subst}
+use mathlib.Core.Path.{◌≡◌, ap, subst, ◌∙◌}
 use lib.ListN.{length}
 use Rattle.entered.specs.Onward.{with_one_more}
-use Rattle.entered.proofs.Parts.{shorter, at_end, down_refused, down_end, no_plane, near_refused, near_stops, both}
+use Rattle.std.proofs.Common.{Ok}
+use Rattle.entered.proofs.Steps.{handed_on}
+use Rattle.entered.proofs.Parts.{at_end, shorter, down_refused, down_end, no_plane, near_refused, near_stops, both}
 use Prim.Native.Nat.{ℕ, ◌<◌}
 use Rattle.entered.proofs.traced.+write_onward.Goals.{In-Crossing, In-Node}
 use Rattle.entered.proofs.traced.+write_onward.Goals as goal
@@ -17,18 +19,12 @@ bytes t c = omega arith
 -- the calls left below a crossing are fewer
 fewer : (t : ℕ) (c : In-Crossing t) → c.in-Crossing.below < t
 fewer t c =
-    let l : suc c.in-Crossing.below ≤ c.args.left = subst (λ r. with_one_more r ≤ c.args.left) c.in-Crossing.is c.go_down.ensures.falls in
+    let l : suc c.in-Crossing.below ≤ c.args.left = subst (λ r. with_one_more r ≤ c.args.left) (c.in_ok-word-in-Node.was ∙ ap Ok c.in-Crossing.is) c.go_down.ensures.falls in
     let e : c.args.left ≡ t = c.decreases in
     omega arith
 
-pub write_onward-part-requires : goal.write_onward-part-requires
-write_onward-part-requires t c = (fewer t (goal.at.write_onward-part-requires t c).In-Crossing, tt)
-
-pub returns-in_default : goal.returns-in_default
-returns-in_default t c = near_refused _ _ _ _ _ _ _ _ c.in-Node.is _ c.go_down.result c.go_down.ensures _ _ _ _ _ c.in-Crossing.is c.parts_of.result c.parts_of.ensures _ _ _ _ c.in-Parts.is _ c.write_onward-part.result c.write_onward-part.ensures _ c.in_default.is
-
-pub returns-then-stops : goal.returns-then-stops
-returns-then-stops t c = near_stops _ _ _ _ _ _ _ _ c.in-Node.is _ c.go_down.result c.go_down.ensures _ _ _ _ _ c.in-Crossing.is c.parts_of.result c.parts_of.ensures _ _ _ _ c.in-Parts.is _ c.write_onward-part.result c.write_onward-part.ensures _ _ c.in-Trace.is _ c.stops.ensures c.if-stops.true
+pub write_onward-requires : goal.write_onward-requires
+write_onward-requires t c = (fewer t (goal.at.write_onward-requires t c).In-Crossing, tt)
 
 pub write_onward-rest-requires : goal.write_onward-rest-requires
 write_onward-rest-requires t c = (fewer t (goal.at.write_onward-rest-requires t c).In-Crossing, tt)
@@ -36,14 +32,20 @@ write_onward-rest-requires t c = (fewer t (goal.at.write_onward-rest-requires t 
 pub returns-in-End : goal.returns-in-End
 returns-in-End t c = at_end _ _ _ _ _ _ _ _ c.in-End.is c.in_leaf.result c.in_leaf.ensures
 
-pub returns-in-Refused : goal.returns-in-Refused
-returns-in-Refused t c = down_refused _ _ _ _ _ _ _ _ c.in-Node.is _ c.go_down.result c.go_down.ensures _ c.in-Refused.is
+pub returns-in_err-word-in-Node : goal.returns-in_err-word-in-Node
+returns-in_err-word-in-Node t c = rw (handed_on c.from_residual.ensures.1) (down_refused _ _ _ _ _ _ _ _ c.in-Node.is _ c.go_down.result c.go_down.ensures _ c.in_err-word-in-Node.was)
 
-pub returns-in-End-go_down : goal.returns-in-End-go_down
-returns-in-End-go_down t c = down_end _ _ _ _ _ _ _ _ c.in-Node.is _ c.go_down.result c.go_down.ensures _ _ c.in-End-go_down.is _ c.whole_of.ensures c.in_leaf-in-End-go_down.result c.in_leaf-in-End-go_down.ensures
+pub returns-in-End-2 : goal.returns-in-End-2
+returns-in-End-2 t c = down_end _ _ _ _ _ _ _ _ c.in-Node.is _ c.go_down.result c.go_down.ensures _ _ (c.in_ok-word-in-Node.was ∙ ap Ok c.in-End-2.is) _ c.whole_of.ensures c.in_leaf-in-End-2.result c.in_leaf-in-End-2.ensures
 
-pub returns-in-Refused-parts_of : goal.returns-in-Refused-parts_of
-returns-in-Refused-parts_of t c = no_plane _ _ _ _ _ _ _ _ c.in-Node.is _ c.go_down.result c.go_down.ensures _ _ _ _ _ c.in-Crossing.is c.parts_of.result c.parts_of.ensures _ c.in-Refused-parts_of.is
+pub returns-in_err-parts-in-Crossing : goal.returns-in_err-parts-in-Crossing
+returns-in_err-parts-in-Crossing t c = rw (handed_on c.from_residual-in_err-parts-in-Crossing.ensures.1) (no_plane _ _ _ _ _ _ _ _ c.in-Node.is _ c.go_down.result c.go_down.ensures _ _ _ _ _ (c.in_ok-word-in-Node.was ∙ ap Ok c.in-Crossing.is) c.parts_of.result c.parts_of.ensures _ c.in_err-parts-in-Crossing.was)
+
+pub returns-in_err-near-in-Crossing : goal.returns-in_err-near-in-Crossing
+returns-in_err-near-in-Crossing t c = rw (handed_on c.from_residual-in_err-near-in-Crossing.ensures.1) (near_refused _ _ _ _ _ _ _ _ c.in-Node.is _ c.go_down.result c.go_down.ensures _ _ _ _ _ (c.in_ok-word-in-Node.was ∙ ap Ok c.in-Crossing.is) c.parts_of.result c.parts_of.ensures _ c.in_ok-parts-in-Crossing.was _ c.write_onward.result c.write_onward.ensures _ c.in_err-near-in-Crossing.was)
+
+pub returns-then-stops : goal.returns-then-stops
+returns-then-stops t c = near_stops _ _ _ _ _ _ _ _ c.in-Node.is _ c.go_down.result c.go_down.ensures _ _ _ _ _ (c.in_ok-word-in-Node.was ∙ ap Ok c.in-Crossing.is) c.parts_of.result c.parts_of.ensures _ c.in_ok-parts-in-Crossing.was _ c.write_onward.result c.write_onward.ensures _ _ c.in_ok-near-in-Crossing.was _ c.stops.ensures c.if-stops.true
 
 pub returns-else-stops : goal.returns-else-stops
-returns-else-stops t c = both _ _ _ _ _ _ _ _ c.in-Node.is _ c.go_down.result c.go_down.ensures _ _ _ _ _ c.in-Crossing.is c.parts_of.result c.parts_of.ensures _ _ _ _ c.in-Parts.is _ c.write_onward-part.result c.write_onward-part.ensures _ _ c.in-Trace.is _ c.stops.ensures c.if-stops.false _ c.write_onward-rest.result c.write_onward-rest.ensures c.join_far.result c.join_far.ensures (shorter c.go_down.auto.list (bytes t (goal.at.returns-else-stops t c).In-Node))
+returns-else-stops t c = both _ _ _ _ _ _ _ _ c.in-Node.is _ c.go_down.result c.go_down.ensures _ _ _ _ _ (c.in_ok-word-in-Node.was ∙ ap Ok c.in-Crossing.is) c.parts_of.result c.parts_of.ensures _ c.in_ok-parts-in-Crossing.was _ c.write_onward.result c.write_onward.ensures _ _ c.in_ok-near-in-Crossing.was _ c.stops.ensures c.if-stops.false _ c.write_onward-rest.result c.write_onward-rest.ensures c.join_far.result c.join_far.ensures (shorter c.go_down.auto.list (bytes t (goal.at.returns-else-stops t c).In-Node))

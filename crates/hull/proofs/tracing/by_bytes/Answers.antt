@@ -9,5 +9,5 @@ use Rattle.hull.proofs.tracing.by_bytes.Goals as goal
 
 pub returns : goal.returns
 returns c = let z = c.args in
-    c.trace_whole.ensures z.s.now z.t (owned z.s.now z.t _ _ _ _ c.requires c.node_bytes-nodes.ensures c.plane_bytes-planes.ensures c.leaf_bytes-leaves.ensures c.is_render.ensures)
+    c.trace_whole.ensures z.s.now z.t (owned z.s.now z.t _ _ _ _ c.requires c.node_bytes.ensures c.plane_bytes.ensures c.leaf_bytes.ensures c.is_render.ensures)
     ∙ sym (after_none (recursive_trace (Fast.table z.s.now z.t) 512 z.root z.start z.end))

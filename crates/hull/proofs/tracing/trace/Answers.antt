@@ -5,9 +5,10 @@ use Rattle.walk.specs.Walk.{with_visits}
 use Rattle.walk.specs.Tracing as Tracing
 use Rattle.walk.specs.Tracing.{recursive_trace}
 use Rattle.walk.proofs.Steps.{after_none}
+use Rattle.format.specs.Answer.{answer}
 use Rattle.nodes.specs.Fast as Fast
 use Rattle.hull.specs.Traces.{at_start, way_answer}
-use Rattle.hull.specs.Answers.{traced_answer}
+use Rattle.tree.proofs.Laws.{handed_on}
 use Rattle.hull.proofs.Founds.{trace_is}
 use Rattle.hull.proofs.tracing.trace.Goals.{Joined-all_whole, then-all_whole, else-all_whole}
 use Rattle.hull.proofs.tracing.trace.Goals as goal
@@ -27,8 +28,8 @@ way_is c =
 pub by_bytes-way-requires : goal.by_bytes-way-requires
 by_bytes-way-requires c = sym c.all_whole.ensures ∙ c.if-all_whole.true
 
-pub returns-in-Refused : goal.returns-in-Refused
-returns-in-Refused c = trace_is _ _ _ _ _ _ c.tables_of-t.ensures _ _ _ (sym (ap (way_answer _ _ _) c.in-Refused.is) ∙ way_is (goal.at.returns-in-Refused c).Joined-all_whole)
+pub returns-in_err-part : goal.returns-in_err-part
+returns-in_err-part c = rw (handed_on c.from_residual.ensures.1) (trace_is _ _ _ _ _ _ c.tables_of-t.ensures _ _ _ (sym (ap (way_answer _ _ _) c.in_err-part.was) ∙ way_is (goal.at.returns-in_err-part c).Joined-all_whole))
 
-pub returns-in-Went : goal.returns-in-Went
-returns-in-Went c = trace_is _ _ _ _ _ _ c.tables_of-t.ensures _ _ _ (ap traced_answer c.trace_of.ensures ∙ sym (ap (way_answer _ _ _) c.in-Went.is) ∙ way_is (goal.at.returns-in-Went c).Joined-all_whole)
+pub returns : goal.returns
+returns c = trace_is _ _ _ _ _ _ c.tables_of-t.ensures _ _ _ (ap (λ t. answer (t, c.in_ok-part.part.visits)) c.trace_of.ensures ∙ sym (ap (way_answer _ _ _) c.in_ok-part.was) ∙ way_is (goal.at.returns c).Joined-all_whole)

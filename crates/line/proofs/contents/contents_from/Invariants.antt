@@ -4,8 +4,8 @@ use Rattle.nodes.specs.Fast as Fast
 use Rattle.line.specs.Line.{contents_from}
 use Rattle.line.proofs.contents.contents_from.Given as goal
 
-abbrev pub invariant-loop-e : goal.invariant-loop-e
-invariant-loop-e l = contents_from (Fast.table l.s l.g.t) l.left l.node (Fast.point_of l.coordinates) ≡ contents_from (Fast.table l.s l.g.t) 512 l.top (Fast.point_of l.coordinates)
+abbrev pub invariant-loop-word : goal.invariant-loop-word
+invariant-loop-word l = contents_from (Fast.table l.g.s.now l.g.t) l.left l.node (Fast.point_of l.coordinates) ≡ contents_from (Fast.table l.g.s.now l.g.t) 512 l.top (Fast.point_of l.coordinates)
 
-abbrev pub decreases-loop-e : goal.decreases-loop-e
-decreases-loop-e l = l.left
+abbrev pub decreases-loop-word : goal.decreases-loop-word
+decreases-loop-word l = l.left

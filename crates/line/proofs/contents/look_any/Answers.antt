@@ -1,12 +1,9 @@
 -- `line::contents::look_any` meets its contract. Assumes nothing.
-use Rattle.line.proofs.Seen.{no_node, no_side, one_side}
+use Rattle.line.proofs.Seen.{handed_on, no_node, no_side}
 use Rattle.line.proofs.contents.look_any.Goals as goal
 
-pub returns-in-Refused : goal.returns-in-Refused
-returns-in-Refused c = no_node _ _ _ _ c.read_words.ensures _ _ c.in-Refused.is
+pub returns-in_err-w : goal.returns-in_err-w
+returns-in_err-w c = rw (handed_on _ _ c.from_residual.ensures.1) (no_node _ _ _ _ _ c.in_err-w.ensures)
 
-pub returns-in-Err : goal.returns-in-Err
-returns-in-Err c = no_side _ _ _ _ c.read_words.ensures _ c.in-Words.is _ _ c.plane_at.ensures _ c.in-Err.is
-
-pub returns-in-Ok : goal.returns-in-Ok
-returns-in-Ok c = one_side _ _ _ _ c.read_words.ensures _ c.in-Words.is _ _ c.plane_at.ensures _ c.in-Ok.is _ c.point_dist.ensures _ c.on.ensures
+pub returns-in_err-plane : goal.returns-in_err-plane
+returns-in_err-plane c = rw (handed_on _ _ c.from_residual-in_err-plane.ensures.1) (no_side _ _ _ _ _ c.in_ok-w.ensures _ c.in_err-plane.ensures)

@@ -10,7 +10,7 @@ pub returns-then-left-eq0 : goal.returns-then-left-eq0
 returns-then-left-eq0 c = note_spent _ _ _ _ _ c.if-t-index.false c.if-left-eq0.true
 
 pub returns-then-g : goal.returns-then-g
-returns-then-g c = let a = c.args in c.look_in.ensures.1 a.s.now a.g.t a.g.whole c.requires c.if-g.true c.is_render.ensures ∙ note_read _ _ _ _ _ c.if-t-index.false c.if-left-eq0.false
+returns-then-g c = let a = c.args in c.look_in.ensures.1 a.g.now.s.now a.g.now.t a.g.now.whole a.g.now.lent c.if-g.true c.is_render.ensures ∙ note_read _ _ _ _ _ c.if-t-index.false c.if-left-eq0.false
 
 pub returns : goal.returns
 returns c = c.look_any.ensures ∙ same_point _ _ _ _ _ c.point_of.ensures ∙ note_read _ _ _ _ _ c.if-t-index.false c.if-left-eq0.false

@@ -14,9 +14,6 @@ use Rattle.line.proofs.through.down.Given as goal
 abbrev pub invariant-loop-left : goal.invariant-loop-left
 invariant-loop-left l =
     (l.left ≤ l.calls)
-    × ((t : Tables) (whole : Bool) → Read l.s t l.nodes l.planes whole → whole ≡ true → l.render ≡ Fast.is_render t.table
-    → ((root : ℕ) (o : LineTrace) (x y : Float) → line_from (Fast.table l.s t) root l.left l.node (stretch x y (Fast.point_of l.p) (Fast.point_of l.q)) o ≡ line_from (Fast.table l.s t) root l.calls l.top (stretch x y (Fast.point_of l.p) (Fast.point_of l.q)) o)
-    × (contents_from (Fast.table l.s t) l.left l.node (Fast.point_of l.p) ≡ contents_from (Fast.table l.s t) l.calls l.top (Fast.point_of l.p)))
-
-abbrev pub decreases-loop-left : goal.decreases-loop-left
-decreases-loop-left l = l.left
+    × ((t : Tables) (whole : Bool) → Read l.g.s.now t l.g.nodes.now l.g.planes.now whole → whole ≡ true → l.render ≡ Fast.is_render t.table
+    → ((root : ℕ) (o : LineTrace) (x y : Float) → line_from (Fast.table l.g.s.now t) root l.left l.node (stretch x y (Fast.point_of l.p) (Fast.point_of l.q)) o ≡ line_from (Fast.table l.g.s.now t) root l.calls l.top (stretch x y (Fast.point_of l.p) (Fast.point_of l.q)) o)
+    × (contents_from (Fast.table l.g.s.now t) l.left l.node (Fast.point_of l.p) ≡ contents_from (Fast.table l.g.s.now t) l.calls l.top (Fast.point_of l.p)))

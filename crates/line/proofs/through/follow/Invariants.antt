@@ -7,9 +7,6 @@ use Rattle.line.specs.Private.{stand_went}
 use Rattle.line.proofs.Follows.{Standing}
 use Rattle.line.proofs.through.follow.Given as goal
 
-abbrev pub invariant-loop-turns : goal.invariant-loop-turns
-invariant-loop-turns l =
-    (l.n ≤ 10) × (length l.stack ≡ 10) × (l.at.left ≤ 512) × Standing l.s l.g.t l.g.root l.first.part (drop l.n l.stack) l.at l.line l.x l.looked (stand_went l.s l.g l.initial.at l.initial.line)
-
-abbrev pub decreases-loop-turns : goal.decreases-loop-turns
-decreases-loop-turns l = l.turns
+abbrev pub invariant-loop : goal.invariant-loop
+invariant-loop l =
+    (l.n ≤ 10) × (length l.stack ≡ 10) × (l.at.left ≤ 512) × Standing l.g.s.now l.g.t l.g.root l.first.part (drop l.n l.stack) l.at l.line l.x l.looked (stand_went l.g l.initial.at l.initial.line)

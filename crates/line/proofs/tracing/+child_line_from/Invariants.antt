@@ -12,10 +12,10 @@ decreases-child l = l.left + l.left + 1
 abbrev pub decreases-line_from : goal.decreases-line_from
 decreases-line_from l = l.calls + l.calls
 
-abbrev pub invariant-line_from-loop-e : goal.invariant-line_from-loop-e
-invariant-line_from-loop-e l =
+abbrev pub invariant-line_from-loop-c : goal.invariant-line_from-loop-c
+invariant-line_from-loop-c l =
     (l.left ≤ l.calls)
-    × (line_from (Fast.table l.s l.g.t) l.g.root l.left l.node l.part l.line ≡ line_from (Fast.table l.s l.g.t) l.g.root l.calls l.top l.initial.part l.initial.line)
+    × (line_from (Fast.table l.g.s.now l.g.t) l.g.root l.left l.node l.part l.line ≡ line_from (Fast.table l.g.s.now l.g.t) l.g.root l.calls l.top l.initial.part l.initial.line)
 
-abbrev pub decreases-line_from-loop-e : goal.decreases-line_from-loop-e
-decreases-line_from-loop-e l = l.left
+abbrev pub decreases-line_from-loop-c : goal.decreases-line_from-loop-c
+decreases-line_from-loop-c l = l.left

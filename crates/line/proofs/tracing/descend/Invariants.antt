@@ -8,10 +8,10 @@ use Rattle.line.specs.Line.{stretch, line_from}
 use Rattle.line.specs.declared.state.LineTrace.{LineTrace}
 use Rattle.line.proofs.tracing.descend.Given as goal
 
-abbrev pub invariant-loop-e : goal.invariant-loop-e
-invariant-loop-e l =
+abbrev pub invariant-loop-w : goal.invariant-loop-w
+invariant-loop-w l =
     (l.left ≤ l.calls)
-    × ((root : ℕ) (o : LineTrace) (x y : Float) → line_from (Fast.table l.s l.g.t) root l.left l.node (stretch x y l.start l.end) o ≡ line_from (Fast.table l.s l.g.t) root l.calls l.top (stretch x y l.start l.end) o)
+    × ((root : ℕ) (o : LineTrace) (x y : Float) → line_from (Fast.table l.g.s.now l.g.t) root l.left l.node (stretch x y l.start l.end) o ≡ line_from (Fast.table l.g.s.now l.g.t) root l.calls l.top (stretch x y l.start l.end) o)
 
-abbrev pub decreases-loop-e : goal.decreases-loop-e
-decreases-loop-e l = l.left
+abbrev pub decreases-loop-w : goal.decreases-loop-w
+decreases-loop-w l = l.left

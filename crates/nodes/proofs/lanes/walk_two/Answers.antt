@@ -5,56 +5,56 @@ use Rattle.nodes.specs.Fast.{node_size}
 use Rattle.nodes.specs.Walks.{Read, are_whole}
 use Rattle.nodes.proofs.Making.{nodes_counted}
 use Rattle.nodes.proofs.Beside.{beside_first, beside_ends, stops_first, stops_second, beside_on, beside_less, both_ended, none_whole}
-use Rattle.nodes.proofs.lanes.walk_two.Goals.{At-loop-nodes}
+use Rattle.nodes.proofs.lanes.walk_two.Goals.{At-loop-sections}
 use Rattle.nodes.proofs.lanes.walk_two.Goals as goal
 
-on : (c : At-loop-nodes) → c.are_whole-whole.result ≡ true
+on : (c : At-loop-sections) → c.are_whole-whole.result ≡ true
 on c = c.if-not-whole.false
 
-all_there : (c : At-loop-nodes) → are_whole c.args.t (length c.args.s.now) ≡ true
+all_there : (c : At-loop-sections) → are_whole c.args.t (length c.args.s.now) ≡ true
 all_there c = sym c.are_whole-whole.ensures ∙ on c
 
-read : (c : At-loop-nodes) → Read c.args.s.now c.args.t c.node_bytes-nodes.result.now c.plane_bytes-planes.result.now c.are_whole-whole.result
-read c = record { told = c.are_whole-whole.ensures; its_nodes = c.node_bytes-nodes.ensures; its_planes = c.plane_bytes-planes.ensures }
+read : (c : At-loop-sections) → Read c.args.s.now c.args.t c.node_bytes.result.now c.plane_bytes.result.now c.are_whole-whole.result
+read c = record { told = c.are_whole-whole.ensures; its_nodes = c.node_bytes.ensures; its_planes = c.plane_bytes.ensures }
 
-room : (c : At-loop-nodes) → c.args.t.nodes.count ≤ length c.node_bytes-nodes.result.now / node_size c.is_render-render.result
-room c = omega (arith, nodes_counted c.args.s.now c.args.t c.node_bytes-nodes.result.now c.plane_bytes-planes.result.now c.are_whole-whole.result (read c) (on c) c.is_render-render.result c.is_render-render.ensures)
+room : (c : At-loop-sections) → c.args.t.nodes.count ≤ length c.node_bytes.result.now / node_size c.is_render.result
+room c = omega (arith, nodes_counted c.args.s.now c.args.t c.node_bytes.result.now c.plane_bytes.result.now c.are_whole-whole.result (read c) (on c) c.is_render.result c.is_render.ensures)
 
 pub returns-then-not-whole : goal.returns-then-not-whole
 returns-then-not-whole c = none_whole _ _ _ _ _ _ (sym c.are_whole-whole.ensures ∙ c.if-not-whole.true)
 
-pub loop-nodes-init : goal.loop-nodes-init
-loop-nodes-init c = beside_first _ _ _ _ _ _ (omega (arith, c.ranges)) (omega (arith, c.ranges))
+pub loop-sections-init : goal.loop-sections-init
+loop-sections-init c = beside_first _ _ _ _ _ _ (omega (arith, c.ranges)) (omega (arith, c.ranges))
 
 pub step-c-requires : goal.step-c-requires
-step-c-requires c = (c.loop-nodes.invariant.one, room (goal.at.step-c-requires c).At-loop-nodes)
+step-c-requires c = (c.loop-sections.invariant.one, room (goal.at.step-c-requires c).At-loop-sections)
 
 pub step-d-requires : goal.step-d-requires
-step-d-requires c = (c.loop-nodes.invariant.other, room (goal.at.step-d-requires c).At-loop-nodes)
+step-d-requires c = (c.loop-sections.invariant.other, room (goal.at.step-d-requires c).At-loop-sections)
 
 pub returns-then-c-ge65536 : goal.returns-then-c-ge65536
-returns-then-c-ge65536 c = stops_first _ c.args.t _ _ _ _ (all_there (goal.at.returns-then-c-ge65536 c).At-loop-nodes) _ _ _ _ c.loop-nodes.invariant _ _ (c.step-c.ensures _ c.args.t _ (read (goal.at.returns-then-c-ge65536 c).At-loop-nodes) (on (goal.at.returns-then-c-ge65536 c).At-loop-nodes) c.is_render-render.ensures refl) (c.step-d.ensures _ c.args.t _ (read (goal.at.returns-then-c-ge65536 c).At-loop-nodes) (on (goal.at.returns-then-c-ge65536 c).At-loop-nodes) c.is_render-render.ensures refl) c.if-c-ge65536.true
+returns-then-c-ge65536 c = stops_first _ c.args.t _ _ _ _ (all_there (goal.at.returns-then-c-ge65536 c).At-loop-sections) _ _ _ _ c.loop-sections.invariant _ _ (c.step-c.ensures _ c.args.t _ (read (goal.at.returns-then-c-ge65536 c).At-loop-sections) (on (goal.at.returns-then-c-ge65536 c).At-loop-sections) c.is_render.ensures refl) (c.step-d.ensures _ c.args.t _ (read (goal.at.returns-then-c-ge65536 c).At-loop-sections) (on (goal.at.returns-then-c-ge65536 c).At-loop-sections) c.is_render.ensures refl) c.if-c-ge65536.true
 
 pub returns-then-d-ge65536 : goal.returns-then-d-ge65536
-returns-then-d-ge65536 c = stops_second _ c.args.t _ _ _ _ (all_there (goal.at.returns-then-d-ge65536 c).At-loop-nodes) _ _ _ _ c.loop-nodes.invariant _ _ (c.step-c.ensures _ c.args.t _ (read (goal.at.returns-then-d-ge65536 c).At-loop-nodes) (on (goal.at.returns-then-d-ge65536 c).At-loop-nodes) c.is_render-render.ensures refl) (c.step-d.ensures _ c.args.t _ (read (goal.at.returns-then-d-ge65536 c).At-loop-nodes) (on (goal.at.returns-then-d-ge65536 c).At-loop-nodes) c.is_render-render.ensures refl) c.if-d-ge65536.true
+returns-then-d-ge65536 c = stops_second _ c.args.t _ _ _ _ (all_there (goal.at.returns-then-d-ge65536 c).At-loop-sections) _ _ _ _ c.loop-sections.invariant _ _ (c.step-c.ensures _ c.args.t _ (read (goal.at.returns-then-d-ge65536 c).At-loop-sections) (on (goal.at.returns-then-d-ge65536 c).At-loop-sections) c.is_render.ensures refl) (c.step-d.ensures _ c.args.t _ (read (goal.at.returns-then-d-ge65536 c).At-loop-sections) (on (goal.at.returns-then-d-ge65536 c).At-loop-sections) c.is_render.ensures refl) c.if-d-ge65536.true
 
 pub counted-m-requires : goal.counted-m-requires
-counted-m-requires c = λ h. let m = (c.step-c.ensures _ c.args.t _ (read (goal.at.counted-m-requires c).At-loop-nodes) (on (goal.at.counted-m-requires c).At-loop-nodes) c.is_render-render.ensures refl).may c.if-c-ge65536.false h in omega (arith, m.0, m.1)
+counted-m-requires c = λ h. let m = (c.step-c.ensures _ c.args.t _ (read (goal.at.counted-m-requires c).At-loop-sections) (on (goal.at.counted-m-requires c).At-loop-sections) c.is_render.ensures refl).may c.if-c-ge65536.false h in omega (arith, m.0, m.1)
 
 pub counted-n-requires : goal.counted-n-requires
-counted-n-requires c = λ h. let m = (c.step-d.ensures _ c.args.t _ (read (goal.at.counted-n-requires c).At-loop-nodes) (on (goal.at.counted-n-requires c).At-loop-nodes) c.is_render-render.ensures refl).may c.if-d-ge65536.false h in omega (arith, m.0, m.1)
+counted-n-requires c = λ h. let m = (c.step-d.ensures _ c.args.t _ (read (goal.at.counted-n-requires c).At-loop-sections) (on (goal.at.counted-n-requires c).At-loop-sections) c.is_render.ensures refl).may c.if-d-ge65536.false h in omega (arith, m.0, m.1)
 
-pub loop-nodes-smaller : goal.loop-nodes-smaller
-loop-nodes-smaller c = rw (c.counted-n.ensures, c.counted-m.ensures) (beside_less _ c.args.t _ _ _ _ (all_there (goal.at.loop-nodes-smaller c).At-loop-nodes) _ _ _ _ c.loop-nodes.invariant _ _ (c.step-c.ensures _ c.args.t _ (read (goal.at.loop-nodes-smaller c).At-loop-nodes) (on (goal.at.loop-nodes-smaller c).At-loop-nodes) c.is_render-render.ensures refl) (c.step-d.ensures _ c.args.t _ (read (goal.at.loop-nodes-smaller c).At-loop-nodes) (on (goal.at.loop-nodes-smaller c).At-loop-nodes) c.is_render-render.ensures refl) c.if-c-ge65536.false c.if-d-ge65536.false (sym c.ended.ensures ∙ c.loop-nodes-test.true))
+pub loop-sections-smaller : goal.loop-sections-smaller
+loop-sections-smaller c = rw (c.counted-n.ensures, c.counted-m.ensures) (beside_less _ c.args.t _ _ _ _ (all_there (goal.at.loop-sections-smaller c).At-loop-sections) _ _ _ _ c.loop-sections.invariant _ _ (c.step-c.ensures _ c.args.t _ (read (goal.at.loop-sections-smaller c).At-loop-sections) (on (goal.at.loop-sections-smaller c).At-loop-sections) c.is_render.ensures refl) (c.step-d.ensures _ c.args.t _ (read (goal.at.loop-sections-smaller c).At-loop-sections) (on (goal.at.loop-sections-smaller c).At-loop-sections) c.is_render.ensures refl) c.if-c-ge65536.false c.if-d-ge65536.false (sym c.ended.ensures ∙ c.loop-sections-test.true))
 
-pub loop-nodes-preserved : goal.loop-nodes-preserved
-loop-nodes-preserved c = rw (c.counted-n.ensures, c.counted-m.ensures) (beside_on _ c.args.t _ _ _ _ (all_there (goal.at.loop-nodes-preserved c).At-loop-nodes) _ _ _ _ c.loop-nodes.invariant _ _ (c.step-c.ensures _ c.args.t _ (read (goal.at.loop-nodes-preserved c).At-loop-nodes) (on (goal.at.loop-nodes-preserved c).At-loop-nodes) c.is_render-render.ensures refl) (c.step-d.ensures _ c.args.t _ (read (goal.at.loop-nodes-preserved c).At-loop-nodes) (on (goal.at.loop-nodes-preserved c).At-loop-nodes) c.is_render-render.ensures refl) c.if-c-ge65536.false c.if-d-ge65536.false)
+pub loop-sections-preserved : goal.loop-sections-preserved
+loop-sections-preserved c = rw (c.counted-n.ensures, c.counted-m.ensures) (beside_on _ c.args.t _ _ _ _ (all_there (goal.at.loop-sections-preserved c).At-loop-sections) _ _ _ _ c.loop-sections.invariant _ _ (c.step-c.ensures _ c.args.t _ (read (goal.at.loop-sections-preserved c).At-loop-sections) (on (goal.at.loop-sections-preserved c).At-loop-sections) c.is_render.ensures refl) (c.step-d.ensures _ c.args.t _ (read (goal.at.loop-sections-preserved c).At-loop-sections) (on (goal.at.loop-sections-preserved c).At-loop-sections) c.is_render.ensures refl) c.if-c-ge65536.false c.if-d-ge65536.false)
 
 pub overflow_cast-result : goal.overflow_cast-result
-overflow_cast-result c = omega (arith, c.loop-nodes.invariant.one)
+overflow_cast-result c = omega (arith, c.loop-sections.invariant.one)
 
 pub overflow_cast-result-2 : goal.overflow_cast-result-2
-overflow_cast-result-2 c = omega (arith, c.loop-nodes.invariant.other)
+overflow_cast-result-2 c = omega (arith, c.loop-sections.invariant.other)
 
 pub returns : goal.returns
-returns c = let e = both_ended _ _ (sym c.ended.ensures ∙ c.loop-nodes-test.false) in beside_ends _ c.args.t _ _ _ _ (all_there (goal.at.returns c).At-loop-nodes) _ _ _ _ c.loop-nodes.invariant e.0 e.1
+returns c = let e = both_ended _ _ (sym c.ended.ensures ∙ c.loop-sections-test.false) in beside_ends _ c.args.t _ _ _ _ (all_there (goal.at.returns c).At-loop-sections) _ _ _ _ c.loop-sections.invariant e.0 e.1

@@ -1,6 +1,7 @@
 -- `walk_by_records` meets its contract. The loop's invariant: the answer is that of the walk from the present node, which may enter as many
 -- nodes as are left, with the visits made so far added.
 -- Assumes nothing.
+use Rattle.std.proofs.lemmas.Result.{err_from_is_err_and}
 use Rattle.std.proofs.Common.{◌≡◌, ℕ, suc, ◌+◌, ◌-◌, ◌<◌, sym, ap, ◌∙◌, arith, rules}
 use Rattle.walk.specs.Private.{after}
 use Rattle.walk.proofs.Steps.{walk_outside, walk_spent}
@@ -27,17 +28,17 @@ returns-then-part-node c = sym (c.loop-node.invariant.1 ∙ ap (after _) (walk_o
 pub returns-then-limit-visits : goal.returns-then-limit-visits
 returns-then-limit-visits c = sym (c.loop-node.invariant.1 ∙ ap (after _) (walk_spent _ _ _ _ (omega arith) c.if-part-node.false))
 
-pub returns-in-Refused : goal.returns-in-Refused
-returns-in-Refused c = let a = c.args in sym (c.loop-node.invariant.1 ∙ step_refused a.s.now a.t _ _ _ (j (goal.at.returns-in-Refused c).At-loop-node) _ (falls (goal.at.returns-in-Refused c).At-loop-node c.if-limit-visits.false) c.if-part-node.false c.onward_from.result c.onward_from.ensures _ c.in-Refused.is)
+pub returns-in_err-word : goal.returns-in_err-word
+returns-in_err-word c = let (d, t, s) = err_from_is_err_and c.from_residual.result c.from_residual.ensures.1 in rw (t, s) (let a = c.args in sym (c.loop-node.invariant.1 ∙ step_refused a.s.now a.t _ _ _ (j (goal.at.returns-in_err-word c).At-loop-node) _ (falls (goal.at.returns-in_err-word c).At-loop-node c.if-limit-visits.false) c.if-part-node.false c.onward_from.result c.onward_from.ensures _ c.in_err-word.was))
 
 pub overflow_add-visits : goal.overflow_add-visits
 overflow_add-visits c = omega arith
 
 pub returns-then-word-ge32768 : goal.returns-then-word-ge32768
-returns-then-word-ge32768 c = let a = c.args in sym (c.loop-node.invariant.1 ∙ step_end a.s.now a.t _ _ _ (j (goal.at.returns-then-word-ge32768 c).At-loop-node) _ (falls (goal.at.returns-then-word-ge32768 c).At-loop-node c.if-limit-visits.false) c.if-part-node.false c.onward_from.result c.onward_from.ensures _ c.in-Word.is (n (goal.at.returns-then-word-ge32768 c).At-loop-node) c.if-word-ge32768.true c.if-limit-visits.false (omega arith))
+returns-then-word-ge32768 c = let a = c.args in sym (c.loop-node.invariant.1 ∙ step_end a.s.now a.t _ _ _ (j (goal.at.returns-then-word-ge32768 c).At-loop-node) _ (falls (goal.at.returns-then-word-ge32768 c).At-loop-node c.if-limit-visits.false) c.if-part-node.false c.onward_from.result c.onward_from.ensures _ c.in_ok-word.was (n (goal.at.returns-then-word-ge32768 c).At-loop-node) c.if-word-ge32768.true c.if-limit-visits.false (omega arith))
 
 pub loop-node-smaller : goal.loop-node-smaller
 loop-node-smaller c = omega arith
 
 pub loop-node-preserved : goal.loop-node-preserved
-loop-node-preserved c = let a = c.args in (omega arith, c.loop-node.invariant.1 ∙ step_node a.s.now a.t _ _ _ (j (goal.at.loop-node-preserved c).At-loop-node) _ (falls (goal.at.loop-node-preserved c).At-loop-node c.if-limit-visits.false) c.if-part-node.false c.onward_from.result c.onward_from.ensures _ c.in-Word.is c.if-word-ge32768.false)
+loop-node-preserved c = let a = c.args in (omega arith, c.loop-node.invariant.1 ∙ step_node a.s.now a.t _ _ _ (j (goal.at.loop-node-preserved c).At-loop-node) _ (falls (goal.at.loop-node-preserved c).At-loop-node c.if-limit-visits.false) c.if-part-node.false c.onward_from.result c.onward_from.ensures _ c.in_ok-word.was c.if-word-ge32768.false)

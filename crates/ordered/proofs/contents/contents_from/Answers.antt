@@ -6,13 +6,14 @@ use mathlib.Core.Path.{◌≡◌, refl, sym, ap, ◌∙◌}
 use lib.ListN.{length}
 use Rattle.walk.specs.Private.{after}
 use Rattle.walk.proofs.Steps.{walk_outside, walk_spent}
+use Rattle.tree.proofs.Laws.{handed_on}
 use Rattle.ordered.proofs.Laws.{at_first, step_refused, step_node, step_end}
 use Rattle.ordered.proofs.contents.contents_from.Goals.{At-loop-place}
 use Rattle.ordered.proofs.contents.contents_from.Goals as goal
 
 -- the rows of the table, and those that may be entered after this one
 abbrev n : At-loop-place → ℕ
-n c = length c.args.table.now / 3
+n c = length c.args.t.words.now / 3
 
 abbrev j : At-loop-place → ℕ
 j c = n c - (c.loop-place.visits + 1)
@@ -21,7 +22,7 @@ falls : (c : At-loop-place) → c.loop-place.visits < n c → n c - c.loop-place
 falls c h = omega arith
 
 pub loop-place-init : goal.loop-place-init
-loop-place-init c = (refl, omega arith, at_first c.args.planes.now c.args.count c.args.table.now c.args.point _ _)
+loop-place-init c = (refl, omega arith, at_first c.args.t.planes.now c.args.t.count c.args.t.words.now c.args.point _ _)
 
 pub returns-then-limit-place : goal.returns-then-limit-place
 returns-then-limit-place c = let l = c.loop-place.invariant in sym (l.2 ∙ ap (after _) (walk_outside _ _ _ _ (omega (arith, l.0, c.if-limit-place.true))))
@@ -29,20 +30,12 @@ returns-then-limit-place c = let l = c.loop-place.invariant in sym (l.2 ∙ ap (
 pub returns-then-limit-visits : goal.returns-then-limit-visits
 returns-then-limit-visits c = let l = c.loop-place.invariant in sym (l.2 ∙ ap (after _) (walk_spent _ _ _ _ (omega (arith, l.0, c.if-limit-visits.true)) (omega (arith, l.0, c.if-limit-place.false))))
 
-pub row_onward-requires : goal.row_onward-requires
-row_onward-requires c = omega (arith, c.loop-place.invariant.0, c.if-limit-place.false)
-
-pub returns-in-Refused : goal.returns-in-Refused
-returns-in-Refused c = let l = c.loop-place.invariant in sym (l.2 ∙ step_refused _ _ c.args.table.now _ _ _ (j (goal.at.returns-in-Refused c).At-loop-place) c.loop-place.place (falls (goal.at.returns-in-Refused c).At-loop-place (omega (arith, l.0, c.if-limit-visits.false))) (omega (arith, l.0, c.if-limit-place.false)) c.row_onward.result c.row_onward.ensures _ c.in-Refused.is)
-
-pub overflow_add-visits : goal.overflow_add-visits
-overflow_add-visits c = omega (arith, c.if-limit-visits.false)
+pub returns-in_err-word : goal.returns-in_err-word
+returns-in_err-word c = let l = c.loop-place.invariant in let here = (goal.at.returns-in_err-word c).At-loop-place in
+    rw (handed_on c.from_residual.ensures.1) (sym (l.2 ∙ step_refused _ _ c.args.t.words.now _ _ _ (j here) c.loop-place.place (falls here (omega (arith, l.0, c.if-limit-visits.false))) (omega (arith, l.0, c.if-limit-place.false)) c.row_onward.result c.row_onward.ensures _ c.in_err-word.was))
 
 pub returns-then-word-ge2147483648 : goal.returns-then-word-ge2147483648
-returns-then-word-ge2147483648 c = let l = c.loop-place.invariant in sym (l.2 ∙ step_end _ _ c.args.table.now _ _ _ (j (goal.at.returns-then-word-ge2147483648 c).At-loop-place) c.loop-place.place (falls (goal.at.returns-then-word-ge2147483648 c).At-loop-place (omega (arith, l.0, c.if-limit-visits.false))) (omega (arith, l.0, c.if-limit-place.false)) c.row_onward.result c.row_onward.ensures _ c.in-Word.is (n (goal.at.returns-then-word-ge2147483648 c).At-loop-place) c.if-word-ge2147483648.true (omega (arith, l.0, c.if-limit-visits.false)) (omega (arith, l.0)) _ c.contents_of_word.ensures)
-
-pub loop-place-smaller : goal.loop-place-smaller
-loop-place-smaller c = omega (arith, c.if-limit-visits.false)
+returns-then-word-ge2147483648 c = let l = c.loop-place.invariant in sym (l.2 ∙ step_end _ _ c.args.t.words.now _ _ _ (j (goal.at.returns-then-word-ge2147483648 c).At-loop-place) c.loop-place.place (falls (goal.at.returns-then-word-ge2147483648 c).At-loop-place (omega (arith, l.0, c.if-limit-visits.false))) (omega (arith, l.0, c.if-limit-place.false)) c.row_onward.result c.row_onward.ensures _ c.in_ok-word.was (n (goal.at.returns-then-word-ge2147483648 c).At-loop-place) c.if-word-ge2147483648.true (omega (arith, l.0, c.if-limit-visits.false)) (omega (arith, l.0)) _ c.contents_of_word.ensures)
 
 pub loop-place-preserved : goal.loop-place-preserved
-loop-place-preserved c = let l = c.loop-place.invariant in (l.0, omega (arith, c.if-limit-visits.false), l.2 ∙ step_node _ _ c.args.table.now _ _ _ (j (goal.at.loop-place-preserved c).At-loop-place) c.loop-place.place (falls (goal.at.loop-place-preserved c).At-loop-place (omega (arith, l.0, c.if-limit-visits.false))) (omega (arith, l.0, c.if-limit-place.false)) c.row_onward.result c.row_onward.ensures _ c.in-Word.is c.if-word-ge2147483648.false)
+loop-place-preserved c = let l = c.loop-place.invariant in (l.0, omega (arith, c.if-limit-visits.false), l.2 ∙ step_node _ _ c.args.t.words.now _ _ _ (j (goal.at.loop-place-preserved c).At-loop-place) c.loop-place.place (falls (goal.at.loop-place-preserved c).At-loop-place (omega (arith, l.0, c.if-limit-visits.false))) (omega (arith, l.0, c.if-limit-place.false)) c.row_onward.result c.row_onward.ensures _ c.in_ok-word.was c.if-word-ge2147483648.false)

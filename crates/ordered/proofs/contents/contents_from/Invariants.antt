@@ -5,13 +5,13 @@ use mathlib.Core.Path.{◌≡◌}
 use lib.ListN.{length}
 use Rattle.walk.specs.Walk.{with_visits, walk, point_walk}
 use Rattle.walk.specs.Private.{after}
-use Rattle.ordered.specs.Rows.{rows}
+use Rattle.ordered.specs.Rows.{rows_in}
 use Rattle.ordered.proofs.contents.contents_from.Given as goal
 
 abbrev pub invariant-loop-place : goal.invariant-loop-place
 invariant-loop-place l =
-    (l.limit ≡ length l.table / 3) × (l.visits ≤ l.limit)
-    × (with_visits (point_walk (rows l.planes l.count l.table) l.root l.point) ≡ after l.visits (walk (rows l.planes l.count l.table) (length l.table / 3 - l.visits) l.place l.point))
+    (l.limit ≡ length l.t.words.now / 3) × (l.visits ≤ l.limit)
+    × (with_visits (point_walk (rows_in l.t) l.root l.point) ≡ after l.visits (walk (rows_in l.t) (length l.t.words.now / 3 - l.visits) l.place l.point))
 
 abbrev pub decreases-loop-place : goal.decreases-loop-place
 decreases-loop-place l = l.limit - l.visits

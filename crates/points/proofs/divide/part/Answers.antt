@@ -1,10 +1,16 @@
 -- `part` meets its contract: by the plane's alignment.
 -- Assumes nothing.
+use Rattle.std.proofs.Common.{rules, tests}
+use Rattle.ways.specs.Groups.{in_front}
+use Rattle.points.specs.Going.{point_at, reaches}
 use Rattle.points.proofs.Lists.{along_axis}
 use Rattle.points.proofs.divide.part.Goals as goal
 
 pub returns-in-Axis : goal.returns-in-Axis
-returns-in-Axis c = let a = c.args in along_axis a.coords.now a.plane _ c.in-Axis.is _ c.axis_number.ensures a.ids.now c.part_along.new.ids c.part_along.new.aside c.part_along.result c.part_along.ensures
+returns-in-Axis c = let a = c.args in
+    let k = c.axis_number-axis in
+    along_axis a.coords.now a.plane _ c.in-Axis.is _ k.ensures a.ids.now _ _ _
+    (c.part_by.ensures (reaches a.coords.now k.result a.plane.dist) (λ q b e. search (rules, tests)))
 
 pub returns-in-Normal : goal.returns-in-Normal
-returns-in-Normal c = c.part_any.ensures
+returns-in-Normal c = let a = c.args in c.part_by-in-Normal.ensures (in_front (point_at a.coords.now) a.plane) (λ q b e. search (rules, tests))

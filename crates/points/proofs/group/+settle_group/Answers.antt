@@ -6,7 +6,8 @@ use mathlib.Core.Path.{◌≡◌, ◌∙◌}
 use mathlib.Core.List.{List}
 use lib.ListN.{length}
 use borrow.Rule.Slice.PartMut.{mid_len, put_mid}
-use Rattle.points.specs.Going.{onto_child, part, Divides}
+use Rattle.nodes.specs.Fast.{onto_child}
+use Rattle.points.specs.Going.{part, Divides}
 use Rattle.points.proofs.Downward.{went_settled, went_divided}
 use Rattle.points.proofs.Halving.{Doing, doing_none, doing_ends, doing_on, lent_some, lent_room, few_so_far, few_at_end, is_inside, all_long, less_of, part_some, part_less}
 use Rattle.points.proofs.group.+settle_group.Goals.{At-loop-n, In-Divided, After-settle_group-m}

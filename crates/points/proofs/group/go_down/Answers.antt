@@ -10,35 +10,20 @@ use Rattle.points.proofs.group.go_down.Goals as goal
 may : (c : In-Node) → 0 < c.loop-byte.more
 may c = may_enter _ _ _ _ _ _ _ _ _ _ _ _ _ _ c.loop-byte.invariant _ c.meet_child.ensures _ _ c.in-Node.is
 
-pub settle_one-requires : goal.settle_one-requires
-settle_one-requires c = c.if-ids-eq1.true
-
-pub returns-then-ids-eq1 : goal.returns-then-ids-eq1
-returns-then-ids-eq1 c = c.settle_one.ensures
-
 pub loop-byte-init : goal.loop-byte-init
 loop-byte-init c = gone_none _ _ _ _ _ _ _ _ c.requires.0 c.requires.1
 
 pub returns-in-Settled : goal.returns-in-Settled
 returns-in-Settled c = at_rest _ _ _ _ _ _ _ _ _ _ _ _ _ _ c.loop-byte.invariant _ c.meet_child.ensures _ c.in-Settled.is _ c.settle.ensures
 
-pub divide-front-requires : goal.divide-front-requires
-divide-front-requires c = c.loop-byte.invariant.room
-
 pub overflow_sub-more : goal.overflow_sub-more
 overflow_sub-more c = may (goal.at.overflow_sub-more c).In-Node
-
-pub overflow_add-reads : goal.overflow_add-reads
-overflow_add-reads c = omega (arith, c.loop-byte.invariant.fewer, c.ranges.left.fits)
 
 pub loop-byte-smaller-then-front-eq0 : goal.loop-byte-smaller-then-front-eq0
 loop-byte-smaller-then-front-eq0 c = omega (arith, may (goal.at.loop-byte-smaller-then-front-eq0 c).In-Node)
 
 pub loop-byte-preserved-then-front-eq0 : goal.loop-byte-preserved-then-front-eq0
-loop-byte-preserved-then-front-eq0 c = all_behind _ _ _ _ _ _ _ _ _ _ _ _ _ _ c.loop-byte.invariant _ c.meet_child.ensures _ _ c.in-Node.is _ _ c.divide-front.ensures _ c.divide-front.auto.aside _ c.if-front-eq0.true c.child_on-at.ensures
-
-pub settle_two-n-requires : goal.settle_two-n-requires
-settle_two-n-requires c = c.if-ids-eq2.true
+loop-byte-preserved-then-front-eq0 c = all_behind _ _ _ _ _ _ _ _ _ _ _ _ _ _ c.loop-byte.invariant _ c.meet_child.ensures _ _ c.in-Node.is _ _ c.divide-front.ensures _ c.divide-front.auto.aside _ c.if-front-eq0.true c.onto-at.ensures
 
 pub overflow_add-result : goal.overflow_add-result
 overflow_add-result c = omega (arith, two_few _ _ _ _ _ _ _ _ _ (omega (arith, may (goal.at.overflow_add-result c).In-Node, c.loop-byte.invariant.fewer, c.ranges.left.fits)) c.if-ids-eq2.true c.settle_two-n.ensures, c.loop-byte.invariant.fewer, may (goal.at.overflow_add-result c).In-Node, c.ranges.left.fits)
@@ -53,4 +38,4 @@ pub loop-byte-smaller : goal.loop-byte-smaller
 loop-byte-smaller c = omega (arith, may (goal.at.loop-byte-smaller c).In-Node)
 
 pub loop-byte-preserved : goal.loop-byte-preserved
-loop-byte-preserved c = all_in_front _ _ _ _ _ _ _ _ _ _ _ _ _ _ c.loop-byte.invariant _ c.meet_child.ensures _ _ c.in-Node.is _ _ c.divide-front.ensures _ c.divide-front.auto.aside _ c.if-front-ids.false c.child_on-at-else-front-ids.ensures
+loop-byte-preserved c = all_in_front _ _ _ _ _ _ _ _ _ _ _ _ _ _ c.loop-byte.invariant _ c.meet_child.ensures _ _ c.in-Node.is _ _ c.divide-front.ensures _ c.divide-front.auto.aside _ c.if-front-ids.false c.onto-at-else-front-ids.ensures

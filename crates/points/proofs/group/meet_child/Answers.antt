@@ -7,17 +7,17 @@ use Rattle.points.proofs.group.meet_child.Goals as goal
 pub returns-then-left-eq0 : goal.returns-then-left-eq0
 returns-then-left-eq0 c = none_left _ _ _ _ _ c.in-Node.is c.if-left-eq0.true
 
-pub returns-then-nodes-node : goal.returns-then-nodes-node
-returns-then-nodes-node c = outside _ _ _ _ _ c.in-Node.is c.if-nodes-node.true
+pub returns-then-t-node : goal.returns-then-t-node
+returns-then-t-node c = outside _ _ _ _ _ c.in-Node.is c.if-t-node.true
 
 pub returns-in-End : goal.returns-in-End
 returns-in-End c = end_any _ _ _ _ _ c.in-End.is _ c.end_byte.ensures
 
-pub returns-in-Refused : goal.returns-in-Refused
-returns-in-Refused c = not_read _ _ _ _ _ c.in-Node.is (omega arith) c.if-nodes-node.false _ c.read_words.ensures _ c.in-Refused.is
+pub returns-in_default : goal.returns-in_default
+returns-in_default c = not_read _ _ _ _ _ c.in-Node.is (omega arith) c.if-t-node.false _ c.read_words.ensures _ c.in_default.is
 
-pub returns-in-Err : goal.returns-in-Err
-returns-in-Err c = no_plane _ _ _ _ _ c.in-Node.is (omega arith) c.if-nodes-node.false _ c.read_words.ensures _ c.in-Words.is _ c.plane_at.ensures _ c.in-Err.is
+pub returns-in_default-plane_at : goal.returns-in_default-plane_at
+returns-in_default-plane_at c = no_plane _ _ _ _ _ c.in-Node.is (omega arith) c.if-t-node.false _ c.read_words.ensures _ c.in-Ok.is _ c.plane_at.ensures _ c.in_default-plane_at.is
 
-pub returns-in-Ok : goal.returns-in-Ok
-returns-in-Ok c = is_node _ _ _ _ _ c.in-Node.is (omega arith) c.if-nodes-node.false _ c.read_words.ensures _ c.in-Words.is _ c.plane_at.ensures _ c.in-Ok.is
+pub returns-in-Ok-plane_at : goal.returns-in-Ok-plane_at
+returns-in-Ok-plane_at c = is_node _ _ _ _ _ c.in-Node.is (omega arith) c.if-t-node.false _ c.read_words.ensures _ c.in-Ok.is _ c.plane_at.ensures _ c.in-Ok-plane_at.is

@@ -1,18 +1,14 @@
 -- `answer_all` meets its contract: from the bytes that settle the points.
 -- Assumes nothing.
-use native.Mathlib.Omega.{arith}
-use Prim.Native.Nat.{◌≤◌}
-use mathlib.Core.Path.{sym, ◌∙◌, ap}
-use lib.ListN.{length}
-use lib.Seq.{length-take-le}
-use Rattle.math.specs.declared.vector.Vector3.{Vector3}
-use Rattle.walk.specs.Table.{node, Table}
-use Rattle.walk.specs.Walk.{with_visits, point_walk}
+use mathlib.Core.Path.{◌≡◌, ap}
+use mathlib.Core.List.{◌++◌}
+use lib.ListN.{length, drop}
+use Rattle.walk.specs.Table.{node}
 use Rattle.hull.specs.Hull.{hull_table}
 use Rattle.points.specs.Going.{Settles, from}
-use Rattle.points.proofs.Finished.{of_all, same_table, first_refused, never, all_answered, at_front}
-use Rattle.format.specs.declared.contents.BspLeafContents.{BspLeafContents}
-use Rattle.nodes.specs.Tables.{End}
+use Rattle.points.proofs.Finished.{of_all, same_table, first_refused, never, all_answered}
+use Rattle.std.proofs.lemmas.Result.{err_from_is_err_and}
+use Rattle.nodes.specs.Fast.{table}
 use Rattle.points.proofs.many.answer_all.Goals.{After-first_zero-zero}
 use Rattle.points.proofs.many.answer_all.Goals as goal
 
@@ -26,20 +22,32 @@ all c =
     let t = c.tables_of-t.result in
     of_all a.s.now t a.coords.now t.nodes.count (node a.hull.node_id) c.number.new.ids a.out.now c.settle_group-reads.result c.settle_group-reads.new.out (length a.ids.now) c.settle_group-reads.ensures c.number.ensures
 
-room : (c : After-first_zero-zero) → length c.settle_group-reads.new.out ≤ length c.args.list.now
-room c = omega (arith, c.settle_group-reads.auto.out, c.requires.as_long, c.requires.room)
+same : (c : After-first_zero-zero) → let a = c.args in table a.s.now c.tables_of-t.result ≡ hull_table a.s.now a.map a.hull
+same c = let a = c.args in same_table a.s.now a.map a.hull.table a.hull.mins a.hull.maxs c.tables_of-t.result c.tables_of-t.ensures
 
-pub returns-in-Refused : goal.returns-in-Refused
-returns-in-Refused c = let a = c.args in first_refused a.s.now c.tables_of-t.result a.coords.now (length a.ids.now) a.hull.node_id c.requires.threes (hull_table a.s.now a.map a.hull) (same_table a.s.now a.map a.hull.table a.hull.mins a.hull.maxs c.tables_of-t.result c.tables_of-t.ensures) a.out.now c.settle_group-reads.new.out c.settle_group-reads.result c.requires.as_long (all (goal.at.returns-in-Refused c).After-first_zero-zero) c.first_zero-zero.result c.first_zero-zero.ensures c.if-zero-count.true c.contents_alone.result (c.contents_alone.ensures ∙ ap (λ (X : Table End BspLeafContents). with_visits (point_walk X a.hull.node_id c.point_at.result)) (same_table a.s.now a.map a.hull.table a.hull.mins a.hull.maxs _ c.tables_of-t.ensures) ∙ ap (λ (p : Vector3). with_visits (point_walk (hull_table a.s.now a.map a.hull) a.hull.node_id p)) c.point_at.ensures) a.list.now _ c.in-Refused.is
+pub returns-in_err-contents_in : goal.returns-in_err-contents_in
+returns-in_err-contents_in c =
+    let a = c.args in
+    let at = (goal.at.returns-in_err-contents_in c).After-first_zero-zero in
+    let (d, u, e) = err_from_is_err_and c.from_residual.result c.from_residual.ensures.1 in
+    rw (u, e)
+    (first_refused a.s.now c.tables_of-t.result a.coords.now (length a.ids.now) a.hull.node_id c.requires.threes (hull_table a.s.now a.map a.hull) (same at)
+    a.out.now c.settle_group-reads.new.out c.settle_group-reads.result c.requires.as_long (all at) _ c.first_zero-zero.ensures c.if-zero-count.true
+    _ c.point_at.ensures a.list.now _ c.in_err-contents_in.ensures)
 
-pub returns-in-Contents : goal.returns-in-Contents
-returns-in-Contents c = absurd (let a = c.args in never a.s.now c.tables_of-t.result a.coords.now (length a.ids.now) a.hull.node_id c.requires.threes (hull_table a.s.now a.map a.hull) (same_table a.s.now a.map a.hull.table a.hull.mins a.hull.maxs c.tables_of-t.result c.tables_of-t.ensures) a.out.now c.settle_group-reads.new.out c.settle_group-reads.result c.requires.as_long (all (goal.at.returns-in-Contents c).After-first_zero-zero) c.first_zero-zero.result c.first_zero-zero.ensures c.if-zero-count.true c.contents_alone.result (c.contents_alone.ensures ∙ ap (λ (X : Table End BspLeafContents). with_visits (point_walk X a.hull.node_id c.point_at.result)) (same_table a.s.now a.map a.hull.table a.hull.mins a.hull.maxs _ c.tables_of-t.ensures) ∙ ap (λ (p : Vector3). with_visits (point_walk (hull_table a.s.now a.map a.hull) a.hull.node_id p)) c.point_at.ensures) a.list.now _ _ c.in-Contents.is)
-
-pub slice_bounds-give-end-2 : goal.slice_bounds-give-end-2
-slice_bounds-give-end-2 c = sym (length-take-le _ _ (room (goal.at.slice_bounds-give-end-2 c).After-first_zero-zero))
-
-pub give-requires : goal.give-requires
-give-requires c = omega (arith, length-take-le (length c.settle_group-reads.new.out) c.args.list.now (room (goal.at.give-requires c).After-first_zero-zero))
+pub returns-then-zero-count : goal.returns-then-zero-count
+returns-then-zero-count c =
+    let a = c.args in
+    let at = (goal.at.returns-then-zero-count c).After-first_zero-zero in
+    absurd
+    (never a.s.now c.tables_of-t.result a.coords.now (length a.ids.now) a.hull.node_id c.requires.threes (hull_table a.s.now a.map a.hull) (same at)
+    a.out.now c.settle_group-reads.new.out c.settle_group-reads.result c.requires.as_long (all at) _ c.first_zero-zero.ensures c.if-zero-count.true
+    _ c.point_at.ensures a.list.now _ _ c.in_ok-contents_in.ensures)
 
 pub returns : goal.returns
-returns c = let a = c.args in all_answered a.s.now c.tables_of-t.result a.coords.now (length a.ids.now) a.hull.node_id c.requires.threes (hull_table a.s.now a.map a.hull) (same_table a.s.now a.map a.hull.table a.hull.mins a.hull.maxs c.tables_of-t.result c.tables_of-t.ensures) a.out.now c.settle_group-reads.new.out c.settle_group-reads.result c.requires.as_long (all (goal.at.returns c).After-first_zero-zero) c.first_zero-zero.result c.first_zero-zero.ensures c.if-zero-count.false a.list.now _ (at_front c.settle_group-reads.new.out a.list.now c.give.new.list (room (goal.at.returns c).After-first_zero-zero) c.give.ensures)
+returns c =
+    let a = c.args in
+    let at = (goal.at.returns c).After-first_zero-zero in
+    all_answered a.s.now c.tables_of-t.result a.coords.now (length a.ids.now) a.hull.node_id c.requires.threes (hull_table a.s.now a.map a.hull) (same at)
+    a.out.now c.settle_group-reads.new.out c.settle_group-reads.result c.requires.as_long (all at) _ c.first_zero-zero.ensures c.if-zero-count.false
+    a.list.now _ (ap (λ l. l ++ drop (length c.settle_group-reads.new.out) a.list.now) c.copy_from_slice.ensures.after)

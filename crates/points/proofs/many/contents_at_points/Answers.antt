@@ -32,14 +32,14 @@ answer_one-requires c = let n = length c.args.coords.now in record { some = omeg
 pub returns-then-count-eq1 : goal.returns-then-count-eq1
 returns-then-count-eq1 c = is_answered _ _ _ _ c.if-coords-gt3072.false c.if-coords-ne0.false c.if-list-count.false c.answer_one.ensures
 
-pub answer_few-requires : goal.answer_few-requires
-answer_few-requires c = let n = length c.args.coords.now in record { some = omega (arith, c.if-count-eq0.false); few = c.if-count-le32.true; threes = by_three_of n c.if-coords-ne0.false; room = c.if-list-count.false }
+pub answer_up_to-requires : goal.answer_up_to-requires
+answer_up_to-requires c = let n = length c.args.coords.now in (omega arith, record { some = omega (arith, c.if-count-eq0.false); few = c.if-count-le32.true; threes = by_three_of n c.if-coords-ne0.false; room = c.if-list-count.false })
 
 pub returns-then-count-le32 : goal.returns-then-count-le32
-returns-then-count-le32 c = is_answered _ _ _ _ c.if-coords-gt3072.false c.if-coords-ne0.false c.if-list-count.false c.answer_few.ensures
+returns-then-count-le32 c = is_answered _ _ _ _ c.if-coords-gt3072.false c.if-coords-ne0.false c.if-list-count.false c.answer_up_to.ensures
 
-pub answer_many-requires : goal.answer_many-requires
-answer_many-requires c = let n = length c.args.coords.now in record { some = omega (arith, c.if-count-eq0.false); few = few n c.if-coords-gt3072.false; threes = by_three_of n c.if-coords-ne0.false; room = c.if-list-count.false }
+pub answer_up_to-requires-2 : goal.answer_up_to-requires-2
+answer_up_to-requires-2 c = let n = length c.args.coords.now in (omega arith, record { some = omega (arith, c.if-count-eq0.false); few = few n c.if-coords-gt3072.false; threes = by_three_of n c.if-coords-ne0.false; room = c.if-list-count.false })
 
 pub returns : goal.returns
-returns c = is_answered _ _ _ _ c.if-coords-gt3072.false c.if-coords-ne0.false c.if-list-count.false c.answer_many.ensures
+returns c = is_answered _ _ _ _ c.if-coords-gt3072.false c.if-coords-ne0.false c.if-list-count.false c.answer_up_to-2.ensures

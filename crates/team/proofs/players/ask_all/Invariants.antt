@@ -1,11 +1,7 @@
--- `ask_all` meets its contract. The loop's invariant: the players before the i-th are answered. Assumes nothing.
-use Prim.Native.Nat.{◌-◌}
-use lib.ListN.{length}
-use Rattle.team.proofs.Asked.{Asking}
+-- `ask_all` meets its contract. The loop's invariant: the players before the one that is next are answered. Assumes nothing.
+use Rattle.std.specs.Prelude.{◌≡◌, drop}
+use Rattle.team.proofs.Asked.{asked}
 use Rattle.team.proofs.players.ask_all.Given as goal
 
-abbrev pub invariant-loop-i : goal.invariant-loop-i
-invariant-loop-i l = Asking l.file l.map l.leaf_count l.leaves l.i
-
-abbrev pub decreases-loop-i : goal.decreases-loop-i
-decreases-loop-i l = length l.leaves - l.i
+abbrev pub invariant-loop-leaf : goal.invariant-loop-leaf
+invariant-loop-leaf l = asked l.file l.map l.leaf_count (drop l.leaf-index l.leaves) ≡ asked l.file l.map l.leaf_count l.leaves

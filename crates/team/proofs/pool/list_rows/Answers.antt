@@ -8,19 +8,8 @@ use Rattle.format.specs.Answer.{answer}
 use Rattle.format.specs.Listed.{into}
 use Rattle.team.specs.Team.{pooled}
 use Rattle.team.specs.SideBySide.{rows_at, Starts}
-use Rattle.team.proofs.Found.{empty_data, section_data, section_size}
+use Rattle.team.proofs.Found.{section_data, section_size}
 use Rattle.team.proofs.pool.list_rows.Goals as goal
-
-pub list_pool-requires : goal.list_pool-requires
-list_pool-requires c = let a = c.args in
-    let e = empty_data a.file.now a.section c.if-size-eq0.true in
-    (omega arith, c.requires.1, c.requires.2, subst (λ (v : List ℕ). Starts v a.leaf_count (take a.rows a.starts)) (sym e) c.requires.3)
-
-pub returns-then-size-eq0 : goal.returns-then-size-eq0
-returns-then-size-eq0 c = let a = c.args in
-    let e = empty_data a.file.now a.section c.if-size-eq0.true in
-    c.list_pool.ensures
-    ∙ ap (λ (v : List ℕ). into (answer (pooled (rows_at v a.leaf_count (take a.rows a.starts)) 1 (a.leaf_count - 1))) a.list.now) e
 
 pub slice_bounds-list_pool-end-2 : goal.slice_bounds-list_pool-end-2
 slice_bounds-list_pool-end-2 c = (section_data c.args.file.now c.args.section c.if-size-eq0.false c.requires.0).0

@@ -1,10 +1,12 @@
--- `textures::access::group_frame` meets its contract
+-- `textures::access::group_frame` meets its contract: a number or a place past all, or found.
 -- Assumes nothing.
+use Rattle.std.proofs.Common.{arith}
+use Rattle.std.proofs.lemmas.Result.{OkIff-at_err}
 use Rattle.textures.proofs.Accesses.{number_past, place_past}
 use Rattle.textures.proofs.access.group_frame.Goals as goal
 
-pub returns-then-number-gt4294967295 : goal.returns-then-number-gt4294967295
-returns-then-number-gt4294967295 c = number_past _ _ _ c.requires.1 _ _ c.if-number-gt4294967295.true
+pub returns-in_default : goal.returns-in_default
+returns-in_default c = number_past _ _ _ c.requires.1 _ _ (omega (arith, OkIff-at_err _ _ _ _ c.try_from.ensures c.in_default.is))
 
-pub returns-then-place-gt4294967295 : goal.returns-then-place-gt4294967295
-returns-then-place-gt4294967295 c = place_past _ _ _ c.requires.1 _ _ c.if-place-gt4294967295.true
+pub returns-in_default-try_from : goal.returns-in_default-try_from
+returns-in_default-try_from c = place_past _ _ _ c.requires.1 _ _ (omega (arith, OkIff-at_err _ _ _ _ c.try_from-2.ensures c.in_default-try_from.is))

@@ -1,27 +1,15 @@
--- `textures::group::has_unmarked` meets its contract: the nodes so far are marked
+-- `textures::group::has_unmarked` meets its contract: it asks each node's mark, from the first node on.
 -- Assumes nothing.
-use native.Mathlib.Omega.{arith}
-use Rattle.textures.specs.Table.{is_unmarked}
-use Rattle.textures.proofs.Alone.{unmarked_none, unmarked_found, unmarked_next, asks_all}
+use Rattle.std.specs.Prelude.{eqb}
+use Rattle.std.proofs.Common.{◌∙◌, rules, tests}
+use Rattle.std.proofs.lemmas.Iterator.{YieldsList-from_slice}
+use Rattle.std.proofs.lemmas.Iterator.Adapters.{YieldsList-from_skip}
+use Rattle.std.proofs.lemmas.Iterator.Search.{any_from_yields_List}
+use Rattle.textures.proofs.Scans.{any_of_marks}
 use Rattle.textures.proofs.group.has_unmarked.Goals as goal
 
-pub loop-v-init : goal.loop-v-init
-loop-v-init c = (unmarked_none c.args.marks.now, omega arith)
-
-pub bounds-marks-v : goal.bounds-marks-v
-bounds-marks-v c = omega arith
-
-pub returns-then-marks-v-eq0 : goal.returns-then-marks-v-eq0
-returns-then-marks-v-eq0 c = let a = c.args in unmarked_found a.marks.now a.nodes c.loop-v.v (omega arith) c.loop-v.invariant.1 c.if-marks-v-eq0.true
-
-pub overflow_add-v : goal.overflow_add-v
-overflow_add-v c = omega arith
-
-pub loop-v-smaller : goal.loop-v-smaller
-loop-v-smaller c = omega arith
-
-pub loop-v-preserved : goal.loop-v-preserved
-loop-v-preserved c = (unmarked_next c.args.marks.now c.loop-v.v c.loop-v.invariant.0 c.loop-v.invariant.1 c.if-marks-v-eq0.false, omega arith)
-
 pub returns : goal.returns
-returns c = let a = c.args in asks_all (is_unmarked a.marks.now) a.nodes c.loop-v.v (omega arith) c.loop-v.invariant.0
+returns c =
+    let marks = c.args.marks.now in
+    any_from_yields_List (λ m. eqb m 0) _ _ c.any.result c.any.ensures.ran (YieldsList-from_skip 1 (YieldsList-from_slice marks (cc)) (cc)) (λ x b q k. search (rules, tests))
+    ∙ any_of_marks marks

@@ -9,10 +9,10 @@ use Rattle.textures.proofs.Numbers.{number_static, number_animated, seen_low}
 use Rattle.textures.proofs.number.texture_number.Goals as goal
 
 pub overflow_add-result : goal.overflow_add-result
-overflow_add-result c = let a = c.args in omega (arith, c.requires, c.count_static.ensures, count_below (λ j. not (passing a.s.now a.base Animated j)) a.count, seen_low a.s.now (λ i. omega (arith, c.shared_slice_known-1.given i)) a.base a.count a.index _ c.key_of-key.ensures _ c.is_kind.ensures _ c.earliest_like-first.ensures.0 c.earliest_like-first.ensures.1 c.requires _ _ c.first_of-firsts.ensures)
+overflow_add-result c = let a = c.args in omega (arith, c.requires, c.count_static.ensures, count_below (λ j. not (passing a.s.now a.base Animated j)) a.count, seen_low a.s.now (λ i. omega (arith, c.type_inv.s i)) a.base a.count a.index _ c.key_of-key.ensures _ c.is_kind.ensures _ c.earliest_like-first.ensures.0 c.earliest_like-first.ensures.1 c.requires _ _ c.first_of-firsts.ensures)
 
 pub returns-then-is_kind : goal.returns-then-is_kind
-returns-then-is_kind c = let a = c.args in number_animated a.s.now (λ i. omega (arith, c.shared_slice_known-1.given i)) a.base a.count a.index _ c.key_of-key.ensures _ c.is_kind.ensures _ c.earliest_like-first.ensures.0 c.earliest_like-first.ensures.1 c.requires _ _ c.first_of-firsts.ensures _ c.if-is_kind.true c.count_static.ensures
+returns-then-is_kind c = let a = c.args in number_animated a.s.now (λ i. omega (arith, c.type_inv.s i)) a.base a.count a.index _ c.key_of-key.ensures _ c.is_kind.ensures _ c.earliest_like-first.ensures.0 c.earliest_like-first.ensures.1 c.requires _ _ c.first_of-firsts.ensures _ c.if-is_kind.true c.count_static.ensures
 
 pub returns : goal.returns
-returns c = let a = c.args in number_static a.s.now (λ i. omega (arith, c.shared_slice_known-1.given i)) a.base a.count a.index _ c.key_of-key.ensures _ c.is_kind.ensures _ c.if-is_kind.false c.count_static-2.ensures
+returns c = let a = c.args in number_static a.s.now (λ i. omega (arith, c.type_inv.s i)) a.base a.count a.index _ c.key_of-key.ensures _ c.is_kind.ensures _ c.if-is_kind.false c.count_static-2.ensures

@@ -1,10 +1,10 @@
--- `textures::sieve::sift` meets its contract: the place is there or not
+-- `textures::sieve::sift` meets its contract: the sieve has the stem's place, or not
 -- Assumes nothing.
 use Rattle.textures.proofs.Sieves.{sift_past, sift_at}
 use Rattle.textures.proofs.sieve.sift.Goals as goal
 
-pub returns-then-sieve-place : goal.returns-then-sieve-place
-returns-then-sieve-place c = sift_past _ _ _ _ c.place_of-place.ensures c.if-sieve-place.true
+pub returns-then-place-sieve : goal.returns-then-place-sieve
+returns-then-place-sieve c = sift_at _ _ _ _ c.place_of-place.ensures c.if-place-sieve.true
 
-pub returns : goal.returns
-returns c = sift_at _ _ _ _ c.place_of-place.ensures c.if-sieve-place.false
+pub returns-else-place-sieve : goal.returns-else-place-sieve
+returns-else-place-sieve c = sift_past _ _ _ _ c.place_of-place.ensures c.if-place-sieve.false

@@ -1,2 +1,0 @@
--- What the proofs of `ffi_checked` rest on.
-mod Laws

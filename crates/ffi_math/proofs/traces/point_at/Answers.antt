@@ -1,5 +1,0 @@
--- `ffi_math::traces::point_at` meets its contract. Assumes nothing.
-use Rattle.ffi_math.proofs.traces.point_at.Goals as goal
-
-pub returns : goal.returns
-returns c = simp (c.float_at.ensures, c.float_at-2.ensures, c.float_at-3.ensures)

@@ -1,5 +1,0 @@
--- `ffi_math::traces::trace_start_point` meets its contract. Assumes nothing.
-use Rattle.ffi_math.proofs.traces.trace_start_point.Goals as goal
-
-pub returns : goal.returns
-returns c = simp (c.part_of.ensures, c.start_point.ensures, c.trace_given.ensures)
