@@ -55,14 +55,14 @@ FUNCTIONS = list(functions())
 NO = r"Refused|EndOfFile|None|Invalid|Nothing|NoSection|NoTable|Broken|Bad"
 enums = []
 for path, s in CODE.items():
-    for m in re.finditer(r"\benum (\w+) \{", s):
+    for m in re.finditer(r"\benum (\w+)(?:<[^{]*>)? \{", s):
         body = s[m.end() : end_of(s, m.end() - 1)]
         if re.search(rf"^\s*(?:{NO})\b", body, re.M):
             enums.append(f"{path} {m.group(1)}")
 say("1a own enums of the shape of Option or Result", enums)
 bools = []
 for path, s in CODE.items():
-    for m in re.finditer(r"\bstruct (\w+) \{", s):
+    for m in re.finditer(r"\bstruct (\w+)(?:<[^{]*>)? \{", s):
         body = s[m.end() : end_of(s, m.end() - 1)]
         if re.search(r"\b(present|met|whole): bool", body):
             bools.append(f"{path} {m.group(1)}")
@@ -85,6 +85,14 @@ for path, name, params, _, body in FUNCTIONS:
 groups = [g for g in shapes.values() if len(g) > 1]
 say("2a groups of functions of one shape", [" = ".join(g) for g in groups])
 print(f"2b functions in these groups: {sum(map(len, groups))}")
+fields = collections.defaultdict(list)
+for path, s in CODE.items():
+    for m in re.finditer(r"\b(?:struct|enum) (\w+)(?:<[^{]*>)? \{", s):
+        body = re.sub(r"#\[[^\]]*\]|\bpub(?:\(crate\))? |\bghost [^\n]*", "", s[m.end() : end_of(s, m.end() - 1)])
+        parts = re.sub(r"\s+", " ", body).strip().rstrip(",")
+        if "," in parts:
+            fields[parts].append(f"{path} {m.group(1)}")
+say("2c groups of types with the same fields or variants", [" = ".join(g) for g in fields.values() if len(g) > 1])
 
 # 3. loops that count an index or what is left by hand
 loops, counted = [], []

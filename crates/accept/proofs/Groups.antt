@@ -6,22 +6,22 @@ use mathlib.Core.List.{List, [], ◌∷◌, ◌++◌}
 use native.Mathlib.Decide.{ℕ_discrete}
 use native.Mathlib.Numerals.{add-one}
 use native.Mathlib.Omega.{arith}
-use borrow.Author.Tests.{lt-ltb, le-ltb, ltb-true, ltb-false, leb-true}
-use lib.Dec.{ltb, eqb, leb}
-use lib.ListN.{length, take, drop, get_or, set, replicate, length-take, length-set, drop_of_length-le, get_or-eq_default}
+use borrow.Author.Tests.{lt-ltb, le-ltb, ltb-true, ltb-false}
+use lib.Dec.{ltb}
+use lib.ListN.{length, drop, get_or, set, replicate, length-set, drop_of_length-le, get_or-eq_default}
 use lib.Seq.{drop-cons, get_or-set_same, get_or-set_other}
 use Rattle.std.proofs.Common.{Ok, Err}
 use Rattle.std.specs.Prelude.{Result}
 use Rattle.std.specs.Borrow.{Bor}
 use Rattle.format.specs.Answer.{Answer, answer, refused}
 use Rattle.format.specs.declared.refusal.Refusal.{Refusal}
-use Rattle.format.specs.Section.{within_limit}
 use Rattle.format.specs.declared.section.BspFileSection.{BspFileSection}
-use Rattle.format.specs.declared.section.BspFileSectionId.TheVariants.{Visibility}
 use Rattle.vis.specs.Row.{bits, before, in_byte, row_bits, row_at}
+use Rattle.vis.specs.Answers.{bytes_of}
 use Rattle.vis.specs.Pvs.{visibility_of}
+use Rattle.vis.proofs.Sections.{few_bytes}
 use Rattle.accept.specs.Accept.{passes, whole_row}
-use Rattle.accept.specs.Fast.{groups, groups_by, note_of, with_note, NotedFrom, Noted, Notes, bytes_of, RowsNoted}
+use Rattle.accept.specs.Fast.{groups, groups_by, note_of, with_note, NotedFrom, Noted, Notes, RowsNoted}
 
 -- ---- a row
 
@@ -185,9 +185,6 @@ noting_starts v notes l =
     }
 
 module _ (v notes : List ℕ) (at count next after : ℕ) where
-  pub noting_ends : at ≤ 0 → Noting v notes at count next after → Noted v notes
-  noting_ends h f k low in-v t = f.noted k (omega arith) in-v t
-
   pub noting_more : length v ≤ 1048576 → 0 < at → Noting v notes at count next after → get_or v (at - 1) 0 < 256
       → (r : ℕ) → r ≡ groups_by (get_or v (at - 1) 0) count next after → (l : List ℕ) → l ≡ with_note (at - 1) r notes → Noting v l (at - 1) (get_or v (at - 1) 0) r next
   noting_more small h f b r g l e =
@@ -209,17 +206,6 @@ module _ (v notes : List ℕ) (at count next after : ℕ) where
 
 -- ---- the notes of the section
 
--- a section that can be read is small
-pub few_bytes : (s : List ℕ) (z : BspFileSection) (v : List ℕ) → visibility_of s z ≡ answer v → length v ≤ 1048576
-unfolding visibility_of
-few_bytes s z v e = by (eqb z.size 0) (within_limit Visibility z.size) (leb (z.offset + z.size) (length s)) refl e
-  where
-    by : (a b c : Bool) → within_limit Visibility z.size ≡ b → cond a (answer []) (cond b (cond c (answer (take z.size (drop z.offset s))) (refused 23)) (refused 23)) ≡ answer v → length v ≤ 1048576
-    by true b c h e = let q : [] ≡ v = cc in rw (← q) (omega arith)
-    by false true true h e = let q : take z.size (drop z.offset s) ≡ v = cc in rw (← q) (omega (arith, length-take z.size (drop z.offset s), leb-true z.size 1048576 h))
-    by false true false h e = let q : ◌≡◌ {A = ℕ} 0 1 = cc in absurd (omega arith)
-    by false false c h e = let q : ◌≡◌ {A = ℕ} 0 1 = cc in absurd (omega arith)
-
 -- the notes of the bytes that were read are those of the section, and one that cannot be read has none
 module _ (s : List ℕ) (z : BspFileSection) (bytes : Result (Bor (List ℕ)) Refusal) (read : bytes_of bytes ≡ visibility_of s z) (notes : List ℕ) where
   pub rows_noted : (b : Bor (List ℕ)) → bytes ≡ Ok b → Noted b.now notes → RowsNoted s z bytes notes
@@ -227,7 +213,7 @@ module _ (s : List ℕ) (z : BspFileSection) (bytes : Result (Bor (List ℕ)) Re
     read = read;
     of_data = λ v e.
         let p : b.now ≡ v = cc in
-        record { small = few_bytes s z v e; noted = rw (← p) f };
+        record { small = few_bytes s z v (sym e); noted = rw (← p) f };
   }
 
   pub none_noted : (e : Refusal) → bytes ≡ Err e → RowsNoted s z bytes notes

@@ -3,16 +3,15 @@
 -- the visibility data.
 use Rattle.std.specs.Prelude.{ℕ, zero, suc, ◌+◌, ◌*◌, ◌/◌, ◌%◌, ◌<◌, ◌≤◌, List, [], ◌∷◌, ◌≡◌, cond, ltb, length, get_or, set, drop, Result}
 use Rattle.std.specs.Borrow.{Bor}
-use Rattle.format.specs.Answer.{Answer, answer, mapped}
+use Rattle.format.specs.Answer.{answer}
 use Rattle.format.specs.Answers.{answer_of}
 use Rattle.format.specs.declared.refusal.Refusal.{Refusal}
 use Rattle.format.specs.declared.section.BspData.{BspData}
 use Rattle.format.specs.declared.section.BspFileSection.{BspFileSection}
+use Rattle.vis.specs.Answers.{bytes_of}
 use Rattle.vis.specs.Pvs.{visibility_of}
 use Rattle.nodes.specs.declared.table.HullTable.{HullTable}
-use Rattle.nodes.specs.declared.table.HullTable.TheVariants.{Render, Clip}
 use Rattle.accept.specs.Accept.{Check, passes, tree_from}
-use Rattle.accept.specs.declared.trees.Passed.{Passed}
 
 -- whatever the check gives for a number is what `one` says of it
 abbrev pub ChecksAs : (ℕ → Result (Unit {0}) Refusal → Type 0) → (ℕ → Check) → Type 0
@@ -22,10 +21,6 @@ module _ (s : List ℕ) (m : BspData) where
   -- the bytes remember roots of a table: where one is not zero, the check from the root of that number passes
   abbrev pub Remembered : HullTable → List ℕ → Type 0
   Remembered table bytes = (root : ℕ) → (get_or bytes root 0 ≡ 0 → ⊥) → tree_from s m table root ≡ passes
-
-  -- roots of the render nodes, and roots of the clip nodes
-  abbrev pub BothRemembered : Passed → Type 0
-  BothRemembered p = Remembered Render p.render × Remembered Clip p.clip
 
 -- how many groups of eight leaves the bytes of a row stand for, read to their end; a zero byte without its count stands for none
 unfoldable pub groups : List ℕ → ℕ
@@ -56,10 +51,6 @@ Noted v notes = NotedFrom 0 v notes
 pub record Notes (v notes : List ℕ) : Type 0 where
   pub small : length v ≤ 1048576
   pub noted : Noted v notes
-
--- bytes that were lent, or the refusal's number
-abbrev pub bytes_of : Result (Bor (List ℕ)) Refusal → Answer (List ℕ)
-bytes_of r = mapped (λ b. b.now) (answer_of r)
 
 -- the bytes are those of the visibility section, and, where it can be read, its notes are there
 pub record RowsNoted (s : List ℕ) (z : BspFileSection) (bytes : Result (Bor (List ℕ)) Refusal) (notes : List ℕ) : Type 0 where

@@ -35,6 +35,7 @@ pub fn within(first: usize, count: usize, total: u32) -> Answer<()>
 }
 
 // The checks of the numbers from one up to another, each by `check`: the first refusal.
+#[tactic(auto, using(crate::proofs::Checks::done, crate::proofs::Checks::more, crate::proofs::Checks::stop, format::proofs::Answers::handed_on))]
 pub fn check_each<F: Fn(usize) -> Answer<()>>(first: usize, end: usize, check: F) -> Answer<()>
     requires { (i : ℕ) → first ≤ i → i < end → F.pre check i }
     ensures { (one : ℕ → Acc.Check) → ChecksAs (F.post check) one → answer_of result ≡ Acc.each one (end - first) first }

@@ -1,13 +1,12 @@
 // Whole-map acceptance (Note 4): may this map go on the rota? One call with one answer that holds for every query afterwards.
 #![tactic(auto)]
 
-ghost use Rattle.std.specs.Prelude.{◌≡◌, length, replicate};
+ghost use Rattle.std.specs.Prelude.{◌≡◌, length};
 ghost use Rattle.format.specs.Answers.{answer_of};
 ghost use Rattle.accept.specs.Accept as Acc;
 
 use format::refusal::{Answer, Refusal};
 use format::section::{BspData, BspFileSectionId};
-use tree::clear;
 
 mod check;
 mod references;
@@ -36,16 +35,6 @@ fn check_map(file: &[u8], map: BspData, marks: &mut [u8]) -> Answer<()>
     trees::check_trees(file, map, marks)
 }
 
-// The same with exactly the marks that are asked for, which are zero afterwards.
-fn accept_marked(file: &[u8], map: BspData, marks: &mut [u8]) -> Answer<()>
-    requires { length marks.old ≡ Acc.marks_for map }
-    ensures { Acc.judged (answer_of result) marks.new ≡ Acc.judged (Acc.accept_of file.now map) (replicate (Acc.marks_for map) 0) }
-{
-    let r = check_map(file, map, marks);
-    clear(marks);
-    r
-}
-
 // Whether the map passes, with one lent mark for each node of the larger node table (else 22 first of all, and the marks stay as they
 // were). Whatever the marks hold before, the first ones are zero afterwards, refused or not; later ones are kept.
 pub fn accept(file: &[u8], map: BspData, marks: &mut [u8]) -> Answer<()>
@@ -55,5 +44,8 @@ pub fn accept(file: &[u8], map: BspData, marks: &mut [u8]) -> Answer<()>
     if marks.len() < count {
         return Err(Refusal::ListTooShort);
     }
-    accept_marked(file, map, &mut marks[..count])
+    let own = &mut marks[..count];
+    let answer = check_map(file, map, own);
+    own.fill(0);
+    answer
 }

@@ -1,4 +1,5 @@
-// The references of faces, leaves and models; the visibility rows come after them.
+// The references of faces, leaves and models; the visibility rows come after them. A file and its map record are handed on as two, here and in the
+// other files: the accessors of the records, which C calls too, take them so, and a struct of both would be taken apart at each call of one.
 ghost use Rattle.std.specs.Prelude.{◌≡◌, ◌+◌, ◌<◌, ◌^◌};
 ghost use Rattle.format.specs.Answers.{answer_of};
 ghost use Rattle.format.specs.Section.{record_count};
@@ -48,6 +49,7 @@ fn check_edges(file: &[u8], map: BspData, first: usize, count: usize) -> Answer<
 }
 
 // A face's plane, texture info, edge-list range and edges.
+#[tactic(auto, using(crate::proofs::Ways::end_small))]
 fn check_face_references(file: &[u8], map: BspData, face: BspFace) -> Answer<()>
     ensures { answer_of result ≡ Acc.face_references file.now map face }
 {
@@ -67,7 +69,7 @@ fn check_face(file: &[u8], map: BspData, index: usize) -> Answer<()>
     check_face_references(file, map, file_face(file, map, index)?)
 }
 
-// A leaf's face-list range.
+// A leaf's face-list range. `check_model_faces` has its shape, and says why they are two.
 #[tactic(auto, unfolding(crate::specs::Accept::leaf_faces))]
 fn check_leaf(file: &[u8], map: BspData, index: usize) -> Answer<()>
     ensures { answer_of result ≡ Acc.leaf_faces file.now map index }
@@ -88,6 +90,7 @@ fn check_model_faces(file: &[u8], map: BspData, index: usize) -> Answer<()>
 }
 
 // Every model's inclusive leaf range. The leaf counts of the models before are added up along the way.
+#[tactic(auto, using(crate::proofs::Checks::done, crate::proofs::Checks::more, crate::proofs::Checks::stop, crate::proofs::Ways::last_leaf, crate::proofs::Ways::no_model, crate::proofs::Ways::sum_small, models::proofs::Models::step, format::proofs::Answers::handed_on))]
 fn check_models_leaves(file: &[u8], map: BspData) -> Answer<()>
     ensures { answer_of result ≡ Acc.each (Acc.model_leaves file.now map) (record_count Id.Models map.models) 0 }
 {

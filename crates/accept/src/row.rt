@@ -5,15 +5,15 @@ ghost use Rattle.std.specs.Prelude.{◌≡◌, ◌-◌, ◌%◌, ◌^◌, ◌<�
 ghost use Rattle.format.specs.Section.{record_count};
 ghost use Rattle.format.specs.declared.section.BspFileSectionId.TheVariants as Id;
 ghost use Rattle.vis.specs.Row.{row_at};
-ghost use Rattle.vis.specs.Pvs.{visibility_of};
 ghost use Rattle.format.specs.Answers.{answer_of};
 ghost use Rattle.accept.specs.Accept as Acc;
 ghost use Rattle.accept.specs.Fast as Fast;
 
 use crate::check::check_each;
 use format::refusal::{Answer, Refusal};
-use format::section::{BspData, BspFileSection, BspFileSectionId};
+use format::section::{BspData, BspFileSectionId};
 use records::leaf::leaf;
+use vis::row::visibility_of;
 
 // The groups from a position to the end, by its byte, the next one and the groups from the next two positions on. At the last position a
 // zero byte has no count: the next byte is 0 here, and so are the groups.
@@ -48,6 +48,7 @@ fn noted(notes: &[u32; 32768], at: usize) -> u32
 }
 
 // The notes of the visibility data.
+#[tactic(auto, using(crate::proofs::Groups::noting_starts, crate::proofs::Groups::noting_more))]
 fn note_groups(visibility: &[u8], notes: &mut [u32; 32768])
     requires { (length visibility.now ≤ 1048576) × (length notes.old ≡ 32768) }
     ensures { Fast.Noted visibility.now notes.new }
@@ -66,6 +67,7 @@ fn note_groups(visibility: &[u8], notes: &mut [u32; 32768])
 }
 
 // The groups from an offset to the end: those up to the next note, and the note's. A step is one position or two, so that it is no `for`.
+#[tactic(auto, using(crate::proofs::Groups::at_note, crate::proofs::Groups::over_literal, crate::proofs::Groups::over_run))]
 fn groups_from(visibility: &[u8], notes: &[u32; 32768], offset: usize) -> usize
     requires { Fast.Notes visibility.now notes.now }
     ensures { result ≡ Fast.groups (drop offset visibility.now) }
@@ -109,6 +111,7 @@ fn check_offset(visibility: &[u8], notes: &[u32; 32768], offset: usize, leaves: 
 
 // The visibility row of a leaf, with the count of all leaves. The bytes come as they were answered: a refusal of theirs counts only where a leaf
 // has a row.
+#[tactic(auto, using(crate::proofs::Rows::no_record, crate::proofs::Rows::no_row, format::proofs::Answers::handed_on))]
 fn check_row(
     file: &[u8],
     map: BspData,
@@ -124,24 +127,6 @@ fn check_row(
         None => Ok(()),
         Some(offset) => check_offset(visibility?, notes, offset, count),
     }
-}
-
-// The bytes of the visibility section.
-#[tactic(auto, unfolding(vis::specs::Pvs::visibility_of))]
-fn visibility_of(file: &[u8], section: BspFileSection) -> Answer<&[u8]>
-    ensures { Fast.bytes_of result ≡ visibility_of file.now section }
-{
-    if section.size == 0 {
-        return Ok(&file[..0]);
-    }
-    if BspFileSectionId::Visibility.within_limit(section.size) {
-        let start = section.offset as usize;
-        let end = start + (section.size as usize);
-        if end <= file.len() {
-            return Ok(&file[start..end]);
-        }
-    }
-    Err(Refusal::Unreadable)
 }
 
 // The rows of all leaves but leaf 0.

@@ -1,4 +1,5 @@
 // The contents that a box of points meets in a node table, for one who is known only to be within the box.
+// The file, its map record and the hull stand apart as in `hull`.
 #![tactic(auto)]
 
 ghost use Rattle.std.specs.Prelude.{◌≡◌, true};
@@ -65,6 +66,7 @@ fn box_child(s: &[u8], t: Tables, lo: Vector3, hi: Vector3, word: u16, levels: u
 
 // The contents that the box meets in a hull: the bounds (28, and the marks stay as they were), then the tree check of the hull's root with one lent
 // mark for each node, then the set.
+#[tactic(auto, using(crate::proofs::Laws::not_a_box))]
 pub fn contents_in_box(
     file: &[u8],
     map: BspData,

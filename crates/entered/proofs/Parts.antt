@@ -120,18 +120,6 @@ module _ (y : TraceT) (u n : ℕ) (ns l m : List ℕ) (short : length l < 2 ^ 63
 
 -- ---- the trace in one leaf
 
-module _ (f : List ℕ) (t : Tables) (w v : ℕ) (way : Way) (x : Result BspLeafContents Refusal) (is_x : answer_of x ≡ contents_met f t w) where
-  abbrev in_leaf : Answer BspLeafContents → Outcome TraceT
-  in_leaf y = ended (Fast.table f t) (λ c. Tr.new_trace way.from way.to c) y
-
-  pub leaf_met : (c : BspLeafContents) → x ≡ Ok c → {y : TraceT} → y ≡ Tr.new_trace way.from way.to c → v < 2 ^ 64 → answer (y, v) ≡ after v (in_leaf (contents_met f t w))
-  leaf_met c q is_y small =
-      let n : v ≡ held (v + 0) = omega arith in
-      ap₂ (λ (z : TraceT) (n : ℕ). answer (z, n)) is_y n ∙ ap (λ (z : Answer BspLeafContents). after v (in_leaf z)) (sym (ap answer_of q) ∙ is_x)
-
-  pub leaf_unmet : (z : Refusal) → x ≡ Err z → Ans.refused (number_of z) ≡ after v (in_leaf (contents_met f t w))
-  leaf_unmet z q = ap (λ (y : Answer BspLeafContents). after v (in_leaf y)) (sym (ap answer_of q) ∙ is_x)
-
 in_one : (f : List ℕ) (t : Tables) (v : ℕ) (l : List ℕ) (way : Way) (x : Answer BspLeafContents)
     → mapped (λ (z : TraceT × ℕ). (z, l)) (after v (ended (Fast.table f t) (λ y. Tr.new_trace way.from way.to y) x)) ≡ traced_list v l (ended (Fast.table f t) (λ y. Tr.new_trace way.from way.to y) x)
 in_one f t v l way (answer y) = refl

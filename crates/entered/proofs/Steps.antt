@@ -1,8 +1,6 @@
 -- The child on a side, and the two parts of a segment that crosses a plane.
 -- Assumes nothing.
 use Rattle.std.specs.Prelude.{Result, Ok, Err}
-use Rattle.std.specs.Result.{IsErrAnd}
-use Rattle.std.proofs.lemmas.Result.{err_from_is_err_and}
 use Prim.Native.Nat.{ℕ}
 use Rattle.format.specs.Answers.{answer_of}
 use mathlib.Core.Path.{◌≡◌, refl, sym, ap, ap₂, ◌∙◌}
@@ -34,10 +32,6 @@ use Rattle.nodes.specs.declared.read.Words.{Words as WordsT}
 use Rattle.hull.specs.Traces.{crossed_at}
 use Rattle.nodes.proofs.Entering.{child_is, child_of_word}
 use Rattle.entered.specs.Onward.{both_parts, Crosses}
-
--- what a `?` hands on
-pub handed_on : {A : Type 0} {q : Result A Refusal} {e : Refusal} → IsErrAnd q (λ d. d ≡ e) → q ≡ Err e
-handed_on {q = q} h = let (d, t, s) = err_from_is_err_and q h in t ∙ ap Err s
 
 -- ---- the child on a side
 

@@ -1,4 +1,5 @@
-// The nodes that the trace of a segment enters.
+// The nodes that the trace of a segment enters. The parameters stand apart as in the calls of `hull` whose nodes these are: a struct of them would be
+// made for one call each time.
 ghost use Rattle.std.specs.Prelude.{◌≡◌, set};
 ghost use Rattle.format.specs.Answers.{answer_of};
 ghost use Rattle.format.specs.Listed.{listed, into};
@@ -15,7 +16,7 @@ ghost use Rattle.entered.specs.Onward as Going;
 use format::refusal::{Answer, Refusal};
 use format::section::BspData;
 use hull::collision::BspCollisionHull;
-use hull::tracing::{join_far, one_more, stops, trace};
+use hull::tracing::{join_far, stops, trace};
 use math::Vector3;
 use nodes::read::{Onto, Words, end_contents, is_front, plane_at};
 use nodes::segment::segment_any;
@@ -37,7 +38,9 @@ struct Counts {
 }
 
 // Where a segment's way down comes to: the end of the leaf that all of it lies in, by its word; or a plane that it crosses, with the node's
-// words, the distances of its ends, the calls left below it; and the nodes entered.
+// words, the distances of its ends, the calls left below it; and the nodes entered. (`Descent` of `hull` has the contents where this has the
+// word: here the end is read by `in_leaf`, as that of a child which is an end at once. One enum for both would take the type of an end too, each
+// definition of either would name it, and it would be no plainer.)
 #[derive(Clone, Copy)]
 enum Down {
     End(u16, u64),
@@ -64,6 +67,7 @@ fn whole_of(way: Way) -> Way
 }
 
 // The two parts of a segment whose ends are at the distances a and b of a node's plane. Refused where the plane can't be read.
+#[tactic(auto, using(crate::proofs::Steps::no_plane))]
 fn parts_of(s: &[u8], t: Tables, w: Words, a: f32, b: f32, way: Way) -> Answer<Parts>
     ensures { Going.Crosses s.now t w a b way.from.point way.to.point result }
 {
@@ -107,7 +111,8 @@ fn write_at(list: &mut [u32], place: u64, node: u32)
 }
 
 // Down from a node as long as the segment lies on one side of each plane; each node is written into the list as it is entered, as far as
-// the list goes.
+// the list goes. (`descend` of `hull` goes down the same way, without a list, and reads the contents of the end that it comes to; the word of an
+// end is answered here. One function for both would be told what is done with a node and with an end.)
 fn go_down(s: &[u8], t: Tables, node: usize, way: Way, c: Counts, list: &mut [u32]) -> Answer<Down>
     ensures { Going.Goes s.now t way.from.point way.to.point c.left (Going.traced_list c.visits list.old (recursive_trace (Fast.table s.now t) c.left node way.from.point way.to.point)) list.new result }
 {
@@ -124,7 +129,7 @@ fn go_down(s: &[u8], t: Tables, node: usize, way: Way, c: Counts, list: &mut [u3
         }
         write_at(list, visits, i as u32);
         let (w, a, b) = segment_any(s, t, i, way.from.point, way.to.point)?;
-        visits = one_more(visits);
+        visits = visits.saturating_add(1);
         left -= 1;
         let front = a >= 0.0;
         if front != (b >= 0.0) {
@@ -139,6 +144,7 @@ fn go_down(s: &[u8], t: Tables, node: usize, way: Way, c: Counts, list: &mut [u3
 
 // The part of a trace that goes on to a child, with the calls left and the nodes entered before; the nodes that it enters are written into
 // the list, as far as it goes. At most 513 calls deep: one for each of 512 nodes, and one for an end.
+#[tactic(auto, using(crate::proofs::Parts::down_refused, crate::proofs::Parts::down_end))]
 fn write_onward(
     s: &[u8],
     t: Tables,

@@ -1,4 +1,5 @@
-// The nodes that the walk of a point enters: to the contents at it, and to the leaf that it is in.
+// The nodes that the walk of a point enters: to the contents at it, and to the leaf that it is in. The parameters stand apart as in the calls of
+// `hull` whose nodes these are: a struct of them would be made for one call each time.
 ghost use Rattle.std.specs.Prelude.{◌≡◌, ◌<◌, length};
 ghost use Rattle.format.specs.Answers.{answer_of};
 ghost use Rattle.format.specs.Listed.{listed, into};
@@ -17,7 +18,8 @@ use math::Vector3;
 use nodes::read::{read_words, side_at};
 use nodes::table::{HullTable, Tables, tables_of};
 
-// The node that a walk goes on to; 0 where it does not.
+// The node that a walk goes on to; 0 where it does not. (No Option: the list has one place for each visit, so the 0 after the last node is not
+// written.)
 fn next_node(s: &[u8], t: Tables, node: usize, point: Vector3) -> u16
     ensures { result ≡ Private.next (Fast.table s.now t) point node }
 {

@@ -1,6 +1,6 @@
 -- The steps of the loop over a face's vertices, of the entries from i up to n.
 -- Assumes nothing.
-use Rattle.std.proofs.Common.{◌≡◌, ℕ, zero, suc, ◌+◌, ◌-◌, ◌<◌, ◌≤◌, List, refl, arith}
+use Rattle.std.proofs.Common.{◌≡◌, ℕ, suc, ◌+◌, ◌-◌, ◌<◌, ◌≤◌, List, arith}
 use Rattle.format.specs.Answer.{answer, refused}
 use Rattle.format.specs.declared.section.BspData.{BspData}
 use Rattle.math.specs.declared.vector.Vector3.{Vector3}

@@ -70,7 +70,7 @@ fn widened_span(info: BspTexInfo, vertex: Vector3, w: Span) -> Span
 }
 
 // Over the vertices of the entries of the list of edges from `first` up to `end`.
-#[tactic(auto, using(crate::proofs::Spans::done, crate::proofs::Spans::more))]
+#[tactic(auto, using(crate::proofs::Spans::done, crate::proofs::Spans::more, crate::proofs::Spans::stop, format::proofs::Answers::handed_answer))]
 fn span_over(s: &[u8], map: BspData, info: BspTexInfo, first: usize, end: usize) -> Answer<Span>
     ensures { answer_of result ≡ span_over s.now map info (end - first) first unbounded }
 {
@@ -151,7 +151,7 @@ pub fn surface_of(s: &[u8], map: BspData, face: BspFace) -> Answer<Surface>
     Ok(surface_in(w, info.special))
 }
 
-// The face with its texture mins and extents.
+// The face with its texture mins and extents. (`with_bounds` of `sized_hulls` sets two fields of a hull: a literal, and nothing to share.)
 fn with_surface(face: BspFace, of: Surface) -> BspFace
     ensures { result ≡ with_surface face of }
 {

@@ -57,7 +57,7 @@ fn read_side(s: &[u8], at: usize) -> Read<BspFaceSide>
     }
 }
 
-// Set in where it is called: late in a chain of `?` the compiler takes a call for a rare one, and leaves it a call.
+// Inlined: late in a chain of `?` the compiler takes a call for a rare one, and leaves it a call.
 #[inline(always)]
 #[tactic(auto, unfolding(crate::specs::Face::styles_at))]
 fn read_light_styles(s: &[u8], at: usize) -> Read<LightStyles>
@@ -79,7 +79,7 @@ fn read_light_styles(s: &[u8], at: usize) -> Read<LightStyles>
 }
 
 // A face. Its plane number and its texture info's may equal their counts; its texture mins and extents are 0 as yet.
-// Set in where it is called: loading needs the tests alone, and there the value is then not made.
+// Inlined: loading needs the tests alone, and there the value is then not made.
 #[inline(always)]
 #[tactic(auto, unfolding(crate::specs::Face::face_at, crate::specs::Face::face_end_at, crate::specs::Face::face_light_at))]
 pub fn read_face(s: &[u8], at: usize, plane_count: u32, texinfo_count: u32) -> Read<BspFace>
@@ -100,7 +100,7 @@ pub fn read_face(s: &[u8], at: usize, plane_count: u32, texinfo_count: u32) -> R
             edge_count: edge_count as usize,
             texinfo_id: texinfo_id as usize,
             light_styles,
-            lightmap_id,
+            lightmap_id: lightmap_id.map(|id| id as usize),
             texture_mins: TexturePair { s: 0, t: 0 },
             extents: TexturePair { s: 0, t: 0 },
         },

@@ -1,4 +1,5 @@
 // The contents that a box of points meets in a hull, as a word in a list that a caller lends.
+// A call's lists stand one by one, as in `ffi`: the interface for C has no records.
 #![tactic(auto)]
 
 ghost use Rattle.std.specs.Prelude.{◌≡◌};
@@ -7,10 +8,11 @@ ghost use Rattle.ffi_boxes.specs.Calls as Calls;
 
 use boxes::contents_in_box;
 use ffi_hull::layout;
-use words::{LIST_TOO_SHORT, give_number};
+use words::give_number;
 
 // The set of contents that a box meets in a hull. 22: a map of fewer than 31 words, a hull of fewer than 9, bounds of fewer than 6 floats or
-// no word for the set; 20: a hull of no table; then the call's own refusals.
+// no word for the set; 20: a hull of no table; then the call's own refusals. (One call for C and what it asks: `trace_nodes` of `ffi_entered`
+// has its shape.)
 #[tactic(auto, unfolding(crate::specs::Calls::bsp_contents_box))]
 pub fn contents_box(
     file: &[u8],
@@ -22,22 +24,9 @@ pub fn contents_box(
 ) -> u32
     ensures { left result marks.new out.new ≡ Calls.bsp_contents_box file.now map.now hull.now bounds.now marks.old out.old }
 {
-    if map.len() < 31 {
-        return LIST_TOO_SHORT;
-    }
-    if hull.len() < layout::HULL_ASKED {
-        return LIST_TOO_SHORT;
-    }
-    if bounds.len() < 6 {
-        return LIST_TOO_SHORT;
-    }
-    if out.len() < 1 {
-        return LIST_TOO_SHORT;
-    }
-    match layout::walked_hull(hull) {
+    match layout::asked(map, hull, bounds, 6, out, 1) {
         Err(e) => e.number(),
-        Ok(h) => {
-            let m = layout::walked_map(map);
+        Ok((m, h)) => {
             let mins = layout::first_point(bounds);
             let maxs = layout::second_point(bounds);
             give_number(contents_in_box(file, m, h, mins, maxs, marks), out)

@@ -1,4 +1,5 @@
 // The tree check of a hull, as words in lists that a caller lends: the hull with the number of nodes and the height of its root's tree.
+// A call's lists stand one by one, as in `ffi`: the interface for C has no records.
 #![tactic(auto)]
 
 ghost use Rattle.std.specs.Prelude.{◌≡◌};
@@ -14,15 +15,13 @@ use nodes::table::HullTable;
 use words::{LIST_TOO_SHORT, give_words, map_of, word_at_u64};
 
 // The hull of a hull's words, with all its fields. 20: its table is above 2.
-#[tactic(auto, unfolding(ffi_hull::specs::Layout::hull_from))]
+#[tactic(auto, unfolding(nodes::specs::Tables::table_numbered, ffi_hull::specs::Layout::hull_from))]
 fn hull_from(words: &[u64]) -> Answer<BspCollisionHull>
     ensures { answer_of result ≡ hull_from words.now }
 {
-    match word_at_u64(words, 0) {
-        0 => Ok(layout::hull_in(HullTable::Render, words)),
-        1 => Ok(layout::hull_in(HullTable::Clip, words)),
-        2 => Ok(layout::hull_in(HullTable::Box, words)),
-        _ => Err(Refusal::NoSuchRecord),
+    match HullTable::numbered(word_at_u64(words, 0)) {
+        Some(table) => Ok(layout::hull_in(table, words)),
+        None => Err(Refusal::NoSuchRecord),
     }
 }
 
@@ -32,13 +31,7 @@ fn hull_from(words: &[u64]) -> Answer<BspCollisionHull>
 pub fn hull_check(file: &[u8], map: &[u32], hull: &[u64], marks: &mut [u8], out: &mut [u64]) -> u32
     ensures { left result marks.new out.new ≡ Calls.bsp_hull_check file.now map.now hull.now marks.old out.old }
 {
-    if map.len() < 31 {
-        return LIST_TOO_SHORT;
-    }
-    if hull.len() < layout::HULL_ASKED {
-        return LIST_TOO_SHORT;
-    }
-    if out.len() < layout::HULL_WORDS {
+    if map.len() < 31 || hull.len() < layout::HULL_ASKED || out.len() < layout::HULL_WORDS {
         return LIST_TOO_SHORT;
     }
     match hull_from(hull) {

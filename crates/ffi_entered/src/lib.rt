@@ -1,4 +1,5 @@
 // The nodes that point walks, leaf lookups and traces enter, as words in lists that a caller lends.
+// A call's lists stand one by one, as in `ffi`: the interface for C has no records.
 #![tactic(auto)]
 
 ghost use Rattle.std.specs.Prelude.{◌≡◌};
@@ -24,22 +25,9 @@ pub fn contents_nodes(
 ) -> u32
     ensures { left result list.new out.new ≡ Calls.bsp_contents_nodes file.now map.now hull.now point.now list.old out.old }
 {
-    if map.len() < 31 {
-        return LIST_TOO_SHORT;
-    }
-    if hull.len() < layout::HULL_ASKED {
-        return LIST_TOO_SHORT;
-    }
-    if point.len() < 3 {
-        return LIST_TOO_SHORT;
-    }
-    if out.len() < 1 {
-        return LIST_TOO_SHORT;
-    }
-    match layout::walked_hull(hull) {
+    match layout::asked(map, hull, point, 3, out, 1) {
         Err(e) => e.number(),
-        Ok(h) => {
-            let m = layout::walked_map(map);
+        Ok((m, h)) => {
             let p = layout::first_point(point);
             give_number(nodes_to_point(file, m, h, p, list), out)
         }
@@ -58,13 +46,7 @@ pub fn find_leaf_nodes(
 ) -> u32
     ensures { left result list.new out.new ≡ Calls.bsp_find_leaf_nodes file.now map.now root point.now list.old out.old }
 {
-    if map.len() < 31 {
-        return LIST_TOO_SHORT;
-    }
-    if point.len() < 3 {
-        return LIST_TOO_SHORT;
-    }
-    if out.len() < 1 {
+    if map.len() < 31 || point.len() < 3 || out.is_empty() {
         return LIST_TOO_SHORT;
     }
     let m = layout::walked_map(map);
@@ -72,7 +54,8 @@ pub fn find_leaf_nodes(
     give_number(nodes_to_leaf(file, m, root as usize, p, list), out)
 }
 
-// The same for the trace of a segment through a hull, of 6 floats.
+// The same for the trace of a segment through a hull, of 6 floats. (One call for C and what it asks: `contents_box` of `ffi_boxes` has its
+// shape.)
 #[tactic(auto, unfolding(crate::specs::Calls::bsp_trace_nodes))]
 pub fn trace_nodes(
     file: &[u8],
@@ -84,22 +67,9 @@ pub fn trace_nodes(
 ) -> u32
     ensures { left result list.new out.new ≡ Calls.bsp_trace_nodes file.now map.now hull.now segment.now list.old out.old }
 {
-    if map.len() < 31 {
-        return LIST_TOO_SHORT;
-    }
-    if hull.len() < layout::HULL_ASKED {
-        return LIST_TOO_SHORT;
-    }
-    if segment.len() < 6 {
-        return LIST_TOO_SHORT;
-    }
-    if out.len() < 1 {
-        return LIST_TOO_SHORT;
-    }
-    match layout::walked_hull(hull) {
+    match layout::asked(map, hull, segment, 6, out, 1) {
         Err(e) => e.number(),
-        Ok(h) => {
-            let m = layout::walked_map(map);
+        Ok((m, h)) => {
             let start = layout::first_point(segment);
             let end = layout::second_point(segment);
             give_number(nodes_of_trace(file, m, h, start, end, list), out)

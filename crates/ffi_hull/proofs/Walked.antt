@@ -3,12 +3,12 @@
 use Rattle.std.proofs.Common.{Ok, Err}
 use Rattle.std.specs.Prelude.{Result}
 use Rattle.format.specs.Answers.{answer_of}
-use Prim.Native.Nat.{ℕ, ◌<◌, ◌≤◌}
+use Prim.Native.Nat.{ℕ, ◌≤◌}
 use mathlib.Core.Path.{◌≡◌, refl, sym, ap, ◌∙◌}
 use mathlib.Core.Bool.{Bool, true, false, cond}
 use mathlib.Core.List.{List}
 use native.Mathlib.Omega.{arith}
-use borrow.Author.Tests.{lt-ltb, le-ltb, eqb-true, eqb-false}
+use borrow.Author.Tests.{lt-ltb, le-ltb, ltb-false, eqb-true, eqb-false}
 use lib.Dec.{eqb, ltb}
 use lib.Ieee.{Float}
 use lib.ListN.{length, get_or}
@@ -17,7 +17,6 @@ use Rattle.format.specs.Refusal.{number_of}
 use Rattle.format.specs.declared.contents.BspLeafContents.{BspLeafContents}
 use Rattle.format.specs.declared.refusal.Refusal.{Refusal}
 use Rattle.format.specs.declared.section.BspData.{BspData}
-use Rattle.math.specs.Vector.{vector, zero32}
 use Rattle.math.specs.declared.vector.Vector3.{Vector3}
 use Rattle.walk.specs.Table.{Table}
 use Rattle.words.specs.Words.{Written, given, at_least, map_length, map_of}
@@ -27,10 +26,9 @@ use Rattle.nodes.specs.Fast.{tables_of}
 use Rattle.nodes.proofs.Equal.{table_is, leaves_are}
 use Rattle.nodes.specs.declared.table.HullTable.{HullTable}
 use Rattle.nodes.specs.declared.table.HullTable.TheVariants.{Render, Clip, Box}
-use Rattle.nodes.specs.declared.table.Tables.{Tables}
 use Rattle.hull.specs.Hull.{hull_table}
 use Rattle.hull.specs.declared.collision.BspCollisionHull.{BspCollisionHull}
-use Rattle.ffi_hull.specs.Layout.{hull_asked, hull_in, hull_from, flat_hull, walked_from, walked_map}
+use Rattle.ffi_hull.specs.Layout.{hull_asked, hull_in, hull_from, flat_hull, walked_from, walked_map, asked}
 
 -- ---- the map record
 
@@ -68,47 +66,70 @@ unfolding table_of
 table_flat s ws m true = refl
 table_flat s ws m false = refl
 
--- ---- what is asked of a hull that is given by words, through the hull and the map record that are read of them
+-- ---- a call over a hull: what f says of an answer is what it says and leaves, and 22 where a list is too short
 
-module _ {A : Type 0} (s ms ws : List ℕ) (ask : Table End BspLeafContents → ℕ → Answer A) (r : Result BspCollisionHull Refusal) (is-r : answer_of r ≡ walked_from ws) where
-  abbrev of : BspData → BspCollisionHull → Answer A
-  of m h = ask (hull_table s m h) h.node_id
+module _ {A W : Type 0} (f : Answer A → W) (s ms ws : List ℕ) (fs : List Float) (least : ℕ) (out : List ℕ) (words : ℕ) (ask : Table End BspLeafContents → ℕ → Answer A) where
+  abbrev its : BspData × BspCollisionHull → Answer A
+  its x = ask (hull_table s x.0 x.1) x.1.node_id
 
-  read : then_answer (answer_of r) (of (map_of ms)) ≡ then_answer (hull_from ws) (of (map_of ms))
-  read =
-      ap (λ (x : Answer BspCollisionHull). then_answer x (of (map_of ms))) is-r
-      ∙ as_walked ws (of (map_of ms)) (λ b. ap (λ (T : Table End BspLeafContents). ask T (get_or ws 1 0)) (table_flat s ws (map_of ms) b))
+  abbrev of_words : Answer A
+  of_words = then_answer (hull_from ws) (λ h. ask (hull_table s (map_of ms) h) h.node_id)
 
-  -- the words are no hull's
-  pub no_hull : (e : Refusal) → r ≡ Err e → (k : ℕ) → k ≡ number_of e → refused k ≡ then_answer (hull_from ws) (of (map_of ms))
-  no_hull e q k is-k = ap refused is-k ∙ ap (λ (x : Result BspCollisionHull Refusal). then_answer (answer_of x) (of (map_of ms))) (sym q) ∙ read
+  abbrev call : W
+  call =
+      cond (ltb (length ms) map_length) (f (refused 22)) (cond (ltb (length ws) hull_asked) (f (refused 22))
+      (cond (ltb (length fs) least) (f (refused 22)) (cond (ltb (length out) words) (f (refused 22)) (f of_words))))
 
-  -- the words are the hull h's
-  module _ (h : BspCollisionHull) (q : r ≡ Ok h) (m : BspData) (is_m : m ≡ walked_map ms) where
-    pub the_hull : ask (hull_table s m h) h.node_id ≡ then_answer (hull_from ws) (of (map_of ms))
-    the_hull =
-        ap (λ (x : BspData). of x h) is_m
-        ∙ ap (λ (T : Table End BspLeafContents). ask T h.node_id) (same_hull_table s ms h)
-        ∙ ap (λ (x : Result BspCollisionHull Refusal). then_answer (answer_of x) (of (map_of ms))) (sym q) ∙ read
+  with_map : (x : Answer BspCollisionHull) → then_answer (mapped (λ h. (walked_map ms, h)) x) its ≡ then_answer x (λ h. ask (hull_table s (map_of ms) h) h.node_id)
+  with_map (answer h) = ap (λ (T : Table End BspLeafContents). ask T h.node_id) (same_hull_table s ms h)
+  with_map (refused n) = refl
 
-    -- and the tables are made of it
-    pub the_tables : (t : Tables) → t ≡ tables_of m h.table h.mins h.maxs → ask (Fast.table s t) h.node_id ≡ then_answer (hull_from ws) (of (map_of ms))
-    the_tables t is-t =
-        ap (λ (T : Table End BspLeafContents). ask T h.node_id) (ap (Fast.table s) is-t ∙ table_is s m h.mins h.maxs h.table) ∙ the_hull
+  same_words : then_answer (mapped (λ h. (walked_map ms, h)) (walked_from ws)) its ≡ of_words
+  same_words =
+      with_map (walked_from ws)
+      ∙ as_walked ws (λ h. ask (hull_table s (map_of ms) h) h.node_id) (λ b. ap (λ (T : Table End BspLeafContents). ask T (get_or ws 1 0)) (table_flat s ws (map_of ms) b))
 
--- the same where a table of nodes is read off the first word
-abbrev pub origin : Vector3
-origin = vector zero32 zero32 zero32
+  by_lengths : (a b c d : Bool) (x : Answer (BspData × BspCollisionHull)) (y : Answer A) → then_answer x its ≡ y
+      → f (then_answer (cond a (refused 22) (cond b (refused 22) (cond c (refused 22) (cond d (refused 22) x)))) its)
+      ≡ cond a (f (refused 22)) (cond b (f (refused 22)) (cond c (f (refused 22)) (cond d (f (refused 22)) (f y))))
+  by_lengths true b c d x y e = refl
+  by_lengths false true c d x y e = refl
+  by_lengths false false true d x y e = refl
+  by_lengths false false false true x y e = refl
+  by_lengths false false false false x y e = ap f e
 
-module _ (ws : List ℕ) (n : ℕ) (is_n : n ≡ get_or ws 0 0) (l : n < 2) where
-  is_flat : answer (flat_hull (eqb n 0) ws) ≡ walked_from ws
-  unfolding walked_from
-  is_flat = rw (← is_n, lt-ltb n 2 l)
+  module _ (r : Result (BspData × BspCollisionHull) Refusal) (is-r : answer_of r ≡ asked ms ws fs least out words) where
+    is_call : f (then_answer (answer_of r) its) ≡ call
+    unfolding asked
+    is_call =
+        ap (λ (x : Answer (BspData × BspCollisionHull)). f (then_answer x its)) is-r
+        ∙ by_lengths (ltb (length ms) map_length) (ltb (length ws) hull_asked) (ltb (length fs) least) (ltb (length out) words)
+        (mapped (λ h. (walked_map ms, h)) (walked_from ws)) of_words same_words
 
-  pub flat_tables : {A : Type 0} (s ms : List ℕ) (ask : Table End BspLeafContents → ℕ → Answer A) (t : Tables) → t ≡ tables_of (walked_map ms) (file_table (eqb n 0)) origin origin
-      → ask (Fast.table s t) (get_or ws 1 0) ≡ then_answer (hull_from ws) (λ h. ask (hull_table s (map_of ms) h) h.node_id)
-  flat_tables s ms ask t is-t =
-      the_tables s ms ws ask (Ok (flat_hull (eqb n 0) ws)) is_flat (flat_hull (eqb n 0) ws) refl (walked_map ms) refl t is-t
+    -- a list is too short, or the words are no hull's
+    pub no_hull : (e : Refusal) → r ≡ Err e → (k : ℕ) → k ≡ number_of e → f (refused k) ≡ call
+    no_hull e q k is-k =
+        ap (λ (n : ℕ). f (refused n)) is-k ∙ ap (λ (x : Result (BspData × BspCollisionHull) Refusal). f (then_answer (answer_of x) its)) (sym q) ∙ is_call
+
+    -- the words are a hull's
+    pub the_hull : (m : BspData) (h : BspCollisionHull) → r ≡ Ok (m, h) → f (ask (hull_table s m h) h.node_id) ≡ call
+    the_hull m h q = ap (λ (x : Result (BspData × BspCollisionHull) Refusal). f (then_answer (answer_of x) its)) (sym q) ∙ is_call
+
+-- and then there is room for the words that are asked for
+module _ (ms ws : List ℕ) (fs : List Float) (least : ℕ) (out : List ℕ) (words : ℕ) where
+  last_test : {A : Type 0} (a b c d : Bool) (x : A) (y : Answer A) → cond a (refused 22) (cond b (refused 22) (cond c (refused 22) (cond d (refused 22) y))) ≡ answer x → d ≡ false
+  last_test true b c d x y e = let z : ◌≡◌ {A = ℕ} 0 1 = cc in absurd (omega arith)
+  last_test false true c d x y e = let z : ◌≡◌ {A = ℕ} 0 1 = cc in absurd (omega arith)
+  last_test false false true d x y e = let z : ◌≡◌ {A = ℕ} 0 1 = cc in absurd (omega arith)
+  last_test false false false true x y e = let z : ◌≡◌ {A = ℕ} 0 1 = cc in absurd (omega arith)
+  last_test false false false false x y e = refl
+
+  pub room : (r : Result (BspData × BspCollisionHull) Refusal) → answer_of r ≡ asked ms ws fs least out words → (m : BspData) (h : BspCollisionHull) → r ≡ Ok (m, h) → words ≤ length out
+  unfolding asked
+  room r is-r m h q =
+      ltb-false (length out) words
+      (last_test (ltb (length ms) map_length) (ltb (length ws) hull_asked) (ltb (length fs) least) (ltb (length out) words) (m, h)
+      (mapped (λ x. (walked_map ms, x)) (walked_from ws)) (sym is-r ∙ ap answer_of q))
 
 -- ---- a call that asks something of a hull by words: its four lists are long enough
 

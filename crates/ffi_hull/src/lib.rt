@@ -15,10 +15,7 @@ pub mod layout;
 pub fn hull_of_model(file: &[u8], map: &[u32], model: u64, index: u64, hull: &mut [u64]) -> u32
     ensures { written result hull.new ≡ Calls.bsp_hull file.now map.now model index hull.old }
 {
-    if map.len() < 31 {
-        return LIST_TOO_SHORT;
-    }
-    if hull.len() < layout::HULL_WORDS {
+    if map.len() < 31 || hull.len() < layout::HULL_WORDS {
         return LIST_TOO_SHORT;
     }
     give_words(
@@ -34,10 +31,7 @@ pub fn hull_of_model(file: &[u8], map: &[u32], model: u64, index: u64, hull: &mu
 pub fn hull_of_box(bounds: &[f32], hull: &mut [u64]) -> u32
     ensures { written result hull.new ≡ Calls.bsp_box bounds.now hull.old }
 {
-    if bounds.len() < 6 {
-        return LIST_TOO_SHORT;
-    }
-    if hull.len() < layout::HULL_WORDS {
+    if bounds.len() < 6 || hull.len() < layout::HULL_WORDS {
         return LIST_TOO_SHORT;
     }
     let mins = layout::first_point(bounds);

@@ -8,6 +8,7 @@ ghost use Rattle.ffi_load.specs.Calls as Calls;
 use words::LIST_TOO_SHORT;
 
 // The 31 words of a file's map record. 22: a list of fewer than 31 words.
+#[tactic(auto, unfolding(crate::specs::Calls::bsp_load))]
 pub fn load(file: &[u8], map: &mut [u32]) -> u32
     ensures { written result map.new ≡ Calls.bsp_load file.now map.old }
 {

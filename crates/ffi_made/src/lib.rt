@@ -7,7 +7,7 @@ ghost use Rattle.ffi_made.specs.Calls as Calls;
 
 use words::{LIST_TOO_SHORT, give_number};
 
-// The node count is outside 1 to 500.
+// The node count is outside 1 to 500. (As a constant, as those of `words`.)
 pub const NODE_COUNT_OUTSIDE: u32 = 29;
 
 // The file of a made-up map at the front of `buffer`, and its length. 29: a node count outside 1 to 500; then 22: no word for the length

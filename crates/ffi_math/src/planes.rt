@@ -1,5 +1,6 @@
 // The planes: one is given by its kind (0, 1, 2 an axis, any other a normal), the normal's floats and
 // the distance, and answered, as a crossing is, by its word number `word`.
+// Each exported name is a function of its own with a parameter for each number: the interface for C asks it.
 ghost use Rattle.std.specs.Prelude.{◌≡◌, get_or};
 ghost use Rattle.math.specs.Vector as Vec;
 ghost use Rattle.math.specs.Plane as Pl;
@@ -119,7 +120,6 @@ pub extern "C" fn plane_axis_word(axis: u32, dist: f32, word: u32) -> u32
     plane_word(axis_plane(axis, dist), word)
 }
 
-// Each exported name is a function of its own: the interface for C asks it.
 #[unsafe(no_mangle)]
 pub extern "C" fn plane_new_word(nx: f32, ny: f32, nz: f32, dist: f32, word: u32) -> u32
     ensures { result ≡ get_or (Words.plane_words (Pl.new_plane (Vec.vector nx ny nz) dist)) word 0 }

@@ -1,5 +1,6 @@
 // The traces: one is given by sixteen words, the words that `bsp_trace` writes after the visits, and
 // answered by its word number `word`.
+// Each exported name is a function of its own with a parameter for each number: the interface for C asks it.
 ghost use Rattle.std.specs.Prelude.{◌≡◌, ◌≤◌, get_or};
 ghost use Rattle.format.specs.Answers.{answer_of};
 ghost use Rattle.math.specs.Vector as Vec;

@@ -1,4 +1,5 @@
 // The vectors: each is three numbers, and a vector is answered by its coordinate `part`.
+// Each exported name is a function of its own with a parameter for each number: the interface for C asks it.
 ghost use Rattle.std.specs.Prelude.{◌≡◌};
 ghost use Rattle.math.specs.Vector as Vec;
 ghost use Rattle.ffi_math.specs.FloatWords.{coordinate_of};

@@ -3,25 +3,7 @@
 use Rattle.std.specs.Prelude.{ℕ, List}
 use Rattle.format.specs.declared.section.BspData.{BspData}
 use Rattle.words.specs.Words.{section_in}
-use Rattle.format.specs.Section.{no_section}
+use Rattle.format.specs.Section.{no_map}
 
 abbrev pub planes_map : List ℕ → BspData
-planes_map ws =
-    record {
-      entities = no_section;
-      planes = section_in ws 2;
-      textures = no_section;
-      vertices = no_section;
-      visibility = no_section;
-      render_nodes = no_section;
-      texinfo = no_section;
-      faces = no_section;
-      lightmaps = no_section;
-      collision_nodes = no_section;
-      leaves = no_section;
-      facelist = no_section;
-      edges = no_section;
-      edgelist = no_section;
-      models = no_section;
-      texture_count = 0;
-    }
+planes_map ws = record no_map { planes = section_in ws 2 }

@@ -1,4 +1,5 @@
 // Nodes in walking order, and contents and traces taken from them, over numbers and lists that a caller lends.
+// A call's lists stand one by one, as in `ffi`: the interface for C has no records.
 #![tactic(auto)]
 
 ghost use Rattle.std.specs.Prelude.{◌≡◌};
@@ -8,40 +9,22 @@ ghost use Rattle.ffi_order.specs.Calls as Calls;
 ghost use Rattle.ffi_order.specs.Private as Private;
 
 use ffi_hull::layout;
-use format::section::{BspData, BspFileSection};
+use format::section::BspData;
 use nodes::table::HullTable;
 use order::order_nodes;
 use ordered::contents::contents_in_order;
 use ordered::tracing::trace_in_order;
 use phys::Trace;
 use walk_words::{contents_words, trace_words};
-use words::{LIST_TOO_SHORT, NO_SUCH_RECORD, give_number, give_words, map_of, word_at};
+use words::{LIST_TOO_SHORT, NO_SUCH_RECORD, give_number, give_words, map_of, section_at};
 
 // The section of the planes, from a map record's words; the others are left empty.
 fn planes_map(words: &[u32]) -> BspData
     ensures { result ≡ Private.planes_map words.now }
 {
-    let none = BspFileSection { offset: 0, size: 0 };
     BspData {
-        entities: none,
-        planes: BspFileSection {
-            offset: word_at(words, 2),
-            size: word_at(words, 3),
-        },
-        textures: none,
-        vertices: none,
-        visibility: none,
-        render_nodes: none,
-        texinfo: none,
-        faces: none,
-        lightmaps: none,
-        collision_nodes: none,
-        leaves: none,
-        facelist: none,
-        edges: none,
-        edgelist: none,
-        models: none,
-        texture_count: 0,
+        planes: section_at(words, 2),
+        ..BspData::default()
     }
 }
 
@@ -59,10 +42,7 @@ pub fn order(
 ) -> u32
     ensures { Calls.ordering result marks.new list.new out.new ≡ Calls.bsp_order file.now map.now table root marks.old list.old out.old }
 {
-    if map.len() < 31 {
-        return LIST_TOO_SHORT;
-    }
-    if out.len() < 1 {
+    if map.len() < 31 || out.is_empty() {
         return LIST_TOO_SHORT;
     }
     if 2 <= table {
@@ -86,13 +66,7 @@ pub fn contents(
 ) -> u32
     ensures { written result out.new ≡ Calls.bsp_order_contents file.now map.now list.now root point.now out.old }
 {
-    if map.len() < 31 {
-        return LIST_TOO_SHORT;
-    }
-    if point.len() < 3 {
-        return LIST_TOO_SHORT;
-    }
-    if out.len() < 2 {
+    if map.len() < 31 || point.len() < 3 || out.len() < 2 {
         return LIST_TOO_SHORT;
     }
     let p = layout::first_point(point);
@@ -122,13 +96,7 @@ pub fn trace(
 ) -> u32
     ensures { written result out.new ≡ Calls.bsp_order_trace file.now map.now list.now root segment.now out.old }
 {
-    if map.len() < 31 {
-        return LIST_TOO_SHORT;
-    }
-    if segment.len() < 6 {
-        return LIST_TOO_SHORT;
-    }
-    if out.len() < 17 {
+    if map.len() < 31 || segment.len() < 6 || out.len() < 17 {
         return LIST_TOO_SHORT;
     }
     let a = layout::first_point(segment);

@@ -10,6 +10,7 @@ use words::LIST_TOO_SHORT;
 
 // The refusal's number, 0 where the file loads; the section's number in the directory, 15 for the header; the record; the byte.
 // 22: a list of fewer than 4 words.
+#[tactic(auto, using(crate::proofs::Placing::too_short))]
 pub fn place(file: &[u8], out: &mut [u64]) -> u32
     ensures { written result out.new ≡ Calls.bsp_load_place file.now out.old }
 {

@@ -2,10 +2,11 @@
 use Prim.Native.Nat.{ℕ, ◌/◌, ◌%◌, ◌<◌, ◌≤◌}
 use native.Mathlib.Omega.{arith}
 use native.Mathlib.Nat.{div-add-mod'}
-use mathlib.Core.Bool.{Bool, false, cond}
+use mathlib.Core.Bool.{Bool, true, false, cond}
 use mathlib.Core.List.{List}
-use mathlib.Core.Path.{◌≡◌, sym, ◌∙◌, ap}
+use mathlib.Core.Path.{◌≡◌, refl, sym, ◌∙◌, ap}
 use borrow.Author.Tests.{lt-ltb, le-ltb, eq-eqb, ne_eqb}
+use lib.Dec.{ltb}
 use lib.Ieee.{Float}
 use lib.ListN.{length}
 use Rattle.format.specs.Answer.{Answer, then_answer}
@@ -47,22 +48,17 @@ module _ (s map hull : List ℕ) (cs : List Float) (list out : List ℕ) where
       count : length (points_of cs) ≡ length cs / 3
       count = points_count cs (length cs / 3) (omega (arith, div-add-mod' (length cs) 3))
 
-      pub short_map : length map < 31 → left 22 list out ≡ call
-      short_map a = sym (opened ∙ (simp (lt-ltb _ _ a)))
+      all_short : (a b c : Bool) → cond a (left 22 list out) (cond b (left 22 list out) (cond c (left 22 list out) (left 22 list out))) ≡ left 22 list out
+      all_short true b c = refl
+      all_short false true c = refl
+      all_short false false true = refl
+      all_short false false false = refl
 
-      module _ (a : 31 ≤ length map) where
-        pub short_hull : length hull < 9 → left 22 list out ≡ call
-        short_hull b = sym (opened ∙ (simp (le-ltb _ _ a, lt-ltb _ _ b)))
+      pub short_list : length list < length cs / 3 → left 22 list out ≡ call
+      short_list e =
+          let e' : length list < length (points_of cs) = omega (arith, count) in
+          sym (opened ∙ simp (lt-ltb _ _ e') (all_short (ltb (length map) 31) (ltb (length hull) hull_asked) (ltb (length out) 1)))
 
-        module _ (b : 9 ≤ length hull) where
-          pub short_out : length out < 1 → left 22 list out ≡ call
-          short_out d = sym (opened ∙ (simp (le-ltb _ _ a, le-ltb _ _ b, lt-ltb _ _ d)))
-
-          module _ (d : 1 ≤ length out) where
-            pub short_list : length list < length cs / 3 → left 22 list out ≡ call
-            short_list e = let e' : length list < length (points_of cs) = omega (arith, count) in sym (opened ∙ (simp (le-ltb _ _ a, le-ltb _ _ b, le-ltb _ _ d, lt-ltb _ _ e')))
-
-            pub at_hull : length cs / 3 ≤ length list → (x : Answer (List ℕ × ℕ)) → x ≡ asked s map hull cs → listed_in (filled x list) out ≡ call
-            at_hull e x q =
-                let e' : length (points_of cs) ≤ length list = omega (arith, count) in
-                ap (λ (y : Answer (List ℕ × ℕ)). listed_in (filled y list) out) q ∙ sym (opened ∙ (simp (le-ltb _ _ a, le-ltb _ _ b, le-ltb _ _ d, le-ltb _ _ e')))
+      pub opened_at : length cs / 3 ≤ length list
+          → enough 31 map list out (enough hull_asked hull list out (enough 0 cs list out (enough 1 out list out (listed_in (filled (asked s map hull cs) list) out)))) ≡ call
+      opened_at e = let e' : length (points_of cs) ≤ length list = omega (arith, count) in sym (opened ∙ simp (le-ltb _ _ e', le-ltb (length cs) 0 (omega arith)))

@@ -1,4 +1,5 @@
 // The hall's own body sizes and hulls with them, as words in lists that a caller lends.
+// A call's lists stand one by one, as in `ffi`: the interface for C has no records.
 #![tactic(auto)]
 
 ghost use Rattle.std.specs.Prelude.{◌≡◌};
@@ -34,13 +35,7 @@ pub fn hull_sized(
 ) -> u32
     ensures { written result hull.new ≡ Calls.bsp_hull_sized file.now map.now sizes.now model index hull.old }
 {
-    if map.len() < 31 {
-        return LIST_TOO_SHORT;
-    }
-    if sizes.len() < layout::SIZES_WORDS {
-        return LIST_TOO_SHORT;
-    }
-    if hull.len() < HULL_WORDS {
+    if map.len() < 31 || sizes.len() < layout::SIZES_WORDS || hull.len() < HULL_WORDS {
         return LIST_TOO_SHORT;
     }
     let own = layout::sizes_in(sizes);

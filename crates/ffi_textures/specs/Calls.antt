@@ -1,8 +1,8 @@
 -- What the calls about textures say, and what they leave in the lent lists.
-use Rattle.std.specs.Prelude.{ℕ, List, [], ◌∷◌}
+use Rattle.std.specs.Prelude.{Option, Some, None, ℕ, List, [], ◌∷◌}
 use Rattle.format.specs.Answer.{mapped}
 use Rattle.format.specs.Listed.{into}
-use Rattle.words.specs.Words.{Written, Left, given, at_least, enough, listed_in, map_length, map_of, number_words, flag_word}
+use Rattle.words.specs.Words.{Written, Left, given, at_least, enough, listed_in, map_length, map_of, number_words}
 use Rattle.texture_list.specs.Texture.{texture_of}
 use Rattle.textures.specs.Access.{frame_texture, static_texture}
 use Rattle.texture_list.specs.declared.answer.BspTexture.{BspTexture}
@@ -17,12 +17,13 @@ bsp_texture_frame s map number group place out =
 unfoldable pub bsp_texture_static : List ℕ → List ℕ → ℕ → List ℕ → Written
 bsp_texture_static s map number out = at_least map_length map out (at_least 1 out out (given (mapped number_words (static_texture s (map_of map) number)) out))
 
--- present or not, the name's 16 bytes in two words, width, height
+-- 1, the name's 16 bytes in two words, width, height; five zeros where there is no texture
 abbrev pub texture_length : ℕ
 texture_length = 5
 
-abbrev pub texture_words : BspTexture → List ℕ
-texture_words x = flag_word x.present ∷ x.name_start ∷ x.name_end ∷ x.width ∷ x.height ∷ []
+abbrev pub texture_words : Option BspTexture → List ℕ
+texture_words None = 0 ∷ 0 ∷ 0 ∷ 0 ∷ 0 ∷ []
+texture_words (Some x) = 1 ∷ x.name_start ∷ x.name_end ∷ x.width ∷ x.height ∷ []
 
 -- a texture by its number in the file
 unfoldable pub bsp_texture : List ℕ → List ℕ → ℕ → List ℕ → Written

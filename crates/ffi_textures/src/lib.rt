@@ -1,4 +1,5 @@
 // The textures of a map by their new numbers and by their numbers in the file, as words in a list that a caller lends.
+// A call's lists stand one by one, as in `ffi`: the interface for C has no records.
 #![tactic(auto)]
 
 ghost use Rattle.std.specs.Prelude.{◌≡◌};
@@ -8,14 +9,17 @@ ghost use Rattle.ffi_textures.specs.Calls as Calls;
 use texture_list::answer::BspTexture;
 use texture_numbers::texture_numbers;
 use textures::access::{frame_texture, static_texture};
-use words::{LIST_TOO_SHORT, flag_word, give, give_number, map_of};
+use words::{LIST_TOO_SHORT, give_number, give_words, map_of};
 
-// The words of a texture: whether it is there, its name, its width and height.
-fn texture_words(texture: BspTexture) -> [u64; 5]
+// The words of a texture: whether it is there, its name, its width and height; zeros where it is not.
+fn texture_words(texture: Option<BspTexture>) -> [u64; 5]
     ensures { result ≡ Calls.texture_words texture }
 {
+    let Some(texture) = texture else {
+        return [0; 5];
+    };
     [
-        flag_word(texture.present),
+        1,
         texture.name_start,
         texture.name_end,
         texture.width as u64,
@@ -25,57 +29,49 @@ fn texture_words(texture: BspTexture) -> [u64; 5]
 
 // The file's number of the frame at a place of a group, 0 the primary one and 1 the alternate one, of the texture of a new number. 22: a map
 // of fewer than 31 words or no word for the answer.
+#[tactic(auto, using(words::proofs::Giving::told_given), unfolding(crate::specs::Calls::bsp_texture_frame))]
 pub fn frame(file: &[u8], map: &[u32], number: u64, group: u32, place: u64, out: &mut [u64]) -> u32
     ensures { written result out.new ≡ Calls.bsp_texture_frame file.now map.now number group place out.old }
 {
-    if map.len() < 31 {
-        return LIST_TOO_SHORT;
-    }
-    if out.len() < 1 {
+    if map.len() < 31 || out.is_empty() {
         return LIST_TOO_SHORT;
     }
     give_number(frame_texture(file, map_of(map), number, group, place), out)
 }
 
 // The file's number of the static texture of a new number. 22: a map of fewer than 31 words or no word for the answer.
-// In the shape of `numbers`: were the call that each hands on a closure, it would need clauses of its own for these few lines.
+// In the shape of `numbers` and `frame`: a function that takes what each asks as a closure would need clauses of its own, and they have two lines.
+#[tactic(auto, using(words::proofs::Giving::told_given), unfolding(crate::specs::Calls::bsp_texture_static))]
 pub fn static_number(file: &[u8], map: &[u32], number: u64, out: &mut [u64]) -> u32
     ensures { written result out.new ≡ Calls.bsp_texture_static file.now map.now number out.old }
 {
-    if map.len() < 31 {
-        return LIST_TOO_SHORT;
-    }
-    if out.len() < 1 {
+    if map.len() < 31 || out.is_empty() {
         return LIST_TOO_SHORT;
     }
     give_number(static_texture(file, map_of(map), number), out)
 }
 
 // The texture of a number in the file: 5 words. 22: a map of fewer than 31 words or a list of fewer than 5.
+#[tactic(auto, using(words::proofs::Giving::told_given), unfolding(crate::specs::Calls::bsp_texture))]
 pub fn texture(file: &[u8], map: &[u32], index: u64, out: &mut [u64]) -> u32
     ensures { written result out.new ≡ Calls.bsp_texture file.now map.now index out.old }
 {
-    if map.len() < 31 {
+    if map.len() < 31 || out.len() < 5 {
         return LIST_TOO_SHORT;
     }
-    if out.len() < 5 {
-        return LIST_TOO_SHORT;
-    }
-    match texture_list::section::texture(file, map_of(map), index) {
-        Ok(texture) => give(&texture_words(texture), out),
-        Err(refusal) => refusal.number(),
-    }
+    give_words(
+        texture_list::section::texture(file, map_of(map), index).map(texture_words),
+        out,
+    )
 }
 
 // The new numbers of all textures, by their numbers in the file, at the front of `list`, and their count. 22: a map of fewer than 31 words or
 // no word for the count; 22 again, last of all: a list of too few entries.
+#[tactic(auto, using(words::proofs::Giving::told_given), unfolding(crate::specs::Calls::bsp_texture_numbers))]
 pub fn numbers(file: &[u8], map: &[u32], list: &mut [u32], out: &mut [u64]) -> u32
     ensures { left result list.new out.new ≡ Calls.bsp_texture_numbers file.now map.now list.old out.old }
 {
-    if map.len() < 31 {
-        return LIST_TOO_SHORT;
-    }
-    if out.len() < 1 {
+    if map.len() < 31 || out.is_empty() {
         return LIST_TOO_SHORT;
     }
     give_number(texture_numbers(file, map_of(map), list), out)

@@ -1,4 +1,5 @@
 // Traces, as words in a list that a caller lends.
+// A call's lists stand one by one, as in `ffi`: the interface for C has no records.
 #![tactic(auto)]
 
 ghost use Rattle.std.specs.Prelude.{◌≡◌, ◌≤◌, length};
@@ -17,7 +18,8 @@ use hull::collision::BspCollisionHull;
 use hull::tracing::{Went, plane_met, trace_way};
 use math::Vector3;
 use nodes::table::{Tables, tables_of};
-use words::{LIST_TOO_SHORT, flag_word, float_word, give};
+use walk_words::parts_words;
+use words::{float_word, give};
 
 // The words of the end of a trace that is handed on by numbers: its plane is read by its number.
 fn met_words(file: &[u8], t: Tables, part: Went) -> [u64; 7]
@@ -33,28 +35,15 @@ fn met_words(file: &[u8], t: Tables, part: Went) -> [u64; 7]
 fn went_words(file: &[u8], t: Tables, from: Vector3, part: Went) -> [u64; 17]
     ensures { result ≡ Layout.trace_words (Traces.went_trace file.now t (Traces.at_start from) part, part.visits) }
 {
-    let contents = part.contents;
-    let to = part.end;
-    let k = met_words(file, t, part);
-    [
+    parts_words(
         part.visits,
-        contents.code() as u64,
-        flag_word(part.start_solid),
-        float_word(from.x),
-        float_word(from.y),
-        float_word(from.z),
-        float_word(0.0),
-        float_word(to.x),
-        float_word(to.y),
-        float_word(to.z),
-        k[0],
-        k[1],
-        k[2],
-        k[3],
-        k[4],
-        k[5],
-        k[6],
-    ]
+        part.contents,
+        part.start_solid,
+        from,
+        0.0,
+        part.end,
+        met_words(file, t, part),
+    )
 }
 
 // As `hull::tracing::trace`, here step by step, so that the trace's record is not made.
@@ -83,27 +72,12 @@ fn give_trace(
 pub fn trace(file: &[u8], map: &[u32], hull: &[u64], segment: &[f32], out: &mut [u64]) -> u32
     ensures { written result out.new ≡ Calls.bsp_trace file.now map.now hull.now segment.now out.old }
 {
-    if map.len() < 31 {
-        return LIST_TOO_SHORT;
-    }
-    if hull.len() < layout::HULL_ASKED {
-        return LIST_TOO_SHORT;
-    }
-    if segment.len() < 6 {
-        return LIST_TOO_SHORT;
-    }
-    if out.len() < 17 {
-        return LIST_TOO_SHORT;
-    }
-    match layout::walked_hull(hull) {
+    match layout::asked(map, hull, segment, 6, out, 17) {
         Err(e) => e.number(),
-        Ok(h) => give_trace(
-            file,
-            layout::walked_map(map),
-            h,
-            layout::first_point(segment),
-            layout::second_point(segment),
-            out,
-        ),
+        Ok((m, h)) => {
+            let start = layout::first_point(segment);
+            let end = layout::second_point(segment);
+            give_trace(file, m, h, start, end, out)
+        }
     }
 }

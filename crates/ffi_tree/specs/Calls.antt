@@ -1,15 +1,10 @@
 -- What the tree check says, and what it leaves in the marks and in the lent list.
-use Rattle.std.specs.Prelude.{ℕ, cond, List, Option, Some, None, eqb}
+use Rattle.std.specs.Prelude.{ℕ, List, Option, Some, None}
 use Rattle.format.specs.Answer.{mapped}
 use Rattle.words.specs.Words.{given, Left, left, enough, beside, number_words, map_length, map_of}
 use Rattle.walk.specs.TreeCheck.{Checked, tree_check}
-use Rattle.nodes.specs.Tables.{nodes_of}
+use Rattle.nodes.specs.Tables.{nodes_of, table_numbered}
 use Rattle.nodes.specs.declared.table.HullTable.{HullTable}
-use Rattle.nodes.specs.declared.table.HullTable.TheVariants.{Render, Clip, Box}
-
--- the node table of a number: 0 render nodes, 1 clip nodes, 2 a box
-unfoldable pub table_numbered : ℕ → Option HullTable
-table_numbered n = cond (eqb n 0) (Some Render) (cond (eqb n 1) (Some Clip) (cond (eqb n 2) (Some Box) None))
 
 -- the marks as the check leaves them, and the height in `out`
 abbrev pub checked_in : Checked → List ℕ → Left

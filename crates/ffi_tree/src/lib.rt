@@ -1,4 +1,5 @@
 // The tree check, as words in lists that a caller lends.
+// A call's lists stand one by one, as in `ffi`: the interface for C has no records.
 #![tactic(auto)]
 
 ghost use Rattle.std.specs.Prelude.{◌≡◌};
@@ -8,21 +9,9 @@ ghost use Rattle.ffi_tree.specs.Calls as Calls;
 use nodes::table::HullTable;
 use words::{LIST_TOO_SHORT, NO_SUCH_RECORD, give_number, map_of};
 
-// The node table of a number.
-#[tactic(auto, unfolding(crate::specs::Calls::table_numbered))]
-fn table_numbered(n: u32) -> Option<HullTable>
-    ensures { result ≡ Calls.table_numbered n }
-{
-    match n {
-        0 => Some(HullTable::Render),
-        1 => Some(HullTable::Clip),
-        2 => Some(HullTable::Box),
-        _ => None,
-    }
-}
-
 // The tree check from a root of a node table: the tree's height. 22: a map of fewer than 31 words or no word for the height; 20: a table
 // above 2.
+#[tactic(auto, unfolding(crate::specs::Calls::bsp_tree_check), using(words::proofs::Giving::told_given))]
 pub fn tree_check(
     file: &[u8],
     map: &[u32],
@@ -33,13 +22,10 @@ pub fn tree_check(
 ) -> u32
     ensures { left result marks.new out.new ≡ Calls.bsp_tree_check file.now map.now table root marks.old out.old }
 {
-    if map.len() < 31 {
+    if map.len() < 31 || out.is_empty() {
         return LIST_TOO_SHORT;
     }
-    if out.len() < 1 {
-        return LIST_TOO_SHORT;
-    }
-    match table_numbered(table) {
+    match HullTable::numbered(u64::from(table)) {
         None => NO_SUCH_RECORD,
         Some(t) => give_number(
             tree::tree_check(file, map_of(map), t, root as usize, marks),

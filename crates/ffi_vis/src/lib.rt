@@ -1,4 +1,5 @@
 // The leaves that can be seen from a leaf, as words in lists that a caller lends.
+// A call's lists stand one by one, as in `ffi`: the interface for C has no records.
 #![tactic(auto)]
 
 ghost use Rattle.std.specs.Prelude.{◌≡◌};

@@ -1,2 +1,2 @@
--- What the proofs of `ffi_walks` share.
-mod Found
+-- What is said at once is what is asked.
+pub mod Found

@@ -1,11 +1,19 @@
 -- For the contracts of functions that no other crate can name; a reader of the calls may leave this file out.
--- What the lookup of a leaf asks.
-use Rattle.std.specs.Prelude.{ℕ, List, Float}
+-- What the lookup of a leaf asks, and what is said of it at once.
+use Rattle.std.specs.Prelude.{ℕ, cond, List, length, Option, None}
 use Rattle.format.specs.Answer.{Answer}
-use Rattle.words.specs.Words.{map_of}
+use Rattle.format.specs.declared.section.BspData.{BspData}
+use Rattle.math.specs.declared.vector.Vector3.{Vector3}
 use Rattle.walk.specs.Walk.{with_visits, point_walk}
+use Rattle.nodes.specs.Fast.{tables_of}
 use Rattle.nodes.specs.Tables.{leaf_table}
-use Rattle.ffi_hull.specs.Layout.{point_at}
+use Rattle.nodes.specs.Walks.{are_whole}
+use Rattle.nodes.specs.declared.table.HullTable.TheVariants.{Render}
+use Rattle.ffi_walks.specs.Quick.{answered}
 
-abbrev pub leaf_asked : List ℕ → List ℕ → ℕ → List Float → Answer (ℕ × ℕ)
-leaf_asked s map root point = with_visits (point_walk (leaf_table s (map_of map)) root (point_at point 0))
+abbrev pub leaf_asked : List ℕ → BspData → ℕ → Vector3 → Answer (ℕ × ℕ)
+leaf_asked s m root p = with_visits (point_walk (leaf_table s m) root p)
+
+-- where the file has all render nodes and planes and the walk is answered; else nothing
+unfoldable pub leaf_at_once : List ℕ → BspData → ℕ → Vector3 → Option (ℕ × ℕ)
+leaf_at_once s m root p = cond (are_whole (tables_of m Render p p) (length s)) (answered (λ a. a) (leaf_asked s m root p)) None

@@ -4,7 +4,7 @@ use Rattle.std.specs.Prelude.{ℕ, ◌+◌, ◌*◌, ◌<◌, ◌≤◌, ◌≡�
 use Rattle.std.specs.Result.{IsErrAnd}
 use Rattle.std.proofs.Common.{ap, ◌∙◌, arith}
 use Rattle.std.proofs.lemmas.List.{get_or-take, get_or-drop}
-use Rattle.std.proofs.lemmas.Result.{err_from_is_err_and}
+use Rattle.format.proofs.Answers.{handed_on}
 use Rattle.format.specs.Step.{ok}
 use Rattle.format.specs.Field.{field}
 use Rattle.format.specs.Answers.{step_of}
@@ -38,7 +38,7 @@ module _ (s : List ℕ) (at : ℕ) (b : List ℕ) (v : ℕ) where
 -- the bytes end, and that is what is handed on
 pub no_field : {A : Type 0} (k : ℕ) (s : List ℕ) (at : ℕ) (v : A) (e : Refusal) (q : Result (A × ℕ) Refusal)
     → (e ≡ EndOfFile) × (length s < at + k) → IsErrAnd q (λ d. d ≡ e) → step_of q ≡ field k s at v
-no_field k s at v e q (i, short) h = let (d, t, u) = err_from_is_err_and q h in rw (t, u, i) (ends k s at v short)
+no_field k s at v e q (i, short) h = rw (handed_on h, i) (ends k s at v short)
 
 -- the bytes are there, and what they stand for is the value
 pub a_field : {A : Type 0} (k : ℕ) (s : List ℕ) (at : ℕ) (v w : A) → at + k ≤ length s → v ≡ w → ok v (at + k) ≡ field k s at w

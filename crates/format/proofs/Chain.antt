@@ -11,7 +11,7 @@ use mir.Val.{SFits, to_z, of_z}
 use mir.Facts.{to_z-of_z}
 use Rattle.std.specs.Prelude.{ℕ, Option, Result}
 use Rattle.std.specs.Result.{IsErrAnd}
-use Rattle.std.proofs.lemmas.Result.{err_from_is_err_and}
+use Rattle.format.proofs.Answers.{handed_on}
 use Rattle.format.specs.Step.{Step, ok, refused, and_then}
 use Rattle.format.specs.Answers.{step_of}
 use Rattle.format.specs.Refusal.{number_of}
@@ -31,7 +31,7 @@ module _ {A B : Type 0} (k : A → ℕ → Step B) (x : Step A) where
   step_ok v p y e q = rw (sym e) q
 
   pub step_no : (e : Refusal) (q : Result (B × ℕ) Refusal) → refused (number_of e) ≡ x → IsErrAnd q (λ d. d ≡ e) → step_of q ≡ and_then x k
-  step_no e q i h = let (d, t, s) = err_from_is_err_and q h in rw (t, s, sym i)
+  step_no e q i h = rw (handed_on h, sym i)
 
 -- the same value at the same position
 pub lands : {A : Type 0} (v w : A) (p q : ℕ) → v ≡ w → p ≡ q → ok v p ≡ ok w q

@@ -1,10 +1,30 @@
 -- The fifteen sections: the sizes of their records, their limits, how many records they have, and where a record lies.
-use Rattle.std.specs.Prelude.{ℕ, ◌+◌, ◌*◌, ◌/◌, Bool, true, cond, leb}
+use Rattle.std.specs.Prelude.{Option, Some, None, ℕ, ◌+◌, ◌*◌, ◌/◌, Bool, true, cond, leb, eqb}
 use Rattle.format.specs.Answer.{Answer, answer, refused}
 use Rattle.format.specs.declared.section.BspFileSection.{BspFileSection}
 use Rattle.format.specs.declared.section.BspData.{BspData}
 use Rattle.format.specs.declared.section.BspFileSectionId.{BspFileSectionId}
 use Rattle.format.specs.declared.section.BspFileSectionId.TheVariants.{Entities, Planes, Textures, Vertices, Visibility, RenderNodes, TextureInfo, Faces, Lightmaps, CollisionNodes, Leaves, FaceList, Edges, EdgeList, Models}
+
+-- the section of a number, in the order of the file's header
+unfoldable pub section_numbered : ℕ → Option BspFileSectionId
+section_numbered n =
+    cond (eqb n 0) (Some Entities)
+    (cond (eqb n 1) (Some Planes)
+    (cond (eqb n 2) (Some Textures)
+    (cond (eqb n 3) (Some Vertices)
+    (cond (eqb n 4) (Some Visibility)
+    (cond (eqb n 5) (Some RenderNodes)
+    (cond (eqb n 6) (Some TextureInfo)
+    (cond (eqb n 7) (Some Faces)
+    (cond (eqb n 8) (Some Lightmaps)
+    (cond (eqb n 9) (Some CollisionNodes)
+    (cond (eqb n 10) (Some Leaves)
+    (cond (eqb n 11) (Some FaceList)
+    (cond (eqb n 12) (Some Edges)
+    (cond (eqb n 13) (Some EdgeList)
+    (cond (eqb n 14) (Some Models)
+    None))))))))))))))
 
 -- the size on disk of one element of a section
 abbrev pub element_size : BspFileSectionId → ℕ
@@ -64,6 +84,28 @@ section_of Models m = m.models
 -- a section that names nothing
 abbrev pub no_section : BspFileSection
 no_section = record { offset = 0; size = 0 }
+
+-- the map record of such sections
+abbrev pub no_map : BspData
+no_map =
+    record {
+      entities = no_section;
+      planes = no_section;
+      textures = no_section;
+      vertices = no_section;
+      visibility = no_section;
+      render_nodes = no_section;
+      texinfo = no_section;
+      faces = no_section;
+      lightmaps = no_section;
+      collision_nodes = no_section;
+      leaves = no_section;
+      facelist = no_section;
+      edges = no_section;
+      edgelist = no_section;
+      models = no_section;
+      texture_count = 0;
+    }
 
 -- how many whole records a section has
 unfoldable pub record_count : BspFileSectionId → BspFileSection → ℕ

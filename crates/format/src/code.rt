@@ -5,7 +5,7 @@ ghost use Rattle.format.specs.Code as Code;
 
 use crate::contents::BspLeafContents;
 
-// The contents of a code: 1 to 6 and 9 to 14.
+// The contents of a code: 1 to 6 and 9 to 14. (No `TryFrom`: a clip node, a leaf and a row have the code in three forms, and each call says which.)
 #[tactic(auto, unfolding(crate::specs::Code::contents_of))]
 pub fn contents_of(code: u32) -> Option<BspLeafContents>
     ensures { result ≡ Code.contents_of code }

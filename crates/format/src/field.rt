@@ -27,7 +27,10 @@ fn bytes_at<const N: usize>(s: &[u8], at: usize) -> Answer<[u8; N]>
     }
 }
 
-// A reader for each width: one for all would need a trait of its own for `from_le_bytes`, and be no plainer than the three.
+// A reader for each width: one for all would need a trait of its own for `from_le_bytes`, and be no plainer than the three. The signed ones, the
+// float's and `read_edge_index` of `records` go over these: what a word becomes is all that is in them, and a reader of a reader and a
+// function would say it in as many lines.
+#[tactic(auto, using(crate::proofs::Bytes::one, crate::proofs::Bytes::no_field, crate::proofs::Bytes::a_field), unfolding(crate::specs::Field::u8_at))]
 pub fn read_u8(s: &[u8], at: usize) -> Read<u8>
     ensures { step_of result ≡ u8_at s.now at }
 {
@@ -35,6 +38,7 @@ pub fn read_u8(s: &[u8], at: usize) -> Read<u8>
     Ok((u8::from_le_bytes(bytes), at + 1))
 }
 
+#[tactic(auto, using(crate::proofs::Bytes::two, crate::proofs::Bytes::no_field, crate::proofs::Bytes::a_field), unfolding(crate::specs::Field::u16_at))]
 pub fn read_u16(s: &[u8], at: usize) -> Read<u16>
     ensures { step_of result ≡ u16_at s.now at }
 {
@@ -42,6 +46,7 @@ pub fn read_u16(s: &[u8], at: usize) -> Read<u16>
     Ok((u16::from_le_bytes(bytes), at + 2))
 }
 
+#[tactic(auto, using(crate::proofs::Bytes::four, crate::proofs::Bytes::no_field, crate::proofs::Bytes::a_field), unfolding(crate::specs::Field::u32_at))]
 pub fn read_u32(s: &[u8], at: usize) -> Read<u32>
     ensures { step_of result ≡ u32_at s.now at }
 {

@@ -6,7 +6,7 @@ ghost use Rattle.format.specs.Section as Sec;
 use crate::refusal::{Answer, Refusal};
 
 // Where a section lies in the file, in bytes.
-#[derive(Clone, Copy)]
+#[derive(Clone, Copy, Default)]
 pub struct BspFileSection {
     pub offset: u32,
     pub size: u32,
@@ -54,6 +54,32 @@ pub struct BspData {
 }
 
 impl BspFileSectionId {
+    // The section of a number, in the order of the file's header. (No `TryFrom`: that would name an error, and its two callers have none in
+    // common: one refuses the number, the other takes `Models`.)
+    #[tactic(auto, unfolding(crate::specs::Section::section_numbered))]
+    pub fn numbered(n: u32) -> Option<BspFileSectionId>
+        ensures { result ≡ Sec.section_numbered n }
+    {
+        match n {
+            0 => Some(BspFileSectionId::Entities),
+            1 => Some(BspFileSectionId::Planes),
+            2 => Some(BspFileSectionId::Textures),
+            3 => Some(BspFileSectionId::Vertices),
+            4 => Some(BspFileSectionId::Visibility),
+            5 => Some(BspFileSectionId::RenderNodes),
+            6 => Some(BspFileSectionId::TextureInfo),
+            7 => Some(BspFileSectionId::Faces),
+            8 => Some(BspFileSectionId::Lightmaps),
+            9 => Some(BspFileSectionId::CollisionNodes),
+            10 => Some(BspFileSectionId::Leaves),
+            11 => Some(BspFileSectionId::FaceList),
+            12 => Some(BspFileSectionId::Edges),
+            13 => Some(BspFileSectionId::EdgeList),
+            14 => Some(BspFileSectionId::Models),
+            _ => None,
+        }
+    }
+
     // The size on disk of one element of a section.
     pub fn element_size(self) -> u32
         ensures { result ≡ Sec.element_size self }
@@ -127,6 +153,34 @@ impl BspFileSection {
             }
         }
         Err(Refusal::Unreadable)
+    }
+}
+
+// The map record of a file without sections and textures, to take the other fields from: `..BspData::default()`. By hand: what a derived one
+// promises is that each field is its type's default, sixteen promises that each caller would put together; this is one equation.
+impl Default for BspData {
+    ghost is_default = { λ m. m ≡ Sec.no_map };
+
+    fn default() -> BspData {
+        let none = BspFileSection::default();
+        BspData {
+            entities: none,
+            planes: none,
+            textures: none,
+            vertices: none,
+            visibility: none,
+            render_nodes: none,
+            texinfo: none,
+            faces: none,
+            lightmaps: none,
+            collision_nodes: none,
+            leaves: none,
+            facelist: none,
+            edges: none,
+            edgelist: none,
+            models: none,
+            texture_count: 0,
+        }
     }
 }
 

@@ -22,8 +22,12 @@ use Rattle.walk.specs.Walk.{Outcome, done, refused, held}
 use Rattle.walk.specs.Private.{after}
 use Rattle.walk.specs.Tracing.{joined, with_far, stops, near_of, far_of, after_near, with_near, recursive_trace}
 use Rattle.walk.proofs.Steps.{after_done, after_refused}
-use Rattle.hull.specs.Traces.{Met, met_node, met_end, met_child, within_leaf, out_of_leaf, ended_as, stops_at, joined_with, join_far, crossed_at}
-use Rattle.hull.proofs.Descents.{on_met, onto_met, at_ends}
+use Rattle.hull.specs.Traces.{Met, met_child, within_leaf, out_of_leaf, stops_at, joined_with, join_far, crossed_at}
+use Rattle.hull.proofs.Descents.{on_met, onto_met, says_met, met_says}
+
+-- visits that are answered are below 2^64
+pub visits_small : (n : ℕ) (o : Outcome TraceT) (y : TraceT) (v : ℕ) → after n o ≡ answer (y, v) → v < 2 ^ 64
+visits_small n o y v e = let d = after_done n o y v e in omega (arith, d.2)
 
 -- the far part joined on, with the visits of both
 module _ (near : TraceT) (n v : ℕ) (ns : List ℕ) (is-v : held (n + length ns) ≡ v) where
@@ -53,7 +57,7 @@ module _ {E : Type 0} (T : Table E BspLeafContents) (nd : Node E) (s e : Vector3
   abbrev pub far_part : Outcome TraceT
   far_part = far_of T go nd h s e x
 
-  -- ---- the two parts, each at a node or at an end
+  -- ---- the two parts, each by the child that is met
 
   module _ (mid : Vector3) (is-mid : mid ≡ x.point) (v : ℕ) (small : v < 2 ^ 64) (fr : Bool) where
     abbrev child : Met
@@ -66,11 +70,8 @@ module _ {E : Type 0} (T : Table E BspLeafContents) (nd : Node E) (s e : Vector3
           ∙ ap (on_met (λ i. go i s x.point) (λ c. out_of_leaf s x.point x.ratio turned c)) (sym (ap (λ (z : HyperplaneSide). met_child T (child_on nd z)) is_side) ∙ q)
           ∙ sym (ap (λ (z : Vector3). on_met (λ i. go i s z) (λ c. out_of_leaf s z x.ratio turned c) d) is-mid)
 
-      pub near_node : (i : ℕ) → child ≡ met_node i → (r : Answer (TraceT × ℕ)) → r ≡ after v (recursive_trace T k i s mid) → r ≡ after v near_part
-      near_node i q r is-r = is-r ∙ sym (ap (after v) (near_met (met_node i) q))
-
-      pub near_end : (y : Answer BspLeafContents) → child ≡ met_end y → (r : Answer (TraceT × ℕ)) → r ≡ ended_as (out_of_leaf s mid x.ratio turned) v y → r ≡ after v near_part
-      near_end y q r is-r = is-r ∙ at_ends (λ i. go i s mid) (out_of_leaf s mid x.ratio turned) v (omega arith) y ∙ sym (ap (after v) (near_met (met_end y) q))
+      pub near_on : (d : Met) → child ≡ d → (r : Answer (TraceT × ℕ)) → r ≡ says_met (λ i. go i s mid) (out_of_leaf s mid x.ratio turned) v d → r ≡ after v near_part
+      near_on d q r is-r = is-r ∙ met_says (λ i. go i s mid) (out_of_leaf s mid x.ratio turned) v (omega arith) d ∙ sym (ap (after v) (near_met d q))
 
     module _ (is_side : Pl.side_if fr ≡ Pl.point_side h e) where
       far_met : (d : Met) → child ≡ d → far_part ≡ on_met (λ i. go i mid e) (λ c. within_leaf mid x.ratio e c) d
@@ -79,11 +80,8 @@ module _ {E : Type 0} (T : Table E BspLeafContents) (nd : Node E) (s e : Vector3
           ∙ ap (on_met (λ i. go i x.point e) (λ c. within_leaf x.point x.ratio e c)) (sym (ap (λ (z : HyperplaneSide). met_child T (child_on nd z)) is_side) ∙ q)
           ∙ sym (ap (λ (z : Vector3). on_met (λ i. go i z e) (λ c. within_leaf z x.ratio e c) d) is-mid)
 
-      pub far_node : (i : ℕ) → child ≡ met_node i → (r : Answer (TraceT × ℕ)) → r ≡ after v (recursive_trace T k i mid e) → r ≡ after v far_part
-      far_node i q r is-r = is-r ∙ sym (ap (after v) (far_met (met_node i) q))
-
-      pub far_end : (y : Answer BspLeafContents) → child ≡ met_end y → (r : Answer (TraceT × ℕ)) → r ≡ ended_as (within_leaf mid x.ratio e) v y → r ≡ after v far_part
-      far_end y q r is-r = is-r ∙ at_ends (λ i. go i mid e) (within_leaf mid x.ratio e) v (omega arith) y ∙ sym (ap (after v) (far_met (met_end y) q))
+      pub far_on : (d : Met) → child ≡ d → (r : Answer (TraceT × ℕ)) → r ≡ says_met (λ i. go i mid e) (within_leaf mid x.ratio e) v d → r ≡ after v far_part
+      far_on d q r is-r = is-r ∙ met_says (λ i. go i mid e) (within_leaf mid x.ratio e) v (omega arith) d ∙ sym (ap (after v) (far_met d q))
 
   -- ---- the whole, taken up again at the crossing, where the node's plane is p
 

@@ -44,10 +44,21 @@ module _ {E W : Type 0} (T : Table E BspLeafContents) (go : ℕ → Outcome W) (
   onto_met (node n) = refl
   onto_met (end e) = at_end (meet T e)
 
--- an end, where v visits are counted already
-pub at_ends : (go : ℕ → Outcome TraceT) (here : BspLeafContents → TraceT) (v : ℕ) → held v ≡ v → (a : Answer BspLeafContents) → ended_as here v a ≡ after v (on_met go here (met_end a))
-at_ends go here v e (answer c) = ap (λ (n : ℕ). answer (here c, n)) {x = v} {y = held (v + 0)} (omega (arith, e))
-at_ends go here v e (Ans.refused n) = refl
+-- what a child that is met says, where v nodes were entered before
+abbrev pub says_met : (ℕ → Outcome TraceT) → (BspLeafContents → TraceT) → ℕ → Met → Answer (TraceT × ℕ)
+says_met go here v (met_node n) = after v (go n)
+says_met go here v (met_contents c) = answer (here c, v)
+says_met go here v (met_refused n) = Ans.refused n
+
+module _ (go : ℕ → Outcome TraceT) (here : BspLeafContents → TraceT) (v : ℕ) where
+  pub met_says : held v ≡ v → (d : Met) → says_met go here v d ≡ after v (on_met go here d)
+  met_says e (met_node n) = refl
+  met_says e (met_contents c) = ap (λ (n : ℕ). answer (here c, n)) {x = v} {y = held (v + 0)} (omega (arith, e))
+  met_says e (met_refused n) = refl
+
+  pub end_says : (a : Answer BspLeafContents) → ended_as here v a ≡ says_met go here v (met_end a)
+  end_says (answer c) = refl
+  end_says (Ans.refused n) = refl
 
 -- ---- the two sides by the distances
 
@@ -162,4 +173,6 @@ module _ {E : Type 0} (T : Table E BspLeafContents) (s e : Vector3) (v k i : ℕ
       to_node n q = whole (met_node n) q
 
       pub to_end : (x : Answer BspLeafContents) → met_child T (child_on nd (Pl.side_if (Ieee.le zero32 a))) ≡ met_end x → ended_as (within_leaf s zero32 e) u x ≡ after v (recursive_trace T k i s e)
-      to_end x q = at_ends (λ n. go n s e) (within_leaf s zero32 e) u (omega (arith, is-u)) x ∙ sym (whole (met_end x) q)
+      to_end x q =
+          end_says (λ n. go n s e) (within_leaf s zero32 e) u x ∙ met_says (λ n. go n s e) (within_leaf s zero32 e) u (omega (arith, is-u)) (met_end x)
+          ∙ sym (whole (met_end x) q)

@@ -21,36 +21,21 @@ use Rattle.math.specs.declared.plane.Hyperplane.{Hyperplane}
 use Rattle.phys.specs.Trace as Tr
 use Rattle.phys.specs.declared.Trace.{Trace as TraceT}
 use Rattle.phys.specs.declared.TraceStart.{TraceStart}
-use Rattle.walk.specs.Table.{Node, Table}
+use Rattle.walk.specs.Table.{Node, Table, child_on}
 use Rattle.walk.specs.Walk.{Outcome}
 use Rattle.walk.specs.Private.{after}
 use Rattle.walk.specs.Tracing.{recursive_trace}
-use Rattle.walk.proofs.Steps.{after_done}
 use Rattle.nodes.specs.declared.table.Tables.{Tables}
 use Rattle.nodes.specs.Tables.{End}
 use Rattle.nodes.specs.Fast as Fast
 use Rattle.nodes.specs.Fast.{node_of, plane_in}
 use Rattle.nodes.specs.declared.read.Words.{Words as WordsT}
-use Rattle.hull.proofs.Crossings.{near_part, far_part, near_declined, near_stops, both}
-use Rattle.hull.specs.Traces.{at_start, out_of_leaf, left_by, plane_met, went_trace, way_answer, ends_with, carried_to, counted_as, join_parts, stops_at, joined_with, join_far, crossed_at}
+use Rattle.hull.proofs.Descents.{says_met, end_says}
+use Rattle.hull.proofs.Crossings.{visits_small, near_part, far_part, near_on, far_on, near_declined, near_stops, both}
+use Rattle.hull.specs.Traces.{Met, met_contents, met_end, met_child, at_start, within_leaf, out_of_leaf, ended_as, left_by, plane_met, went_trace, way_answer, ends_with, carried_to, counted_as, join_parts, stops_at, joined_with, join_far, crossed_at, resumed}
 use Rattle.hull.specs.declared.tracing.Went.{Went}
-
--- visits that are answered are below 2^64
-pub visits_small : (n : ℕ) (o : Outcome TraceT) (y : TraceT) (v : ℕ) → after n o ≡ answer (y, v) → v < 2 ^ 64
-visits_small n o y v e = let d = after_done n o y v e in omega (arith, d.2)
-
--- out of a leaf through a plane, and all in one leaf
-module _ (f : List ℕ) (t : Tables) (s e : Vector3) (k : Float) (c : BspLeafContents) (v : ℕ) where
-  pub left_is : (i : ℕ) (front : Bool) (h : Hyperplane) → plane_in f t i ≡ answer h → Pl.side_if front ≡ Pl.point_side h s
-      → way_answer f t (at_start s) (Ok (left_by e k i front c v)) ≡ answer (out_of_leaf s e k (Pl.facing (Pl.point_side h s) h) c, v)
-  left_is i front h p q = rw (p, q)
-
--- what is said of two points is said of the same points
-pub moved : (f : List ℕ) (t : Tables) (k i v : ℕ) (r : Result Went Refusal) {s s' e e' : Vector3} → s ≡ s' → e ≡ e'
-    → way_answer f t (at_start s) r ≡ after v (recursive_trace (Fast.table f t) k i s e) → way_answer f t (at_start s') r ≡ after v (recursive_trace (Fast.table f t) k i s' e')
-moved f t k i v r {s} {s'} {e} {e'} p q h =
-    sym (ap (λ (x : Vector3). way_answer f t (at_start x) r) p) ∙ h
-    ∙ ap (λ (x : Vector3). after v (recursive_trace (Fast.table f t) k i x e)) p ∙ ap (λ (x : Vector3). after v (recursive_trace (Fast.table f t) k i s' x)) q
+use Rattle.hull.specs.declared.tracing.Descent.{Descent}
+use Rattle.hull.specs.declared.tracing.Descent.TheVariants as D
 
 by_end : (b : Bool) (e m : Vector3) (k : Float) (h : Hyperplane)
     → cond b (not (Vec.same e m)) true
@@ -95,9 +80,22 @@ module _ (f : List ℕ) (t : Tables) (st : TraceStart) (g : Went) (m : Vector3) 
         ap answer (chosen u (Contents.equal g.contents u.contents) (Contents.equal g.contents Solid && not (Contents.equal u.contents Solid)))
         ∙ sym (ap (joined_with u.visits) (met u))
 
--- ---- a crossing's two parts, each a trace by numbers alone
+-- ---- a crossing that was come to, and its two parts, each a trace by numbers alone
 
-module _ (f : List ℕ) (t : Tables) (w : WordsT) (s e : Vector3) (a b : Float) (k : ℕ) (h : Hyperplane) where
+-- the words w of a node whose plane h the segment from s to e crosses at mid, with the distances a and b of its ends, k calls left below it and n
+-- nodes entered before: what the whole says from there is all
+pub record Here (f : List ℕ) (t : Tables) (w : WordsT) (s e mid : Vector3) (a b : Float) (k n : ℕ) (h : Hyperplane) (all : Answer (TraceT × ℕ)) : Type 0 where
+  pub plane : plane_in f t w.plane ≡ answer h
+  pub point : mid ≡ (Pl.crossing h s e a b (Pl.from_dist a)).point
+  pub says : after n (crossed_at (Fast.table f t) k (node_of t.table w) s e a b (plane_in f t w.plane)) ≡ all
+  pub small : n < 2 ^ 64
+
+pub came : (f : List ℕ) (t : Tables) {w : WordsT} {s e mid : Vector3} {a b : Float} {k n : ℕ} {h : Hyperplane} {all : Answer (TraceT × ℕ)} {r : Result (Descent WordsT) Refusal}
+    → resumed f t s e r ≡ all → r ≡ Ok (D.Crossing w a b k n) → n < 2 ^ 64 → plane_in f t w.plane ≡ answer h → mid ≡ (Pl.crossing h s e a b (Pl.from_dist a)).point
+    → Here f t w s e mid a b k n h all
+came f t {w} {s} {e} says q small plane point = record { plane = plane; point = point; says = sym (ap (resumed f t s e) q) ∙ says; small = small }
+
+module _ {f : List ℕ} {t : Tables} {w : WordsT} {s e mid : Vector3} {a b : Float} {k n : ℕ} {h : Hyperplane} {all : Answer (TraceT × ℕ)} (c : Here f t w s e mid a b k n h all) where
   abbrev table : Table End BspLeafContents
   table = Fast.table f t
 
@@ -110,25 +108,62 @@ module _ (f : List ℕ) (t : Tables) (w : WordsT) (s e : Vector3) (a b : Float) 
   abbrev pub far_in : Outcome TraceT
   far_in = far_part table nd s e a b k h
 
-  module _ (n : ℕ) (all : Answer (TraceT × ℕ)) (says : after n (crossed_at table k nd s e a b (plane_in f t w.plane)) ≡ all) (q : plane_in f t w.plane ≡ answer h) where
-    pub way_declined : (z : ℕ) → Ans.refused z ≡ after n near_in → Ans.refused z ≡ all
-    way_declined z near_is = near_declined table nd s e a b k h n all (plane_in f t w.plane) says q (Ans.refused z) near_is z refl
+  -- the child on a side, and what each part says by its child
+  abbrev pub on_side : Bool → Met
+  on_side front = met_child table (child_on nd (Pl.side_if front))
 
-    module _ (g : Went) (near_is : way_answer f t (at_start s) (Ok g) ≡ after n near_in) where
-      pub way_small : g.visits < 2 ^ 64
-      way_small = visits_small n near_in (went_trace f t (at_start s) g) g.visits (sym near_is)
+  abbrev pub out : BspLeafContents → TraceT
+  out = out_of_leaf s mid (Pl.ratio_of a b) (Pl.facing (Pl.point_side h s) h)
 
-      module _ (mid : Vector3) (is-mid : mid ≡ (Pl.crossing h s e a b (Pl.from_dist a)).point) (st : Bool) (is-st : st ≡ ends_with g mid) where
-        pub way_stops : st ≡ true → way_answer f t (at_start s) (Ok g) ≡ all
-        way_stops z =
-            near_stops table nd s e a b k h n all (plane_in f t w.plane) says q (way_answer f t (at_start s) (Ok g)) near_is (went_trace f t (at_start s) g) g.visits refl mid is-mid st (is-st ∙ ends_stops f t (at_start s) g mid) z
+  abbrev pub near_says : Met → Answer (TraceT × ℕ)
+  near_says = says_met (λ i. recursive_trace table k i s mid) out n
 
-        module _ (z : st ≡ false) where
-          goes_on : (far : Answer (TraceT × ℕ)) → far ≡ after g.visits far_in → (r : Answer (TraceT × ℕ)) → r ≡ join_far (went_trace f t (at_start s) g) far → r ≡ all
-          goes_on = both table nd s e a b k h n all (plane_in f t w.plane) says q (way_answer f t (at_start s) (Ok g)) near_is (went_trace f t (at_start s) g) g.visits refl mid is-mid st (is-st ∙ ends_stops f t (at_start s) g mid) z
+  abbrev pub within : BspLeafContents → TraceT
+  within = within_leaf mid (Pl.ratio_of a b) e
 
-          pub far_declined : (y : ℕ) → Ans.refused y ≡ after g.visits far_in → Ans.refused y ≡ all
-          far_declined y far_is = goes_on (Ans.refused y) far_is (Ans.refused y) refl
+  abbrev pub far_says : ℕ → Met → Answer (TraceT × ℕ)
+  far_says v = says_met (λ i. recursive_trace table k i mid e) within v
 
-          pub way_both : (u : Went) (c : Float) → way_answer f t (Tr.start mid c) (Ok u) ≡ after g.visits far_in → way_answer f t (at_start s) (Ok (join_parts g u)) ≡ all
-          way_both u c far_is = goes_on (way_answer f t (Tr.start mid c) (Ok u)) far_is _ (joins_way f t (at_start s) g mid (sym is-st ∙ z) c u)
+  pub near_ended : (y : Answer BspLeafContents) → ended_as out n y ≡ near_says (met_end y)
+  near_ended = end_says (λ i. recursive_trace table k i s mid) out n
+
+  pub far_ended : (v : ℕ) (y : Answer BspLeafContents) → ended_as within v y ≡ far_says v (met_end y)
+  far_ended = end_says (λ i. recursive_trace table k i mid e) within
+
+  module _ (front : Bool) (side : Pl.side_if front ≡ Pl.point_side h s) where
+    pub near_by : (d : Met) → on_side front ≡ d → (r : Answer (TraceT × ℕ)) → r ≡ near_says d → r ≡ after n near_in
+    near_by = near_on table nd s e a b k h mid c.point n c.small front side
+
+    pub near_refused : (d : Met) → on_side front ≡ d → (z : ℕ) → Ans.refused z ≡ near_says d → Ans.refused z ≡ all
+    near_refused d q z r = near_declined table nd s e a b k h n all (plane_in f t w.plane) c.says c.plane (Ans.refused z) (near_by d q (Ans.refused z) r) z refl
+
+    -- out of a leaf through the plane
+    pub left_is : (x : BspLeafContents) → way_answer f t (at_start s) (Ok (left_by mid (Pl.ratio_of a b) w.plane front x n)) ≡ near_says (met_contents x)
+    left_is x = rw (c.plane, side)
+
+  module _ (g : Went) (near : way_answer f t (at_start s) (Ok g) ≡ after n near_in) where
+    module _ (front : Bool) (side : Pl.side_if front ≡ Pl.point_side h e) where
+      pub far_by : (d : Met) → on_side front ≡ d → (r : Answer (TraceT × ℕ)) → r ≡ far_says g.visits d → r ≡ after g.visits far_in
+      far_by = far_on table nd s e a b k h mid c.point g.visits (visits_small n near_in (went_trace f t (at_start s) g) g.visits (sym near)) front side
+
+    module _ (st : Bool) (is-st : st ≡ ends_with g mid) where
+      pub near_ends : st ≡ true → way_answer f t (at_start s) (Ok g) ≡ all
+      near_ends z =
+          near_stops table nd s e a b k h n all (plane_in f t w.plane) c.says c.plane (way_answer f t (at_start s) (Ok g)) near (went_trace f t (at_start s) g) g.visits refl mid c.point st (is-st ∙ ends_stops f t (at_start s) g mid) z
+
+      module _ (z : st ≡ false) where
+        goes_on : (far : Answer (TraceT × ℕ)) → far ≡ after g.visits far_in → (r : Answer (TraceT × ℕ)) → r ≡ join_far (went_trace f t (at_start s) g) far → r ≡ all
+        goes_on = both table nd s e a b k h n all (plane_in f t w.plane) c.says c.plane (way_answer f t (at_start s) (Ok g)) near (went_trace f t (at_start s) g) g.visits refl mid c.point st (is-st ∙ ends_stops f t (at_start s) g mid) z
+
+        pub far_refused : (front : Bool) → Pl.side_if front ≡ Pl.point_side h e → (d : Met) → on_side front ≡ d → (y : ℕ) → Ans.refused y ≡ far_says g.visits d → Ans.refused y ≡ all
+        far_refused front side d q y r = goes_on (Ans.refused y) (far_by front side d q (Ans.refused y) r) (Ans.refused y) refl
+
+        pub both_ways : (u : Went) → (r : Float) × (way_answer f t (Tr.start mid r) (Ok u) ≡ after g.visits far_in) → way_answer f t (at_start s) (Ok (join_parts g u)) ≡ all
+        both_ways u far = goes_on (way_answer f t (Tr.start mid far.0) (Ok u)) far.1 _ (joins_way f t (at_start s) g mid (sym is-st ∙ z) far.0 u)
+
+-- the same where the sides of both ends are told
+pub record Crosses (f : List ℕ) (t : Tables) (w : WordsT) (s e mid : Vector3) (a b : Float) (k n : ℕ) (front there : Bool) (all : Answer (TraceT × ℕ)) : Type 0 where
+  pub h : Hyperplane
+  pub here : Here f t w s e mid a b k n h all
+  pub near_side : Pl.side_if front ≡ Pl.point_side h s
+  pub far_side : Pl.side_if there ≡ Pl.point_side h e

@@ -139,26 +139,26 @@ crossed_at T k nd s e a b (answer h) =
 crossed_at T k nd s e a b (Ans.refused n) = refused n
 
 -- the trace taken up again where a way down came to
-abbrev pub resumed : List ℕ → Tables → Vector3 → Vector3 → Result Descent Refusal → Answer (TraceT × ℕ)
+abbrev pub resumed : List ℕ → Tables → Vector3 → Vector3 → Result (Descent Words) Refusal → Answer (TraceT × ℕ)
 resumed f t s e (Ok (D.Leaf c v)) = answer (within_leaf s zero32 e c, v)
 resumed f t s e (Ok (D.Crossing w a b k v)) =
     after v (crossed_at (Fast.table f t) k (Fast.node_of t.table w) s e a b (Fast.plane_in f t w.plane))
 resumed f t s e (Err n) = Ans.refused (number_of n)
 
 -- the calls that a crossing has taken are at least one
-abbrev pub with_one_more : Result Descent Refusal → ℕ
+abbrev pub with_one_more : {W : Type 0} → Result (Descent W) Refusal → ℕ
 with_one_more (Ok (D.Leaf c v)) = 0
 with_one_more (Ok (D.Crossing w a b k v)) = suc k
 with_one_more (Err n) = 0
 
 -- taken up again, it says what the whole trace says
-pub record Descends (f : List ℕ) (t : Tables) (s e : Vector3) (left : ℕ) (all : Answer (TraceT × ℕ)) (r : Result Descent Refusal) : Type 0 where
+pub record Descends (f : List ℕ) (t : Tables) (s e : Vector3) (left : ℕ) (all : Answer (TraceT × ℕ)) (r : Result (Descent Words) Refusal) : Type 0 where
   pub says : resumed f t s e r ≡ all
   pub falls : with_one_more r ≤ left
 
 -- ---- the same by the bytes of nodes, planes and leaves: for every file and table whose own bytes they are
 
-pub record GoesDown (render : Bool) (n m l : List ℕ) (left i : ℕ) (s e : Vector3) (v : ℕ) (r : Result Descent Refusal) : Type 0 where
+pub record GoesDown (render : Bool) (n m l : List ℕ) (left i : ℕ) (s e : Vector3) (v : ℕ) (r : Result (Descent Words) Refusal) : Type 0 where
   pub says : (f : List ℕ) (t : Tables) → Owned f t render n m l → resumed f t s e r ≡ after v (recursive_trace (Fast.table f t) left i s e)
   pub falls : with_one_more r ≤ left
 
@@ -167,7 +167,7 @@ GoesOn render n m l left i s e v r =
     (f : List ℕ) (t : Tables) → Owned f t render n m l → way_answer f t (at_start s) r ≡ after v (recursive_trace (Fast.table f t) left i s e)
 
 -- a way down, a far part and a near part that come to an end, which says x
-abbrev pub EndsDown : ℕ → Answer BspLeafContents → Result Descent Refusal → Type 0
+abbrev pub EndsDown : ℕ → Answer BspLeafContents → Result (Descent Words) Refusal → Type 0
 EndsDown v x r = ((f : List ℕ) (t : Tables) (s e : Vector3) → resumed f t s e r ≡ ended_as (within_leaf s zero32 e) v x) × (with_one_more r ≤ 0)
 
 abbrev pub EndsFar : Vector3 → ℕ → Answer BspLeafContents → Result Went Refusal → Type 0

@@ -1,4 +1,6 @@
-// The walk of a point: to the contents at it, and to the leaf that it is in.
+// The walk of a point: to the contents at it, and to the leaf that it is in. The file, its map record and a hull stand apart, here and in
+// `tracing`: one file serves many hulls, and a hull may be made by hand, so a struct of the three would be made anew for each call, and each
+// contract would name its fields in their place.
 ghost use Rattle.std.specs.Prelude.{◌≡◌};
 ghost use Rattle.walk.specs.Walk.{with_visits, point_walk};
 ghost use Rattle.nodes.specs.Tables.{leaf_table};
@@ -16,6 +18,7 @@ use nodes::table::{HullTable, Tables, tables_of};
 use nodes::walking::walk_to_end;
 
 // The contents at a point, from a node of a table on.
+#[tactic(auto, using(crate::proofs::Founds::contents_refused, crate::proofs::Founds::contents_met_lem, crate::proofs::Founds::contents_unmet))]
 #[inline(always)]
 pub fn contents_in(
     s: &[u8],
@@ -49,6 +52,7 @@ pub fn contents_at_point(
 }
 
 // The leaf that a point is in, from a render node on.
+#[tactic(auto, using(crate::proofs::Founds::leaf_refused, crate::proofs::Founds::leaf_outside, crate::proofs::Founds::leaf_met))]
 pub fn find_leaf_from(s: &[u8], map: BspData, root: usize, point: Vector3) -> Answer<(usize, u64)>
     ensures { answer_of result ≡ with_visits (point_walk (leaf_table s.now map) root point) }
 {

@@ -4,11 +4,12 @@ ghost use Rattle.nodes.specs.Fast as Fast;
 ghost use Rattle.nodes.specs.Owned.{end_among};
 ghost use Rattle.hull.specs.Traces as Traces;
 
-use crate::tracing::{Descent, Went, ended, ends_with, join_parts, met_on, one_more};
+use crate::tracing::{Descent, Went, ended, ends_with, join_parts, met_on};
 use format::refusal::{Answer, Refusal};
 use math::Vector3;
 use nodes::crossing::{end_in, sides_in};
 use nodes::lines::point_of;
+use nodes::read::Words;
 use nodes::whole::Sections;
 
 // The bytes that a trace goes by: those of the nodes and the planes, and those of the leaves.
@@ -20,7 +21,7 @@ pub(crate) struct Whole<'a> {
 
 impl<'a> Whole<'a> {
     // The way down comes to the end of a word.
-    fn leaf_of(&self, word: u16, visits: u64) -> Answer<Descent>
+    fn leaf_of(&self, word: u16, visits: u64) -> Answer<Descent<Words>>
         ensures { Traces.EndsDown visits (end_among self.now.sections.render self.now.leaves.now word) result }
     {
         let contents = end_in(self.leaves, self.sections.render, word)?;
@@ -28,7 +29,8 @@ impl<'a> Whole<'a> {
     }
 
     // Down from a node as long as the segment lies on one side of each plane. No range fits: the node is tested before the calls left, after the
-    // last one too.
+    // last one too. (`descend` of `tracing` goes down the same way. One function for both would be told how a node and an end are read, and its
+    // contract would be of any two such readers: this one is of every file and table whose own bytes these are, that one of one table.)
     fn go_down(
         &self,
         node0: usize,
@@ -36,7 +38,7 @@ impl<'a> Whole<'a> {
         end: Vector3,
         left0: u32,
         visits0: u64,
-    ) -> Answer<Descent>
+    ) -> Answer<Descent<Words>>
         ensures { Traces.GoesDown self.now.sections.render self.now.sections.nodes.now self.now.sections.planes.now self.now.leaves.now left0 node0 start end visits0 result }
     {
         let mut node = node0;
@@ -50,7 +52,7 @@ impl<'a> Whole<'a> {
                 return Err(Refusal::TooDeep);
             }
             let (w, a, b) = self.sections.segment_in(node, start, end)?;
-            visits = one_more(visits);
+            visits = visits.saturating_add(1);
             left -= 1;
             if (a >= 0.0) != (b >= 0.0) {
                 return Ok(Descent::Crossing(w, a, b, left, visits));

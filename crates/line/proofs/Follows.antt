@@ -42,15 +42,13 @@ use Rattle.nodes.specs.declared.table.Tables.{Tables}
 use Rattle.nodes.specs.declared.read.Words.{Words as WordsT}
 use Rattle.nodes.proofs.Entering.{child_is}
 use Rattle.line.specs.Line.{fraction_at, plane_from, with_plane, Went, onward, stopped, refused, stretch, unset, near_part, far_part, point_at, crossing, into, tenth, contents_on, contents_at, contents_from, backed_off, back_off, into_leaf, on_child, blocked, beyond, past, line_from}
-use Rattle.line.specs.Private.{Cut, Keeps, Kept, from_front, Stops, ended, Crossed, Reaches, Resumes, Blocks, Follows, word_went, word_look, past_waiting, near_side, beyond_it, beyond_next, stand_went, Turned, Arrives, all_went}
+use Rattle.line.specs.Private.{Cut, Keeps, Kept, from_front, Stops, ended, Crossed, Resumes, Blocks, Follows, word_went, word_look, past_waiting, near_side, beyond_it, beyond_next, stand_went, Turned, Arrives, all_went}
 use Rattle.line.specs.declared.ground.Ground.{Ground}
 use Rattle.line.specs.declared.state.Stretch.{Stretch}
 use Rattle.line.specs.declared.state.LineTrace.{LineTrace}
 use Rattle.line.specs.declared.state.LinePlane.{LinePlane}
 use Rattle.line.specs.declared.through.Waiting.{Waiting}
 use Rattle.line.specs.declared.through.Stand.{Stand}
-use Rattle.line.specs.declared.through.Reached.{Reached}
-use Rattle.line.specs.declared.through.Reached.TheVariants as N
 use Rattle.line.specs.declared.through.Turn.{Turn}
 use Rattle.line.specs.declared.through.Turn.TheVariants as U
 use Rattle.line.specs.declared.through.Came.{Came}
@@ -58,7 +56,7 @@ use Rattle.line.specs.declared.through.Came.TheVariants as C
 use Rattle.line.proofs.States.{pick_true, pick_false}
 use Rattle.line.proofs.Seen.{Made, Opened, opened, note_read}
 use Rattle.line.proofs.Looks.{look_outside, look_step, word_node, word_end, goes, to_node, to_end}
-use Rattle.line.proofs.Lines.{other_side, blocked_by, blocked_plane}
+use Rattle.line.proofs.Lines.{other_side, blocked_by}
 use Rattle.line.proofs.Backs.{back_open}
 
 -- ---- a node of a whole table
@@ -68,7 +66,7 @@ unfolding are_whole
 not_box t n e = by (is_box t.table) refl e
   where
     by : (b : Bool) → is_box t.table ≡ b → cond b false (cond (is_whole t.nodes (node_size (is_render t.table)) n) (is_whole t.planes 20 n) false) ≡ true → is_box t.table ≡ false
-    by true q e = let z : ◌≡◌ {A = ℕ} 0 1 = cc in absurd (omega arith)
+    by true q e = cc
     by false q e = q
 
 placed : {X : Type 0} (p : Part) (size n i : ℕ) (go : ℕ → Answer X) (x : X) → then_answer (place_in p size n i) go ≡ answer x → i < p.count
@@ -76,13 +74,13 @@ unfolding place_in
 placed p size n i go x e = by (leb p.count i) refl e
   where
     by : (b : Bool) → leb p.count i ≡ b → then_answer (cond b (Ans.refused 20) (cond (leb p.readable i) (Ans.refused 23) (cond (leb (p.at + i * size + size) n) (answer (p.at + i * size)) (Ans.refused 23)))) go ≡ answer x → i < p.count
-    by true q e = let z : ◌≡◌ {A = ℕ} 0 1 = cc in absurd (omega arith)
+    by true q e = cc
     by false q e = leb-false p.count i q
 
 noded : (tab : HullTable) (f : List ℕ) (p : Part) (i : ℕ) (nd : Node End) → is_box tab ≡ false → node_in tab f p i ≡ answer nd → i < p.count
 noded Render f p i nd b e = placed p 24 (length f) i (render_node_here f) nd e
 noded Clip f p i nd b e = placed p 8 (length f) i (clip_node_here f) nd e
-noded Box f p i nd b e = let z : ◌≡◌ {A = ℕ} 0 1 = cc in absurd (omega arith)
+noded Box f p i nd b e = cc
 
 entered_within : (f : List ℕ) (t : Tables) (i : ℕ) (m : Entered End) → is_box t.table ≡ false → enter (Fast.table f t) i ≡ answer m → i < t.nodes.count
 unfolding enter node_at
@@ -90,18 +88,19 @@ entered_within f t i m b e = by (node_at f t i) refl e
   where
     by : (a : Answer (Node End)) → node_at f t i ≡ a → with_node (Fast.table f t) a ≡ answer m → i < t.nodes.count
     by (answer nd) q e = noded t.table f t.nodes i nd b q
-    by (Ans.refused n) q e = let z : ◌≡◌ {A = ℕ} 0 1 = cc in absurd (omega arith)
+    by (Ans.refused n) q e = cc
 
-module _ (f : List ℕ) (t : Tables) (n m : List ℕ) (whole : Bool) (R : Read f t n m whole) (on : whole ≡ true) (render : Bool) (is_render_lem : render ≡ is_render t.table) (i k : ℕ) (p q : Vector3) (r : Result (WordsT × Float × Float) Refusal) (is-r : MadeOf (node_and_dists p q) render n m i (λ t. segment_answer t r)) where
-  pub open_in : (k ≡ 0 → ⊥) → (w : WordsT) (a b : Float) → r ≡ Ok (w, a, b) → Opened f t i k p q w a b
-  open_in z w a b e =
-      let made : answer (node_of t.table w, (a, b)) ≡ made_from (node_and_dists p q) f t i = sym (ap (segment_answer t.table) e) ∙ is-r.1 f t whole R on is_render_lem in
-      let x = mapped_answer (node_and_dists p q) (enter (Fast.table f t) i) (node_of t.table w, (a, b)) (sym made) in
-      let h : i < t.nodes.count = entered_within f t i x.0 (not_box t (length f) (sym R.told ∙ on)) x.1 in
-      opened f t i k p q w a b (made ∙ note_read (node_and_dists p q) f t i k h z)
+pub open_in : {f : List ℕ} {t : Tables} {n m : List ℕ} {whole : Bool} → Read f t n m whole → whole ≡ true → {render : Bool} → render ≡ is_render t.table
+    → {i k : ℕ} {p q : Vector3} {r : Result (WordsT × Float × Float) Refusal} → MadeOf (node_and_dists p q) render n m i (λ t. segment_answer t r)
+    → (k ≡ 0 → ⊥) → {w : WordsT} {a b : Float} → r ≡ Ok (w, a, b) → Opened f t i k p q w a b
+open_in {f} {t} {whole = whole} R on is_render_lem {i} {k} {p} {q} is-r z {w} {a} {b} e =
+    let made : answer (node_of t.table w, (a, b)) ≡ made_from (node_and_dists p q) f t i = sym (ap (segment_answer t.table) e) ∙ is-r.1 f t whole R on is_render_lem in
+    let x = mapped_answer (node_and_dists p q) (enter (Fast.table f t) i) (node_of t.table w, (a, b)) (sym made) in
+    let h : i < t.nodes.count = entered_within f t i x.0 (not_box t (length f) (sym R.told ∙ on)) x.1 in
+    opened (made ∙ note_read (node_and_dists p q) f t i k h z)
 
 -- what a look makes of it
-module _ (f : List ℕ) (t : Tables) (i k : ℕ) (p q : Vector3) (w : WordsT) (a b : Float) (O : Opened f t i k p q w a b) (word : ℕ) (is_word : word ≡ word_on w (Ieee.le zero32 a)) where
+module _ {f : List ℕ} {t : Tables} {i k : ℕ} {p q : Vector3} {w : WordsT} {a b : Float} (O : Opened f t i k p q w a b) {word : ℕ} (is_word : word ≡ word_on w (Ieee.le zero32 a)) where
   looks : Made (child_by_distance p) f t i k (child_of t.table word)
   looks = record {
     in_range = O.in_range;
@@ -138,8 +137,8 @@ module _ {E : Type 0} (T : Table E BspLeafContents) (p : Vector3) where
   none_left i c e = by (ltb i T.nodes.count) e
     where
       by : (b : Bool) → cond b (Ans.refused 32) (Ans.refused 30) ≡ answer c → ⊥
-      by true e = let z : ◌≡◌ {A = ℕ} 0 1 = cc in absurd (omega arith)
-      by false e = let z : ◌≡◌ {A = ℕ} 0 1 = cc in absurd (omega arith)
+      by true e = cc
+      by false e = cc
 
   pub look_more : (j k i : ℕ) → j ≤ k → (c : BspLeafContents) → contents_from T j i p ≡ answer c → contents_from T k i p ≡ answer c
   look_more zero k i h c e = absurd (none_left i c e)
@@ -150,7 +149,7 @@ module _ {E : Type 0} (T : Table E BspLeafContents) (p : Vector3) where
       by (inl l) ih =
           look_step T p (suc k) k i refl l
           ∙ more_at (λ n. contents_from T j n p) (λ n. contents_from T k n p) ih (enter T i) c (sym (look_step T p (suc j) j i refl l) ∙ e)
-      by (inr l) ih = let z : Ans.refused 30 ≡ answer c = sym (look_outside T p (suc j) i l) ∙ e in let y : ◌≡◌ {A = ℕ} 0 1 = cc in absurd (omega arith)
+      by (inr l) ih = let z : Ans.refused 30 ≡ answer c = sym (look_outside T p (suc j) i l) ∙ e in cc
 
 -- ---- what ends a line does not go on
 
@@ -294,14 +293,6 @@ popped l n d h = drop-cons l n d h ∙ ap (λ z. get_or l n d ∷ drop z l) {x =
 none_waits : {A : Type 0} (l : List A) (n : ℕ) → length l ≤ n → drop n l ≡ []
 none_waits l n h = drop_of_length-le l h
 
--- what `down` says of the place that it comes to
-pub reaches : (f : List ℕ) (t : Tables) (i k : ℕ) (s : Stretch) (r : Reached) → Reaches f t i k s (Some r) → (n : Reached) → r ≡ n → Reaches f t i k s (Some n)
-reaches f t i k s r is-r n e = subst (λ (x : Reached). Reaches f t i k s (Some x)) e is-r
-
--- what a turn comes to
-pub turned : (f : List ℕ) (t : Tables) (at : Stand) (l : LineTrace) (looked : Bool) (r : Turn) → Turned f t at l looked (Some r) → (u : Turn) → r ≡ u → Turned f t at l looked (Some u)
-turned f t at l looked r is-r u e = subst (λ (x : Turn). Turned f t at l looked (Some x)) e is-r
-
 -- the planes that wait, as they are kept
 abbrev KeptAll : List Cut → List Waiting → Type 0
 KeptAll [] [] = Unit {0}
@@ -346,11 +337,24 @@ looked_at : (looked b : Bool) → looked && b ≡ true → looked ≡ true
 looked_at true b e = refl
 looked_at false b e = e
 
-module _ (f : List ℕ) (t : Tables) (root : ℕ) (whole : Stretch) where
-  -- an end is come to
-  pub to_an_end : (ys : List Waiting) (at : Stand) (l : LineTrace) (y : Waiting) (looked : Bool) (all : Went) → Standing f t root whole ys at l y looked all → (w : ℕ) → Turned f t at l looked (Some (U.End w))
+-- what `get` and `copied` give
+got : (xs : List Waiting) (i : ℕ) (r : Option (Bor Waiting)) → IsItemAt xs i r → option_copied r ≡ slice_get xs i
+got xs i None h = sym (slice_get_past xs i h.3)
+got xs i (Some x) h = sym (slice_get_read xs (length xs) i x.now refl h.3.0 h.1)
+
+-- what `beyond` finds in the list
+next_in : (x : Waiting) (whole : Stretch) (stack : List Waiting) (n : ℕ) → beyond_next x (slice_get stack n) whole ≡ beyond_it x (drop n stack) whole
+next_in x whole [] zero = refl
+next_in x whole [] (suc n) = refl
+next_in x whole (y ∷ ys) zero = refl
+next_in x whole (y ∷ ys) (suc n) = next_in x whole ys n
+
+module _ {f : List ℕ} {t : Tables} {root : ℕ} {whole : Stretch} {at : Stand} {l : LineTrace} {y : Waiting} {looked : Bool} {all : Went} where
+  -- one turn came to an end
+  pub to_an_end : {ys : List Waiting} → Standing f t root whole ys at l y looked all → {w : ℕ} {r : Turn} → Turned f t at l looked (Some r) → r ≡ U.End w
       → Standing f t root whole ys (record { word = w; left = at.left; part = at.part }) l y looked all
-  to_an_end ys at l y looked all S w T =
+  to_an_end S {w} T e =
+      let E : Turned f t at l looked (Some (U.End w)) = rw e at T in
       record {
         xs = S.xs;
         its_planes = S.its_planes;
@@ -359,57 +363,68 @@ module _ (f : List ℕ) (t : Tables) (root : ℕ) (whole : Stretch) where
         end_is = S.end_is;
         x = S.x;
         passed = S.passed;
-        follows = reach_end f t root S.xs at.left at.part at.word l S.x looked all S.follows T.0 w T.1;
+        follows = reach_end f t root S.xs at.left at.part at.word l S.x looked all S.follows E.0 w E.1;
       }
 
   -- the line is blocked
-  pub is_stopped : (ys : List Waiting) (at : Stand) (l : LineTrace) (y : Waiting) (looked : Bool) (all : Went) → Standing f t root whole ys at l y looked all → Turned f t at l looked (Some U.Blocked)
+  pub is_stopped : {ys : List Waiting} → Standing f t root whole ys at l y looked all → {r : Turn} → Turned f t at l looked (Some r) → r ≡ U.Blocked
       → (x : Cut) × (Kept x y × Blocks f t root x l all)
-  is_stopped ys at l y looked all S T =
-      (S.x, (S.passed (looked_at looked _ T.1.1.1), end_blocks f t root S.xs at.left at.part at.word l S.x looked all S.follows T.0 T.1.0 T.1.1.0 T.1.1.1))
+  is_stopped S T e =
+      let B : Turned f t at l looked (Some U.Blocked) = rw e at T in
+      (S.x, (S.passed (looked_at looked _ B.1.1.1), end_blocks f t root S.xs at.left at.part at.word l S.x looked all S.follows B.0 B.1.0 B.1.1.0 B.1.1.1))
 
   -- a leaf is traced into
-  goes_into : (ys : List Waiting) (at : Stand) (l : LineTrace) (y : Waiting) (looked : Bool) (all : Went) → (S : Standing f t root whole ys at l y looked all) → (m : LineTrace) → Turned f t at l looked (Some (U.Into m))
-      → Resumes f t root S.xs (onward m) all
-  goes_into ys at l y looked all S m T = end_goes f t root S.xs at.left at.part at.word l S.x looked all S.follows T.0 T.1.0 T.1.1.0 T.1.1.1 m T.1.1.2
+  goes_into : {ys : List Waiting} (S : Standing f t root whole ys at l y looked all) {m : LineTrace} {r : Turn} → Turned f t at l looked (Some r) → r ≡ U.Into m → Resumes f t root S.xs (onward m) all
+  goes_into S {m} T e =
+      let I : Turned f t at l looked (Some (U.Into m)) = rw e at T in
+      end_goes f t root S.xs at.left at.part at.word l S.x looked all S.follows I.0 I.1.0 I.1.1.0 I.1.1.1 m I.1.1.2
 
-  module _ (stack : List Waiting) (n : ℕ) (at : Stand) (l : LineTrace) (y : Waiting) (looked : Bool) (all : Went) (S : Standing f t root whole (drop n stack) at l y looked all) where
-    -- a plane is put before the others, and the line goes on before it
-    pub push : at.left ≤ 512 → 0 < n → n ≤ length stack → (w : WordsT) (front : Bool) (left : ℕ) (near : Stretch) → Turned f t at l looked (Some (U.Crossing w front left near)) → (z : Waiting) → Keeps w front left near z
-        → (next : Stand) → next ≡ near_side w front left near → (next.left ≤ 512) × Standing f t root whole (drop (n - 1) (set stack (n - 1) z)) next l y looked all
-    push most more room w front left near T z Z next is-next =
-        let a = T.1.0 in
-        let b = T.1.1.0 in
-        let k = crossing a b in
-        let cut : Cut = record { w = w; left = left; a = a; k = k; part = at.part } in
-        let in_front_lem = T.1.1.1.0 in
-        let is_near = T.1.1.1.1 in
-        let here : Kept cut z = subst (λ (s : Stretch). Keeps w (Ieee.le zero32 a) left s z) is_near (subst (λ (c : Bool). Keeps w c left near z) in_front_lem Z) in (
-          subst (λ (s : Stand). s.left ≤ 512) (sym is-next) (omega (arith, T.1.1.1.2.0.falls, most)),
-          record {
-            xs = cut ∷ S.xs;
-            its_planes = subst (KeptAll (cut ∷ S.xs)) (sym (pushed stack n z more room)) (here, S.its_planes);
-            chain = (S.to_is, S.end_is, S.chain);
-            to_is = ap (λ (s : Stand). s.part.to) is-next ∙ ap (λ (s : Stretch). s.to) is_near;
-            end_is = ap (λ (s : Stand). s.part.end) is-next ∙ ap (λ (s : Stretch). s.end) is_near;
-            x = S.x;
-            passed = S.passed;
-            follows =
-                subst (λ (s : Stand). Follows f t root (cut ∷ S.xs) s.left s.part s.word l S.x looked all) (sym is-next)
-                (reach_plane f t root S.xs at.left at.part at.word l S.x looked all S.follows T.0 most w a b left T.1.1.1.2 k refl cut refl near is_near (word_on w front) (ap (word_on w) in_front_lem));
-          },
-        )
+  module _ (stack : List Waiting) (n : ℕ) (S : Standing f t root whole (drop n stack) at l y looked all) {r : Turn} (T : Turned f t at l looked (Some r)) where
+    -- a plane that is crossed: fewer calls are left below it; it is put before the others, and the line goes on before it
+    module _ {w : WordsT} {front : Bool} {left : ℕ} {near : Stretch} (e : r ≡ U.Crossing w front left near) (most : at.left ≤ 512) where
+      crossing_lem : Turned f t at l looked (Some (U.Crossing w front left near))
+      crossing_lem = rw e at T
 
-    -- none waits
-    pub last : (m : LineTrace) → Turned f t at l looked (Some (U.Into m)) → length stack ≤ n → onward m ≡ all
-    last m T h = by S.xs (subst (KeptAll S.xs) (none_waits stack n h) S.its_planes) (goes_into (drop n stack) at l y looked all S m T)
-      where
-        by : (xs : List Cut) → KeptAll xs [] → Resumes f t root xs (onward m) all → onward m ≡ all
-        by [] k r = r
-        by (x ∷ xs) k r = absurd k
+      pub fewer_left : left ≤ 512
+      fewer_left = omega (arith, crossing_lem.1.1.1.2.0.falls, most)
 
-    -- the first is taken, and the line goes on beyond it
-    module _ (m : LineTrace) (T : Turned f t at l looked (Some (U.Into m))) (d : Waiting) (h : n < length stack) where
+      pub push : 0 < n → n ≤ length stack → {z : Waiting} → Keeps w front left near z → {next : Stand} → next ≡ near_side w front left near
+          → (next.left ≤ 512) × Standing f t root whole (drop (n - 1) (set stack (n - 1) z)) next l y looked all
+      push more room {z} Z {next} is-next =
+          let C = crossing_lem in
+          let a = C.1.0 in
+          let b = C.1.1.0 in
+          let k = crossing a b in
+          let cut : Cut = record { w = w; left = left; a = a; k = k; part = at.part } in
+          let in_front_lem = C.1.1.1.0 in
+          let is_near = C.1.1.1.1 in
+          let here : Kept cut z = subst (λ (s : Stretch). Keeps w (Ieee.le zero32 a) left s z) is_near (subst (λ (c : Bool). Keeps w c left near z) in_front_lem Z) in (
+            subst (λ (s : Stand). s.left ≤ 512) (sym is-next) fewer_left,
+            record {
+              xs = cut ∷ S.xs;
+              its_planes = subst (KeptAll (cut ∷ S.xs)) (sym (pushed stack n z more room)) (here, S.its_planes);
+              chain = (S.to_is, S.end_is, S.chain);
+              to_is = ap (λ (s : Stand). s.part.to) is-next ∙ ap (λ (s : Stretch). s.to) is_near;
+              end_is = ap (λ (s : Stand). s.part.end) is-next ∙ ap (λ (s : Stretch). s.end) is_near;
+              x = S.x;
+              passed = S.passed;
+              follows =
+                  subst (λ (s : Stand). Follows f t root (cut ∷ S.xs) s.left s.part s.word l S.x looked all) (sym is-next)
+                  (reach_plane f t root S.xs at.left at.part at.word l S.x looked all S.follows C.0 most w a b left C.1.1.1.2 k refl cut refl near is_near (word_on w front) (ap (word_on w) in_front_lem));
+            },
+          )
+
+    -- a leaf is traced into
+    module _ {m : LineTrace} (e : r ≡ U.Into m) where
+      -- none waits
+      pub last : length stack ≤ n → onward m ≡ all
+      last h = by S.xs (subst (KeptAll S.xs) (none_waits stack n h) S.its_planes) (goes_into S T e)
+        where
+          by : (xs : List Cut) → KeptAll xs [] → Resumes f t root xs (onward m) all → onward m ≡ all
+          by [] k r = r
+          by (x ∷ xs) k r = absurd k
+
+      -- the first is taken, and the line goes on beyond it
       past_it : (rest : List Waiting) (z : Waiting) (xs : List Cut) → KeptAll xs (z ∷ rest) → Chain whole xs → Resumes f t root xs (onward m) all
           → (next : Stand) → next ≡ beyond_it z rest whole → (next.left ≤ 512) × Standing f t root whole rest next m z true all
       past_it rest z [] k c r next is-next = absurd k
@@ -428,21 +443,12 @@ module _ (f : List ℕ) (t : Tables) (root : ℕ) (whole : Stretch) where
             },
           )
 
-      pub pop : (next : Stand) → next ≡ beyond_it (get_or stack n d) (drop (n + 1) stack) whole → (next.left ≤ 512) × Standing f t root whole (drop (n + 1) stack) next m (get_or stack n d) true all
-      pop next is-next =
-          past_it (drop (n + 1) stack) (get_or stack n d) S.xs (subst (KeptAll S.xs) (popped stack n d h) S.its_planes) S.chain (goes_into (drop n stack) at l y looked all S m T) next is-next
-
--- what `get` and `copied` give
-pub got : (xs : List Waiting) (i : ℕ) (r : Option (Bor Waiting)) → IsItemAt xs i r → option_copied r ≡ slice_get xs i
-got xs i None h = sym (slice_get_past xs i h.3)
-got xs i (Some x) h = sym (slice_get_read xs (length xs) i x.now refl h.3.0 h.1)
-
--- what `beyond` finds in the list
-pub next_in : (x : Waiting) (whole : Stretch) (stack : List Waiting) (n : ℕ) → beyond_next x (slice_get stack n) whole ≡ beyond_it x (drop n stack) whole
-next_in x whole [] zero = refl
-next_in x whole [] (suc n) = refl
-next_in x whole (y ∷ ys) zero = refl
-next_in x whole (y ∷ ys) (suc n) = next_in x whole ys n
+      -- the next one that waits is looked up by `get` and `copied`
+      pub pop : n < length stack → (d : Waiting) {q : Option Waiting} (i : Option (Bor Waiting)) {next : Stand} → next ≡ beyond_next (get_or stack n d) q whole → q ≡ option_copied i → IsItemAt stack (n + 1) i
+          → (next.left ≤ 512) × Standing f t root whole (drop (n + 1) stack) next m (get_or stack n d) true all
+      pop h d {q} i {next} is-next is_q is_i =
+          past_it (drop (n + 1) stack) (get_or stack n d) S.xs (subst (KeptAll S.xs) (popped stack n d h) S.its_planes) S.chain (goes_into S T e) next
+          (is-next ∙ ap (λ (y : Option Waiting). beyond_next (get_or stack n d) y whole) (is_q ∙ got stack (n + 1) i is_i) ∙ next_in (get_or stack n d) whole stack (n + 1))
 
 -- before anything is met
 pub starts : (f : List ℕ) (t : Tables) (root : ℕ) (at : Stand) (l : LineTrace) (y : Waiting) → Standing f t root at.part [] at l y false (word_went f t root at.left at.word at.part l)
@@ -454,8 +460,8 @@ starts f t root at l y =
       to_is = refl;
       end_is = refl;
       x = record { w = record { plane = 0; both = 0 }; left = 0; a = zero32; k = zero32; part = at.part };
-      passed = λ e. let z : ◌≡◌ {A = ℕ} 0 1 = cc in absurd (omega arith);
-      follows = λ c e. ((λ z. let y : ◌≡◌ {A = ℕ} 0 1 = cc in absurd (omega arith)), λ z. refl);
+      passed = λ e. cc;
+      follows = λ c e. ((λ z. cc), λ z. refl);
     }
 
 -- from the root
@@ -463,27 +469,27 @@ from_root : (g : Ground) (s : Stretch) (l : LineTrace) → g.root < 32768 → wo
 from_root g s l h = ap (λ (y : Child End). on_child (Fast.table g.s.now g.t) (λ n s l. line_from (Fast.table g.s.now g.t) g.root 512 n s l) y s l) (word_node g.t.table g.root h)
 
 -- where the whole line comes to
-module _ (g : Ground) (p q : Vector3) (l : LineTrace) (is_l : l ≡ unset q) (h : g.root < 32768) (r : Came) (is-r : Arrives g (record { word = g.root; left = 512; part = stretch zero32 one32 p q }) l (Some r)) where
+module _ (g : Ground) (p q : Vector3) {l : LineTrace} (is_l : l ≡ unset q) (h : g.root < 32768) where
   whole_line_lem : stand_went g (record { word = g.root; left = 512; part = stretch zero32 one32 p q }) l ≡ all_went g p q
   whole_line_lem = from_root g (stretch zero32 one32 p q) l h ∙ ap (line_from (Fast.table g.s.now g.t) g.root 512 g.root (stretch zero32 one32 p q)) is_l
 
-  pub came_through : (m : LineTrace) → r ≡ C.Through m → onward m ≡ all_went g p q
-  came_through m e = subst (λ (x : Came). Arrives g (record { word = g.root; left = 512; part = stretch zero32 one32 p q }) l (Some x)) e is-r ∙ whole_line_lem
+  module _ {r : Came} (is-r : Arrives g (record { word = g.root; left = 512; part = stretch zero32 one32 p q }) l (Some r)) where
+    pub came_through : {m : LineTrace} → r ≡ C.Through m → onward m ≡ all_went g p q
+    came_through e = rw e at is-r ∙ whole_line_lem
 
-  pub came_blocked : (y : Waiting) (m : LineTrace) → r ≡ C.Blocked y m → (u : Option LineTrace) → Stops g y m u → (n : LineTrace) → u ≡ Some n → stopped n ≡ all_went g p q
-  came_blocked y m e u U n is_n =
-      let b = subst (λ (x : Came). Arrives g (record { word = g.root; left = 512; part = stretch zero32 one32 p q }) l (Some x)) e is-r in
-      subst (Stops g y m) is_n U b.0 b.1.0 b.1.1.0 b.1.1.1.0 ∙ b.1.1.1.1 ∙ whole_line_lem
+    pub came_blocked : {y : Waiting} {m : LineTrace} → r ≡ C.Blocked y m → {u : Option LineTrace} → Stops g y m u → {n : LineTrace} → u ≡ Some n → stopped n ≡ all_went g p q
+    came_blocked {y} {m} e U {n} is_n =
+        let b : (x : Cut) × (Kept x y × Blocks g.s.now g.t g.root x m (stand_went g (record { word = g.root; left = 512; part = stretch zero32 one32 p q }) l)) = rw e at is-r in
+        subst (Stops g y m) is_n U b.0 b.1.0 b.1.1.0 b.1.1.1.0 ∙ b.1.1.1.1 ∙ whole_line_lem
 
 -- ---- where a line that is blocked stops
 
-module _ (g : Ground) (y : Waiting) (l : LineTrace) (x : Cut) (K : Kept x y) (h : Hyperplane) (is-h : plane_in g.s.now g.t x.w.plane ≡ answer h) where
-  pub stops_there : l.all_solid ≡ false → (i : Hyperplane) → answer i ≡ plane_in g.s.now g.t y.plane
-      → (c : BspLeafContents) → answer c ≡ contents_from (Fast.table g.s.now g.t) 512 g.root y.point → Contents.equal c Solid ≡ false
-      → (front : Bool) → front ≡ from_front y → (lp : LinePlane) → lp ≡ plane_from (Pl.side_if front) i → (m : LineTrace) → m ≡ with_plane lp l → (n : LineTrace) → n ≡ ended y.at y.point m
-      → stopped n ≡ blocked (Fast.table g.s.now g.t) g.root h (Pl.from_dist x.a) x.part x.k l
-  stops_there free i is-i c is_c z front is_front lp is-lp m is_m n is_n =
-      ap stopped (is_n ∙ rw (K.at_is, K.point_is))
-      ∙ back_open (Fast.table g.s.now g.t) g.root x.part m 10 x.k (omega arith) y.point K.point_is c is_c z
-      ∙ blocked_by (Fast.table g.s.now g.t) g.root (Pl.from_dist x.a) x.part x.k l h free i
-      (blocked_plane g.s.now g.t y.plane h (ap (plane_in g.s.now g.t) K.plane_is ∙ is-h) i is-i) lp (is-lp ∙ ap (λ (b : Bool). plane_from (Pl.side_if b) i) (is_front ∙ K.side_is)) m is_m
+pub stops_there : (g : Ground) (l : LineTrace) {y : Waiting} (x : Cut) (K : Kept x y) (h : Hyperplane) → plane_in g.s.now g.t x.w.plane ≡ answer h → l.all_solid ≡ false
+    → {i : Hyperplane} → answer i ≡ plane_in g.s.now g.t y.plane → {c : BspLeafContents} → answer c ≡ contents_from (Fast.table g.s.now g.t) 512 g.root y.point → Contents.equal c Solid ≡ false
+    → {front : Bool} → front ≡ from_front y → {lp : LinePlane} → lp ≡ plane_from (Pl.side_if front) i → {m : LineTrace} → m ≡ with_plane lp l → {n : LineTrace} → n ≡ ended y.at y.point m
+    → stopped n ≡ blocked (Fast.table g.s.now g.t) g.root h (Pl.from_dist x.a) x.part x.k l
+stops_there g l {y} x K h is-h free {i} is-i {c} is_c z is_front is-lp {m} is_m is_n =
+    ap stopped (is_n ∙ rw (K.at_is, K.point_is))
+    ∙ back_open (Fast.table g.s.now g.t) g.root x.part m 10 x.k (omega arith) K.point_is is_c z
+    ∙ blocked_by (Fast.table g.s.now g.t) g.root (Pl.from_dist x.a) x.part x.k l h free (ap (plane_in g.s.now g.t) K.plane_is ∙ is-h) is-i
+    (is-lp ∙ ap (λ (b : Bool). plane_from (Pl.side_if b) i) (is_front ∙ K.side_is)) is_m

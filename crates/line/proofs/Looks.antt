@@ -6,7 +6,7 @@ use mathlib.Core.Bool.{Bool}
 use mathlib.Core.List.{List}
 use borrow.Author.Tests.{lt-ltb, le-ltb}
 use Rattle.format.specs.Answer as Ans
-use Rattle.format.specs.Answer.{Answer}
+use Rattle.format.specs.Answer.{Answer, answer}
 use Rattle.format.specs.declared.contents.BspLeafContents.{BspLeafContents}
 use Rattle.math.specs.declared.vector.Vector3.{Vector3}
 use Rattle.walk.specs.Table.{node, end, Table}
@@ -20,8 +20,8 @@ use Rattle.nodes.specs.declared.table.Tables.{Tables}
 use Rattle.nodes.specs.declared.read.Words.{Words as WordsT}
 use Rattle.nodes.proofs.Entering.{child_node, child_end}
 use Rattle.line.specs.Line.{contents_on, contents_at, contents_from}
-use Rattle.line.specs.Private.{child_at, contents_beside}
-use Rattle.line.proofs.Seen.{Made, Closed, outside, spent, unread}
+use Rattle.line.specs.Private.{child_at, contents_beside, node_for}
+use Rattle.line.proofs.Seen.{Made, Closed, outside, spent, unread, toward, not_toward}
 
 module _ {E : Type 0} (T : Table E BspLeafContents) (p : Vector3) where
   pub look_outside : (k i : ℕ) → T.nodes.count ≤ i → contents_from T k i p ≡ Ans.refused 30
@@ -79,8 +79,22 @@ module _ (f : List ℕ) (t : Tables) (k i : ℕ) (p : Vector3) where
     unfolding contents_met
     to_end l = sym (goes ∙ ap (contents_on T (λ n. contents_from T (k - 1) n p)) (word_end t.table word l))
 
+  -- by what the reader of the child on the point's side says
+  pub look_fails : (n : ℕ) → Ans.refused n ≡ node_for (child_by_distance p) f t i k → Ans.refused n ≡ contents_from T k i p
+  look_fails n e = look_closed n (not_toward f t i k p n e)
+
+  module _ (word : ℕ) (e : answer (child_of t.table word) ≡ node_for (child_by_distance p) f t i k) where
+    pub look_has : 0 < k
+    look_has = let m = toward f t i k p word e in omega (arith, m.left)
+
+    pub look_node : word < 32768 → contents_from T (k - 1) word p ≡ contents_from T k i p
+    look_node = to_node word (toward f t i k p word e)
+
+    pub look_end_met : 32768 ≤ word → contents_met f t word ≡ contents_from T k i p
+    look_end_met = to_end word (toward f t i k p word e)
+
 -- the child beside a crossing
-module _ (f : List ℕ) (t : Tables) (w : WordsT) (b : Bool) (p : Vector3) (word : ℕ) (is_word : word ≡ word_on w b) where
+module _ (f : List ℕ) (t : Tables) (w : WordsT) (b : Bool) (p : Vector3) {word : ℕ} (is_word : word ≡ word_on w b) where
   pub beside_node : word < 32768 → contents_from (Fast.table f t) 512 word p ≡ contents_beside f t w b p
   unfolding contents_beside
   beside_node h = sym (look_child f t (λ n. contents_from (Fast.table f t) 512 n p) w b word is_word h)

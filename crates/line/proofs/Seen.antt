@@ -1,12 +1,10 @@
 -- What the reader of a node says of it, as it is entered; and the child that a word stands for. Assumes nothing.
-use Rattle.std.specs.Prelude.{Result, Ok, Err}
-use Rattle.std.specs.Result.{IsErrAnd}
-use Rattle.std.proofs.lemmas.Result.{err_from_is_err_and}
+use Rattle.std.specs.Prelude.{Ok, Err}
 use Prim.Native.Nat.{ℕ, ◌<◌, ◌≤◌}
 use mathlib.Core.Path.{◌≡◌, refl, sym, ap, ◌∙◌}
-use native.Mathlib.Omega.{arith}
 use mathlib.Core.Bool.{Bool, true, false, cond}
-use borrow.Author.Tests.{lt-ltb, le-ltb, eq-eqb, ne_eqb, ltb-true, ltb-false, eqb-true, eqb-false}
+use native.Mathlib.Omega.{arith}
+use borrow.Author.Tests.{lt-ltb, ne_eqb, ltb-true, ltb-false, eqb-true, eqb-false}
 use lib.Dec.{ltb, eqb}
 use mathlib.Core.List.{List}
 use lib.Ieee as Ieee
@@ -30,11 +28,6 @@ use Rattle.nodes.specs.declared.read.Words.{Words as WordsT}
 use Rattle.nodes.specs.Walks.{made_from, child_by_distance, node_and_dists}
 use Rattle.nodes.proofs.Entering.{planed, child_is, enter_not, enter_is, enter_no_plane}
 use Rattle.line.specs.Private.{node_for}
-
--- ---- a refusal that a `?` hands on
-
-pub handed_on : {A : Type 0} (q : Result A Refusal) (e : Refusal) → IsErrAnd q (λ d. d ≡ e) → q ≡ Err e
-handed_on q e h = let (d, t, s) = err_from_is_err_and q h in t ∙ ap Err s
 
 -- ---- the child on a point's side, by what the readers say of a node
 
@@ -76,15 +69,7 @@ module _ {X : Type 0} (make : Entered End → X) (f : List ℕ) (t : Tables) (i 
   abbrev note : Bool → Bool → Answer X
   note b z = cond b (cond z (Ans.refused 32) (made_from make f t i)) (Ans.refused 30)
 
-  -- what the code's tests make of it
-  pub note_outside : t.nodes.count ≤ i → Ans.refused 30 ≡ node_for make f t i k
-  unfolding node_for
-  note_outside h = simp (le-ltb _ _ h)
-
-  pub note_spent : i < t.nodes.count → k ≡ 0 → Ans.refused 32 ≡ node_for make f t i k
-  unfolding node_for
-  note_spent h z = simp (lt-ltb _ _ h, eq-eqb k 0 z)
-
+  -- in range, with a call left
   pub note_read : i < t.nodes.count → (k ≡ 0 → ⊥) → made_from make f t i ≡ node_for make f t i k
   unfolding node_for
   note_read h z = simp (lt-ltb _ _ h, ne_eqb k 0 z)
@@ -96,19 +81,19 @@ module _ {X : Type 0} (make : Entered End → X) (f : List ℕ) (t : Tables) (i 
     noted = is_y
 
     make_by : (b z : Bool) → ltb i t.nodes.count ≡ b → eqb k 0 ≡ z → (x : X) → y ≡ answer x → y ≡ note b z → Made make f t i k x
-    make_by true true u v x e n = let d : answer x ≡ Ans.refused 32 = sym e ∙ n in let g : ◌≡◌ {A = ℕ} 0 1 = cc in absurd (omega arith)
+    make_by true true u v x e n = let d : answer x ≡ Ans.refused 32 = sym e ∙ n in cc
     make_by true false u v x e n =
         let m = mapped_answer make (enter (Fast.table f t) i) x (sym n ∙ e) in
         record { in_range = ltb-true _ _ u; left = eqb-false _ _ v; node = m.0; entered = m.1; is_made = m.2 }
-    make_by false z u v x e n = let d : answer x ≡ Ans.refused 30 = sym e ∙ n in let g : ◌≡◌ {A = ℕ} 0 1 = cc in absurd (omega arith)
+    make_by false z u v x e n = let d : answer x ≡ Ans.refused 30 = sym e ∙ n in cc
 
     pub made : (x : X) → y ≡ answer x → Made make f t i k x
     made x e = make_by (ltb i t.nodes.count) (eqb k 0) refl refl x e noted
 
     close_by : (b z : Bool) → ltb i t.nodes.count ≡ b → eqb k 0 ≡ z → (x : ℕ) → y ≡ Ans.refused x → y ≡ note b z → Closed f t i k x
-    close_by true true u v x e n = spent (ltb-true _ _ u) (eqb-true _ _ v) (let y : Ans.refused x ≡ Ans.refused 32 = sym e ∙ n in let d : x ≡ 32 = cc in d)
+    close_by true true u v x e n = spent (ltb-true _ _ u) (eqb-true _ _ v) (let r : Ans.refused x ≡ Ans.refused 32 = sym e ∙ n in cc)
     close_by true false u v x e n = unread (ltb-true _ _ u) (eqb-false _ _ v) (mapped_refused make (enter (Fast.table f t) i) x (sym n ∙ e))
-    close_by false z u v x e n = outside (ltb-false _ _ u) (let y : Ans.refused x ≡ Ans.refused 30 = sym e ∙ n in let d : x ≡ 30 = cc in d)
+    close_by false z u v x e n = outside (ltb-false _ _ u) (let r : Ans.refused x ≡ Ans.refused 30 = sym e ∙ n in cc)
 
     pub closes : (x : ℕ) → y ≡ Ans.refused x → Closed f t i k x
     closes x e = close_by (ltb i t.nodes.count) (eqb k 0) refl refl x e noted
@@ -125,23 +110,26 @@ pub record Opened (f : List ℕ) (t : Tables) (i k : ℕ) (p q : Vector3) (w : W
   pub second : Pl.point_dist plane q ≡ b
   pub read : plane_in f t w.plane ≡ answer plane
 
-module _ (f : List ℕ) (t : Tables) (i k : ℕ) (p q : Vector3) where
-  pub opened : (w : WordsT) (a b : Float) → answer (node_of t.table w, (a, b)) ≡ node_for (node_and_dists p q) f t i k → Opened f t i k p q w a b
-  opened w a b e =
-      let m : Made (node_and_dists p q) f t i k (node_of t.table w, (a, b)) = made (node_and_dists p q) f t i k _ e (node_of t.table w, (a, b)) refl in
-      let its_node : m.node.nd ≡ node_of t.table w = ap (λ (z : Node End × (Float × Float)). z.0) m.is_made in
-      record {
-        in_range = m.in_range;
-        left = m.left;
-        plane = m.node.plane;
-        entered = m.entered ∙ ap (λ (z : Node End). answer (record { nd = z; plane = m.node.plane })) its_node;
-        first = ap (λ (z : Node End × (Float × Float)). z.1.0) m.is_made;
-        second = ap (λ (z : Node End × (Float × Float)). z.1.1) m.is_made;
-        read = sym (ap (λ (z : Node End). plane_in f t z.plane) its_node) ∙ planed f t i m.node m.entered;
-      }
+pub opened : {f : List ℕ} {t : Tables} {i k : ℕ} {p q : Vector3} {w : WordsT} {a b : Float} → answer (node_of t.table w, (a, b)) ≡ node_for (node_and_dists p q) f t i k → Opened f t i k p q w a b
+opened {f} {t} {i} {k} {p} {q} {w} {a} {b} e =
+    let m : Made (node_and_dists p q) f t i k (node_of t.table w, (a, b)) = made (node_and_dists p q) f t i k _ e (node_of t.table w, (a, b)) refl in
+    let its_node : m.node.nd ≡ node_of t.table w = ap (λ (z : Node End × (Float × Float)). z.0) m.is_made in
+    record {
+      in_range = m.in_range;
+      left = m.left;
+      plane = m.node.plane;
+      entered = m.entered ∙ ap (λ (z : Node End). answer (record { nd = z; plane = m.node.plane })) its_node;
+      first = ap (λ (z : Node End × (Float × Float)). z.1.0) m.is_made;
+      second = ap (λ (z : Node End × (Float × Float)). z.1.1) m.is_made;
+      read = sym (ap (λ (z : Node End). plane_in f t z.plane) its_node) ∙ planed f t i m.node m.entered;
+    }
 
-  pub closed : (n : ℕ) → Ans.refused n ≡ node_for (node_and_dists p q) f t i k → Closed f t i k n
-  closed n e = closes (node_and_dists p q) f t i k _ e n refl
+-- a call is left
+pub call_left : (f : List ℕ) (t : Tables) (i k : ℕ) (p q : Vector3) (w : WordsT) (a b : Float) → answer (node_of t.table w, (a, b)) ≡ node_for (node_and_dists p q) f t i k → 0 < k
+call_left f t i k p q w a b e = let o : Opened f t i k p q w a b = opened e in omega (arith, o.left)
+
+pub closed : {f : List ℕ} {t : Tables} {i k n : ℕ} (p q : Vector3) → Ans.refused n ≡ node_for (node_and_dists p q) f t i k → Closed f t i k n
+closed {f} {t} {i} {k} {n} p q e = closes (node_and_dists p q) f t i k _ e n refl
 
 -- ---- a node with the child on a point's side
 

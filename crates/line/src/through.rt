@@ -40,7 +40,8 @@ pub enum Came {
 }
 
 // Where a part's way down comes to: the word of an end; or a plane that it crosses, with the node's words, the distances of its ends and the
-// calls left below it.
+// calls left below it. (`Descent` of `tracing` has the contents of the leaf where this has the word of the end. One enum for both would take the
+// type of an end, each definition of either would name it, and it would be no plainer.)
 #[derive(Clone, Copy)]
 enum Reached {
     End(u16),
@@ -57,41 +58,6 @@ enum Turn {
     Blocked,
 }
 
-// Down from a node, with so many calls left, its own included, as long as the part lies on one side of each plane.
-fn down(g: &Ground, top: usize, calls: u32, part: Stretch) -> Option<Reached>
-    requires { g.now.whole ≡ true }
-    ensures { Private.Reaches g.now.s.now g.now.t top calls part result }
-{
-    let start = part.start;
-    let end = part.end;
-    let p = [start.x, start.y, start.z];
-    let q = [end.x, end.y, end.z];
-    let t = g.t;
-    let table = t.table;
-    let render = table.is_render();
-    let sections = Sections {
-        nodes: g.nodes,
-        planes: g.planes,
-        render,
-    };
-    let mut node = top;
-    for left in (0..calls).rev() {
-        let Ok((w, a, b)) = sections.ends_in(node, &p, &q) else {
-            return None;
-        };
-        let front = a >= 0.0;
-        if front != (b >= 0.0) {
-            return Some(Reached::Crossing(w, a, b, left));
-        }
-        let word = w.on(front);
-        if 32768 <= word {
-            return Some(Reached::End(word));
-        }
-        node = word as usize;
-    }
-    None
-}
-
 fn no_plane() -> Waiting {
     Waiting {
         plane: 0,
@@ -102,6 +68,7 @@ fn no_plane() -> Waiting {
 }
 
 // The plane of a node that the line crosses where the part before it ends.
+#[tactic(auto, using(crate::proofs::States::packed_word, crate::proofs::States::packed_left, crate::proofs::States::packed_front, crate::proofs::States::packed_back))]
 fn waits(w: Words, front: bool, left: u32, near: Stretch) -> Waiting
     requires { left ≤ 512 }
     ensures { Private.Keeps w front left near result }
@@ -178,64 +145,101 @@ fn is_blocked(looked: bool, contents: BspLeafContents) -> bool
     looked && contents == BspLeafContents::Solid
 }
 
-// One turn of the line from where it stands, with what is set so far; `looked`: the first end is what the look beyond a plane finds.
-fn one_turn(g: &Ground, at: Stand, line: LineTrace, looked: bool) -> Option<Turn>
-    requires { g.now.whole ≡ true }
-    ensures { Private.Turned g.now.s.now g.now.t at line looked result }
-{
-    let part = at.part;
-    if at.word < 32768 {
-        return match down(g, at.word as usize, at.left, part)? {
-            Reached::End(word) => Some(Turn::End(word)),
-            Reached::Crossing(w, a, b, left) => {
-                let near = part.near_part(crossing(a, b));
-                Some(Turn::Crossing(w, a >= 0.0, left, near))
-            }
+impl<'a> Ground<'a> {
+    // Down from a node, with so many calls left, its own included, as long as the part lies on one side of each plane.
+    // `descend` of `tracing` goes down by any table, record by record, tells which refusal ends it, and reads the leaf. One function for both would
+    // have to be told how a node is read and what becomes of a refusal and of an end, and would be no plainer.
+    fn down(&self, top: usize, calls: u32, part: Stretch) -> Option<Reached>
+        requires { self.now.whole ≡ true }
+        ensures { Private.Reaches self.now.s.now self.now.t top calls part result }
+    {
+        let start = part.start;
+        let end = part.end;
+        let p = [start.x, start.y, start.z];
+        let q = [end.x, end.y, end.z];
+        let t = self.t;
+        let table = t.table;
+        let render = table.is_render();
+        let sections = Sections {
+            nodes: self.nodes,
+            planes: self.planes,
+            render,
         };
-    }
-    let Ok(c) = end_contents(g.s, g.t, at.word) else {
-        return None;
-    };
-    if is_blocked(looked, c) {
-        return Some(Turn::Blocked);
-    }
-    Some(Turn::Into(line.into_leaf(c)))
-}
-
-// The line from where it stands, with what is set before. A tree of 32,767 nodes has fewer ends and planes than there are turns.
-pub fn follow(g: &Ground, first: Stand, l: LineTrace) -> Option<Came>
-    requires { (g.now.whole ≡ true) × (first.left ≤ 512) }
-    ensures { Private.Arrives g.now first l result }
-{
-    let mut stack = [no_plane(); 10];
-    let mut n: usize = 10;
-    let mut at = first;
-    let mut line = l;
-    let mut x = no_plane();
-    let mut looked = false;
-    for _ in 0..131072u32 {
-        match one_turn(g, at, line, looked)? {
-            Turn::Blocked => return Some(Came::Blocked(x, line)),
-            Turn::End(word) => at.word = word,
-            Turn::Crossing(w, front, left, near) => {
-                if n == 0 {
-                    return None;
-                }
-                n -= 1;
-                stack[n] = waits(w, front, left, near);
-                at = near_side(w, front, left, near);
+        let mut node = top;
+        for left in (0..calls).rev() {
+            let (w, a, b) = sections.ends_in(node, &p, &q).ok()?;
+            let front = a >= 0.0;
+            if front != (b >= 0.0) {
+                return Some(Reached::Crossing(w, a, b, left));
             }
-            Turn::Into(so_far) => {
-                line = so_far;
-                if 10 <= n {
-                    return Some(Came::Through(line));
+            let word = w.on(front);
+            if 32768 <= word {
+                return Some(Reached::End(word));
+            }
+            node = word as usize;
+        }
+        None
+    }
+
+    // One turn of the line from where it stands, with what is set so far; `looked`: the first end is what the look beyond a plane finds.
+    fn one_turn(&self, at: Stand, line: LineTrace, looked: bool) -> Option<Turn>
+        requires { self.now.whole ≡ true }
+        ensures { Private.Turned self.now.s.now self.now.t at line looked result }
+    {
+        let part = at.part;
+        if at.word < 32768 {
+            return match self.down(at.word as usize, at.left, part)? {
+                Reached::End(word) => Some(Turn::End(word)),
+                Reached::Crossing(w, a, b, left) => {
+                    let near = part.near_part(crossing(a, b));
+                    Some(Turn::Crossing(w, a >= 0.0, left, near))
                 }
-                x = stack[n];
-                n += 1;
-                looked = true;
-                at = x.beyond(stack.get(n).copied(), first);
+            };
+        }
+        let c = end_contents(self.s, self.t, at.word).ok()?;
+        if is_blocked(looked, c) {
+            return Some(Turn::Blocked);
+        }
+        Some(Turn::Into(line.into_leaf(c)))
+    }
+
+    // The line from where it stands, with what is set before. A tree of 32,767 nodes has fewer ends and planes than there are turns. (Ten places
+    // and the first that is used, and no list that grows: there is no heap, and ten are cleared without a call.)
+    #[tactic(auto, using(crate::proofs::Follows::fewer_left))]
+    pub fn follow(&self, first: Stand, l: LineTrace) -> Option<Came>
+        requires { (self.now.whole ≡ true) × (first.left ≤ 512) }
+        ensures { Private.Arrives self.now first l result }
+    {
+        let mut stack = [no_plane(); 10];
+        let mut n: usize = 10;
+        let mut at = first;
+        let mut line = l;
+        let mut x = no_plane();
+        let mut looked = false;
+        for _ in 0..131072u32 {
+            match self.one_turn(at, line, looked)? {
+                Turn::Blocked => return Some(Came::Blocked(x, line)),
+                Turn::End(word) => at.word = word,
+                Turn::Crossing(w, front, left, near) => {
+                    if n == 0 {
+                        return None;
+                    }
+                    n -= 1;
+                    stack[n] = waits(w, front, left, near);
+                    at = near_side(w, front, left, near);
+                }
+                Turn::Into(so_far) => {
+                    line = so_far;
+                    if 10 <= n {
+                        return Some(Came::Through(line));
+                    }
+                    x = stack[n];
+                    n += 1;
+                    looked = true;
+                    at = x.beyond(stack.get(n).copied(), first);
+                }
             }
         }
+        None
     }
-    None
 }

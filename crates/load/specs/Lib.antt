@@ -1,4 +1,4 @@
--- What the contracts of `load` cite.
+-- What the contracts of `load` cite, and in `Private` what only proofs do.
 pub mod Entities
 pub mod Tested
 pub mod Extents

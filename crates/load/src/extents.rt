@@ -15,9 +15,7 @@ pub fn read_extents(s: &[u8], at: usize, map: BspData, planes: u32, infos: u32) 
     ensures { position_step result ≡ extents_at planes infos map s.now at }
 {
     let (face, next) = read_face(s, at, planes, infos)?;
-    let Ok(x) = surface_of(s, map, face) else {
-        return Err(Refusal::InvalidIndex);
-    };
+    let x = surface_of(s, map, face).map_err(|_| Refusal::InvalidIndex)?;
     if !x.special && (2000 < x.extents.s || 2000 < x.extents.t) {
         return Err(Refusal::BadExtents);
     }

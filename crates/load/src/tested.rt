@@ -19,7 +19,8 @@ use records::node::{BspRenderNodeChild, read_collision_node, read_render_node};
 use records::texinfo::{BspTexInfo, read_texinfo};
 use sections::row::{check_records, read_records};
 
-// A step of loading is one line over `check_records`: its section and its reader.
+// A step of loading is one line over `check_records`: its section and its reader. Each has a name of its own, since `load` and `place` both take
+// it, and so each section and its reader stand together once.
 pub fn check_render_nodes(s: &[u8], section: BspFileSection) -> Answer<usize>
     ensures { position_step result ≡ Row.section render_node_at Id.RenderNodes s.now section }
 {

@@ -11,6 +11,7 @@ pub enum HyperplaneSide {
 }
 
 impl HyperplaneSide {
+    // The other side. (Of the shape of `side_word` of `ffi_math` by chance: two arms.)
     pub fn negate(self) -> HyperplaneSide
         ensures { result ≡ Pl.negated_side self }
     {
@@ -109,6 +110,7 @@ pub enum LinePlaneIntersect {
 impl Hyperplane {
     // The plane along the given normal, `dist` units from the origin: an axis plane where the normal
     // equals a unit vector.
+    #[tactic(auto, unfolding(crate::specs::Plane::new_plane, crate::specs::Vector::normalize))]
     pub fn new(normal: Vector3, dist: f32) -> Hyperplane
         ensures { result ≡ Pl.new_plane normal dist }
     {
@@ -136,7 +138,7 @@ impl Hyperplane {
         }
     }
 
-    // The Rust's three names for a plane across an axis.
+    // The Rust's three names for a plane across an axis: callers of the Rust know them, so one function of an axis could only stand beside them.
     pub fn axis_x(dist: f32) -> Hyperplane
         ensures { result ≡ Pl.axis_x dist }
     {
@@ -238,6 +240,7 @@ impl Hyperplane {
         }
     }
 
+    #[tactic(auto, using(crate::proofs::Same::equal_sides), unfolding(crate::specs::Plane::line_segment))]
     pub fn line_segment_intersection(self, start: Vector3, end: Vector3) -> LinePlaneIntersect
         ensures { result ≡ Pl.line_segment self start end }
     {

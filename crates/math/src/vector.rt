@@ -23,6 +23,7 @@ pub struct Vector3 {
 // known. A number goes in and out, so that it stays in a register. A call, since few planes are slanted: in line it takes the registers of
 // what reads them, and a walk is a fifth slower.
 #[inline(never)]
+#[tactic(auto, using(crate::proofs::NearOne::inverse_below, crate::proofs::NearOne::inverse_at, crate::proofs::NearOne::inverse_above, float::proofs::Compare::T_of))]
 pub(crate) fn inverse_root(x: f32) -> f32
     ensures { result ≡ div binary32 Vec.one32 (sqrt x) }
 {
@@ -43,6 +44,7 @@ pub(crate) fn inverse_root(x: f32) -> f32
 }
 
 impl Vector3 {
+    // (The parameters are the fields: no struct but this one would hold the three.)
     pub fn new(x: f32, y: f32, z: f32) -> Vector3
         ensures { result ≡ Vec.vector x y z }
     {
@@ -132,6 +134,7 @@ impl Vector3 {
     }
 
     // Each coordinate times 1 / magnitude.
+    #[tactic(auto, unfolding(crate::specs::Vector::normalize))]
     pub fn normalize(self) -> Vector3
         ensures { result ≡ Vec.normalize self }
     {
@@ -139,6 +142,7 @@ impl Vector3 {
     }
 
     // Whether the square is 1 or the f32 above 1: normalising leaves such a vector as it is.
+    #[tactic(auto, using(crate::proofs::NearOne::normalize_at, crate::proofs::Fits::told_fits, float::proofs::Compare::T_of))]
     pub(crate) fn is_unit(self) -> bool
         ensures { result ≡ true → Vec.normalize self ≡ self }
     {

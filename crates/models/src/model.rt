@@ -78,7 +78,7 @@ pub struct BspFileModel {
 }
 
 // A model's own record. The root of a fourth hull is read and not used.
-// Set in where it is called: loading needs the tests alone, and there the value is then not made.
+// Inlined: loading needs the tests alone, and there the value is then not made.
 #[inline(always)]
 #[tactic(auto, unfolding(crate::specs::Model::file_model_at, crate::specs::Model::file_model_end_at))]
 pub fn read_file_model(s: &[u8], at: usize) -> Read<BspFileModel>
@@ -102,7 +102,7 @@ pub fn read_file_model(s: &[u8], at: usize) -> Read<BspFileModel>
     ))
 }
 
-// A model's own record, by its index.
+// A model's own record, by its index. One line over `record`, as the accessors of `records`.
 pub fn file_model(s: &[u8], map: BspData, index: usize) -> Answer<BspFileModel>
     ensures { answer_of result ≡ file_model_of s.now map index }
 {

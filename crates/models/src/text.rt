@@ -13,7 +13,7 @@ pub struct Part {
     pub size: usize,
 }
 
-// How many bytes there are through the first zero, or in all.
+// How many bytes there are through the first zero, or in all. (A match: with `map_or` the check does not find the proof.)
 fn through(s: &[u8]) -> usize
     ensures { result ≡ through s.now }
 {
@@ -28,10 +28,7 @@ fn through(s: &[u8]) -> usize
 pub fn text_end(s: &[u8], at: usize) -> usize
     ensures { result ≡ text_end s.now at }
 {
-    match s.get(at..) {
-        Some(rest) => at + through(rest),
-        None => at,
-    }
+    s.get(at..).map_or(at, |rest| at + through(rest))
 }
 
 // Where the entity text lies.
@@ -58,8 +55,5 @@ pub fn entity_text(s: &[u8], map: BspData) -> &[u8]
     let Ok(part) = entities(s, map) else {
         return &[];
     };
-    match s.get(part.offset..part.offset + part.size) {
-        Some(text) => text,
-        None => &[],
-    }
+    s.get(part.offset..part.offset + part.size).unwrap_or(&[])
 }

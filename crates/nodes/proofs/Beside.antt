@@ -1,9 +1,8 @@
 -- Each way through a step of two walks side by side, and the two together.
 -- Assumes nothing.
-use Rattle.std.proofs.Common.{Ok, Err, Some, None}
+use Rattle.std.proofs.Common.{Ok, Err, Some}
 use Rattle.std.specs.Prelude.{Result}
-use Rattle.std.proofs.Common.{◌≡◌, ℕ, suc, ◌+◌, ◌-◌, ◌<◌, ◌≤◌, Bool, true, false, cond, ltb, leb, ◌⊎◌, List, length, sym, refl, ap, ◌∙◌, inl, inr, arith, ltb-false, ltb-true, le-ltb, lt-ltb, le-leb, leb-false, leb-true}
-use borrow.Author.Tests.{lt-leb}
+use Rattle.std.proofs.Common.{◌≡◌, ℕ, suc, ◌+◌, ◌-◌, ◌<◌, ◌≤◌, Bool, true, false, cond, ltb, leb, ◌⊎◌, List, length, sym, refl, ap, ◌∙◌, inl, inr, arith, ltb-false, ltb-true, le-ltb, lt-ltb, leb-false, leb-true}
 use Rattle.format.specs.Answer as Ans
 use Rattle.format.specs.Answer.{Answer, answer}
 use Rattle.format.specs.Refusal.{number_of}
@@ -113,14 +112,6 @@ one_goes a b e = go (leb 32768 a) refl e
     go : (x : Bool) → leb 32768 a ≡ x → cond x (leb 32768 b) false ≡ false → (a < 32768) ⊎ (b < 32768)
     go true q z = inr (leb-false 32768 b z)
     go false q z = inl (leb-false 32768 a q)
-
-pub first_ended : (a b : ℕ) → 32768 ≤ a → leb 32768 b ≡ ended a b
-unfolding ended
-first_ended a b h = simp (le-leb 32768 a h)
-
-pub first_goes : (a b : ℕ) → a < 32768 → false ≡ ended a b
-unfolding ended
-first_goes a b h = simp (lt-leb 32768 a h)
 
 pub visit_node : (w v : ℕ) → w < 32768 → v + 1 ≡ counted w v
 unfolding counted

@@ -2,6 +2,7 @@
 -- Assumes nothing.
 use Rattle.std.proofs.Common.{Ok, Err}
 use Rattle.std.specs.Prelude.{Result}
+use Rattle.std.specs.Borrow.{Bor}
 use Rattle.format.specs.Answers.{answer_of}
 use Rattle.nodes.specs.declared.read.Words.{Words}
 use Rattle.std.proofs.Common.{◌≡◌, ℕ, ◌+◌, ◌*◌, ◌/◌, ◌<◌, ◌≤◌, Bool, true, false, cond, ltb, List, length, sym, refl, ap, ◌∙◌, arith, ltb-false, ltb-true, le-ltb, lt-ltb}
@@ -21,7 +22,7 @@ use Rattle.walk.specs.Walk.{Entered, with_node, with_plane, enter}
 use Rattle.nodes.specs.Tables.{End, is_box, file_table}
 use Rattle.nodes.specs.Fast.{Within, is_render, words_answer, node_of, child_of, word_on, node_here, node_size, ReadsNode, plane_here, plane_for, plane_of_index, plane_in, side_from, sided_answer, two_dists, dists_from, table, place_in, plane_read, render_node_here, clip_node_here, node_in}
 use Rattle.nodes.specs.Fast as Fast
-use Rattle.nodes.specs.Walks.{made_from, made_with, made_at, MadeIn, found_answer, FoundIn, child_toward, node_and_dists, word_at, are_whole, all_bytes, Read}
+use Rattle.nodes.specs.Walks.{made_from, made_with, made_at, MadeIn, found_answer, child_toward, node_and_dists, word_at, are_whole, all_bytes, Read}
 use Rattle.nodes.specs.declared.table.HullTable.{HullTable}
 use Rattle.nodes.specs.declared.table.HullTable.TheVariants.{Render, Clip, Box}
 use Rattle.nodes.specs.declared.table.Part.{Part}
@@ -45,20 +46,6 @@ child_at_lem tab w Positive = refl
 child_at_lem tab w Negative = refl
 
 -- ---- the words of a node in its section's bytes, by which table it is
-
-module _ (b : Bool) (n : List ℕ) (i : ℕ) (r : Result Words Refusal) where
-  pub as_render : b ≡ true → ReadsNode true n (i * 24) r → ReadsNode b n (i * node_size b) r
-  as_render e h = rw e h
-
-  pub as_clip : b ≡ false → ReadsNode false n (i * 8) r → ReadsNode b n (i * node_size b) r
-  as_clip e h = rw e h
-
-module _ (b : Bool) (i n : ℕ) (h : i * node_size b + node_size b ≤ n) where
-  pub render_inside : b ≡ true → i * 24 + 24 ≤ n
-  render_inside e = rw e at h
-
-  pub clip_inside : b ≡ false → i * 8 + 8 ≤ n
-  clip_inside e = rw e at h
 
 -- there is room for a node of an index below their number
 pub room : (k : Bool) (i l : ℕ) → ltb i (l / node_size k) ≡ true → i * node_size k + node_size k ≤ l
@@ -93,20 +80,6 @@ module _ (a : Answer Hyperplane) where
 
     pub dists_of : (x y : Float) → r ≡ Ok (x, y) → (h : Hyperplane) × (a ≡ answer h) × (◌≡◌ {A = Float × Float} (two_dists p q h) (x, y))
     dists_of x y u = mapped_answer (two_dists p q) a (x, y) (sym e ∙ ap answer_of u)
-
--- the distances from a plane that is there
-module _ (p q : Vector3) (h : Hyperplane) (r : (Result (Float × Float) Refusal)) (e : answer_of r ≡ answer (two_dists p q h)) where
-  pub here_dists : (x y : Float) → r ≡ Ok (x, y) → ◌≡◌ {A = Float × Float} (two_dists p q h) (x, y)
-  here_dists x y u =
-      let g : answer (x, y) ≡ answer (two_dists p q h) = sym (ap answer_of u) ∙ e in
-      let z : ◌≡◌ {A = Float × Float} (x, y) (two_dists p q h) = cc in
-      sym z
-
-  pub here_always : (x : Refusal) → r ≡ Err x → ⊥
-  here_always x u =
-      let g : Ans.refused (number_of x) ≡ answer (two_dists p q h) = sym (ap answer_of u) ∙ e in
-      let z : ◌≡◌ {A = ℕ} 0 1 = cc in
-      absurd (omega arith)
 
 -- the child on a side
 pub toward : (tab : HullTable) (w : Words) (p : Vector3) (h : Hyperplane) (b : Bool) → Pl.point_side h p ≡ Pl.side_if b → (word : ℕ) → word ≡ word_on w b
@@ -216,6 +189,9 @@ module _ (s : List ℕ) (t : Tables) (n m : List ℕ) (b : Bool) (read : Read s 
   by_size false c l q = rw q (omega arith)
 
   module _ (k : Bool) (is-k : k ≡ is_render t.table) where
+    own_table : file_table k ≡ t.table
+    own_table = rw is-k (in_file t.table (all_whole t (length s) is_whole).0)
+
     pub nodes_counted : length n / node_size k ≡ t.nodes.count
     nodes_counted = rw is-k (by_size (is_render t.table) t.nodes.count (length n) nodes_length)
 
@@ -224,7 +200,7 @@ module _ (s : List ℕ) (t : Tables) (n m : List ℕ) (b : Bool) (read : Read s 
       node_inside l = rw (is-k, nodes_length) (record_inside s t.nodes (node_size (is_render t.table)) (whole_nodes s t is_whole).1 i l)
 
       module _ {X : Type 0} (make : Entered End → X) where
-        pub whole_made : i < t.nodes.count → (x : Answer X) → MadeIn make k n m (i * node_size k) x → x ≡ made_from make s t i
+        whole_made : i < t.nodes.count → (x : Answer X) → MadeIn make k n m (i * node_size k) x → x ≡ made_from make s t i
         whole_made l x g =
             let wn : Within n s t.nodes.at = rw is_n (bytes_within s t.nodes (node_size (is_render t.table)) (whole_nodes s t is_whole).1) in
             let wm : Within m s t.planes.at = rw is_m (bytes_within s t.planes 20 (whole_planes s t is_whole).1) in
@@ -233,8 +209,12 @@ module _ (s : List ℕ) (t : Tables) (n m : List ℕ) (b : Bool) (read : Read s 
             ∙ ap (λ (c : ℕ). made_at make (is_render t.table) s (t.nodes.at + i * node_size (is_render t.table)) t.planes.at c) planes_counted
             ∙ made_is s t is_whole i l make
 
-        pub whole_node : ltb i (length n / node_size k) ≡ true → (x : Answer X) → MadeIn make k n m (i * node_size k) x → x ≡ made_from make s t i
-        whole_node f = whole_made (rw nodes_counted at (ltb-true i (length n / node_size k) f))
+        -- an answer of the file's table is one of this table
+        pub whole_answer : i < t.nodes.count → (x : HullTable → Answer X) → MadeIn make k n m (i * node_size k) (x (file_table k)) → x t.table ≡ made_from make s t i
+        whole_answer l x g = ap x (sym own_table) ∙ whole_made l (x (file_table k)) g
+
+        pub whole_node : ltb i (length n / node_size k) ≡ true → (x : HullTable → Answer X) → MadeIn make k n m (i * node_size k) (x (file_table k)) → x t.table ≡ made_from make s t i
+        whole_node f = whole_answer (rw nodes_counted at (ltb-true i (length n / node_size k) f))
 
         pub whole_none : ltb i (length n / node_size k) ≡ false → Ans.refused 20 ≡ made_from make s t i
         unfolding Fast.node_at
@@ -242,12 +222,9 @@ module _ (s : List ℕ) (t : Tables) (n m : List ℕ) (b : Bool) (read : Read s 
             let l : t.nodes.count ≤ i = rw nodes_counted at (ltb-false i (length n / node_size k) f) in
             sym (ap (mapped make) (enter_unread (table s t) i 20 (sym (no_node s t.nodes i (is_render t.table) l ∙ ap (λ (x : HullTable). node_in x s t.nodes i) (in_file t.table (all_whole t (length s) is_whole).0)))))
 
-    pub own_table : file_table k ≡ t.table
-    own_table = rw is-k (in_file t.table (all_whole t (length s) is_whole).0)
-
 -- what is made of a node and its plane that were found
 module _ {X : Type 0} (make : Entered End → X) (render : Bool) (n m : List ℕ) (at : ℕ) where
-  on_record : (s : List ℕ) (b k : ℕ) (nd : Answer (Node End)) → mapped make (then_answer nd (made_with (λ x. x) s b k)) ≡ then_answer nd (made_with make s b k)
+  pub on_record : (s : List ℕ) (b k : ℕ) (nd : Answer (Node End)) → mapped make (then_answer nd (made_with (λ x. x) s b k)) ≡ then_answer nd (made_with make s b k)
   on_record s b k (Ans.refused e) = refl
   on_record s b k (answer nd) = go (ltb nd.plane k)
     where
@@ -256,20 +233,20 @@ module _ {X : Type 0} (make : Entered End → X) (render : Bool) (n m : List ℕ
       go true = refl
       go false = refl
 
-  of_found : (r : Result (Words × ℕ) Refusal) → FoundIn render n m at r → MadeIn make render n m at (mapped make (found_answer (file_table render) m r))
-  of_found r f s a b wn wm = ap (mapped make) (f.made s a b wn wm) ∙ on_record s b (length m / 20) (node_here render s (a + at))
+  module _ (r : Result (Words × Bor (List ℕ)) Refusal) (f : MadeIn (λ x. x) render n m at (found_answer (file_table render) r)) where
+    of_found : MadeIn make render n m at (mapped make (found_answer (file_table render) r))
+    of_found s a b wn wm = ap (mapped make) (f s a b wn wm) ∙ on_record s b (length m / 20) (node_here render s (a + at))
 
-  pub none_of : (r : Result (Words × ℕ) Refusal) → FoundIn render n m at r → (x : Refusal) → r ≡ Err x → MadeIn make render n m at (Ans.refused (number_of x))
-  none_of r f x q s a b wn wm = sym (ap (λ y. mapped make (found_answer (file_table render) m y)) q) ∙ of_found r f s a b wn wm
+    pub none_of : (x : Refusal) → r ≡ Err x → MadeIn make render n m at (Ans.refused (number_of x))
+    none_of x q s a b wn wm = sym (ap (λ y. mapped make (found_answer (file_table render) y)) q) ∙ of_found s a b wn wm
 
-  pub made_of : (r : Result (Words × ℕ) Refusal) → FoundIn render n m at r → (w : Words) (p : ℕ) → r ≡ Ok (w, p)
-      → (x : X) → x ≡ make (record { nd = node_of (file_table render) w; plane = plane_here m p }) → MadeIn make render n m at (answer x)
-  made_of r f w p q x is_x s a b wn wm = ap answer is_x ∙ sym (ap (λ y. mapped make (found_answer (file_table render) m y)) q) ∙ of_found r f s a b wn wm
+    pub made_of : (w : Words) (p : Bor (List ℕ)) → r ≡ Ok (w, p)
+        → (x : X) → x ≡ make (record { nd = node_of (file_table render) w; plane = plane_here p.now 0 }) → MadeIn make render n m at (answer x)
+    made_of w p q x is_x s a b wn wm = ap answer is_x ∙ sym (ap (λ y. mapped make (found_answer (file_table render) y)) q) ∙ of_found s a b wn wm
 
--- what was found is at one place
-abbrev place_of : Result (Words × ℕ) Refusal → ℕ
-place_of (Ok (w, p)) = p
-place_of (Err e) = 0
-
-pub one_place : (w v : Words) (a p k : ℕ) → a + 20 ≤ k → ◌≡◌ {A = Result (Words × ℕ) Refusal} (Ok (w, a)) (Ok (v, p)) → p + 20 ≤ k
-one_place w v a p k h e = let z : ◌≡◌ {A = ℕ} a p = ap place_of e in omega (arith, h, z)
+-- the child on the point's side
+pub made_toward : (p : Vector3) (render : Bool) (n m : List ℕ) (at : ℕ) (r : Result (Words × Bor (List ℕ)) Refusal) → MadeIn (λ x. x) render n m at (found_answer (file_table render) r)
+    → (w : Words) (b : Bor (List ℕ)) → r ≡ Ok (w, b) → (word : ℕ) → word ≡ word_at w (Pl.point_side (plane_here b.now 0) p)
+    → MadeIn (child_toward p) render n m at (answer (child_of (file_table render) word))
+made_toward p render n m at r f w b q word is_word =
+    made_of (child_toward p) render n m at r f w b q (child_of (file_table render) word) (at_side (file_table render) w (Pl.point_side (plane_here b.now 0) p) word is_word)

@@ -1,6 +1,6 @@
 -- Planes by their number: each way through the readers, and that they are the file's planes.
 -- Assumes nothing.
-use Rattle.std.proofs.Common.{◌≡◌, ℕ, zero, suc, ◌+◌, ◌-◌, ◌*◌, ◌/◌, ◌<◌, ◌≤◌, min, Bool, true, false, cond, leb, List, [], ◌∷◌, length, get_or, take, drop, sym, refl, ap, ◌∙◌, arith, length-drop, length-take, get_or-drop, take_all, get_or-take, le-ltb, lt-ltb, le-leb, leb-false, leb-true}
+use Rattle.std.proofs.Common.{◌≡◌, ℕ, zero, suc, ◌+◌, ◌-◌, ◌*◌, ◌/◌, ◌<◌, ◌≤◌, min, Bool, true, false, cond, leb, List, [], ◌∷◌, length, get_or, drop, sym, refl, ap, ◌∙◌, arith, length-drop, length-take, get_or-drop, get_or-take, le-ltb, lt-ltb, le-leb, leb-false, leb-true}
 use mathlib.Core.Path.{fun_ext}
 use borrow.Author.Tests.{lt-leb}
 use lib.Ieee.{Float}
@@ -46,10 +46,10 @@ module _ (bs : List ℕ) (count i : ℕ) where
       pub picked_23 : known ≤ i → i < count → refused 23 ≡ all
       picked_23 h g = sym (ap (λ (a : Answer Hyperplane). picked_by f b (side_from p a)) (unread_23 g (omega (arith, is_known, h, g))))
 
-      pub picked : i < known → (x : Bool) → Pl.side_if x ≡ Pl.point_side (plane_here bs (i * 20)) p → (w : ℕ) → w ≡ cond x f b → answer w ≡ all
-      picked h x e w is-w =
-          ap answer (is-w ∙ go x ∙ ap (side_of f b) e)
-          ∙ sym (ap (λ (a : Answer Hyperplane). picked_by f b (side_from p a)) (there (omega (arith, is_known, h)) (omega (arith, is_known, h))))
+      pub picked : i < known → (h : Hyperplane) → h ≡ plane_here bs (i * 20) → (x : Bool) → Pl.side_if x ≡ Pl.point_side h p → (w : ℕ) → w ≡ cond x f b → answer w ≡ all
+      picked l h is-h x e w is-w =
+          ap answer (is-w ∙ go x ∙ ap (side_of f b) (e ∙ ap (λ y. Pl.point_side y p) is-h))
+          ∙ sym (ap (λ (a : Answer Hyperplane). picked_by f b (side_from p a)) (there (omega (arith, is_known, l)) (omega (arith, is_known, l))))
         where
           go : (x : Bool) → cond x f b ≡ side_of f b (Pl.side_if x)
           go true = refl
@@ -64,31 +64,11 @@ coordinate p (suc (suc (suc k))) d h = absurd (omega arith)
 
 -- ---- the bytes that can be read
 
-no_elements : (l : List ℕ) → length l ≡ 0 → [] ≡ l
-no_elements [] e = refl
-no_elements (x ∷ l) e = absurd (omega (arith, e))
-
--- as many elements as there are, of more that are asked for
-cut : (k m : ℕ) (l : List ℕ) → k ≡ min m (length l) → take k l ≡ take m l
-cut k m l e = by (leb m (length l)) refl
-  where
-    by : (b : Bool) → leb m (length l) ≡ b → take k l ≡ take m l
-    by true q = let h = leb-true m (length l) q in ap (λ (j : ℕ). take j l) {x = k} {y = m} (omega (arith, e, h))
-    by false q = let h = leb-false m (length l) q in take_all k l (omega (arith, e, h)) ∙ sym (take_all m l (omega (arith, h)))
-
 module _ (s : List ℕ) (z : BspFileSection) where
   -- how many there are
   pub readable_length : length (readable s z) ≡ min (allowed (z.size / 20) * 20) (length s - z.offset)
   unfolding readable
   readable_length = length-take (allowed (z.size / 20) * 20) (drop z.offset s) ∙ ap (min (allowed (z.size / 20) * 20)) (length-drop z.offset s)
-
-  module _ (m end : ℕ) (is_m : m ≡ allowed (z.size / 20)) (is_end : end ≡ min (z.offset + m * 20) (length s)) where
-    pub none_there : end ≤ z.offset → [] ≡ readable s z
-    none_there h = no_elements (readable s z) (readable_length ∙ omega (arith, is_m, is_end, h))
-
-    pub some_there : z.offset < end → take (end - z.offset) (drop z.offset s) ≡ readable s z
-    unfolding readable
-    some_there h = cut (end - z.offset) (allowed (z.size / 20) * 20) (drop z.offset s) (omega (arith, is_m, is_end, h, length-drop z.offset s))
 
 -- ---- they are the planes of the file
 

@@ -1,12 +1,9 @@
 -- The bytes of a table that is whole: its nodes are as many, its planes and its leaves are those of the file.
 -- Assumes nothing.
 use Rattle.std.specs.Prelude.{Option, Some, None}
-use Rattle.std.proofs.Common.{◌≡◌, ℕ, ◌+◌, ◌-◌, ◌*◌, ◌/◌, ◌<◌, ◌≤◌, Bool, true, false, cond, ltb, List, length, ℤ, negsuc, sym, refl, ap, ◌∙◌, arith, w32, to_z, ltb-false, ltb-true, le-ltb, lt-ltb}
+use Rattle.std.proofs.Common.{◌≡◌, ℕ, ◌+◌, ◌-◌, ◌*◌, ◌/◌, ◌<◌, ◌≤◌, Bool, true, false, cond, ltb, List, length, ℤ, negsuc, sym, refl, ap, ◌∙◌, arith, w32, to_z, ltb-false, ltb-true, lt-ltb}
 use lib.Signed.{lt_z}
 use Rattle.format.specs.Answer as Ans
-use Rattle.format.specs.Answers.{answer_of}
-use Rattle.format.specs.declared.refusal.Refusal.TheVariants.{Unreadable}
-use Rattle.std.specs.Option.{ok_or}
 use Rattle.format.specs.Answer.{Answer, answer, mapped, then_answer}
 use Rattle.format.specs.Step.{ok, refused, and_then}
 use Rattle.format.specs.Code.{contents_of, negated_contents}
@@ -40,23 +37,6 @@ use Rattle.nodes.proofs.Wholes.{whole_is, all_whole, all_taken, bytes_length, by
 
 pub with_sides : (p q : Vector3) (h : Hyperplane) (x y : Bool) → Pl.side_if x ≡ Pl.point_side h p → Pl.side_if y ≡ Pl.point_side h q → ◌≡◌ {A = HyperplaneSide × HyperplaneSide} (Pl.side_if x, Pl.side_if y) (two_sides p q h)
 with_sides p q h x y e f = rw (e, f)
-
-pub coded_told : (k : Option BspLeafContents) → answer_of (ok_or k Unreadable) ≡ coded_answer k
-coded_told (Some c) = refl
-coded_told None = refl
-
-module _ (render : Bool) (l : List ℕ) (w : ℕ) where
-  pub among_none : render ≡ true → length l / 28 ≤ 65535 - w → Ans.refused 30 ≡ end_among render l w
-  unfolding end_among
-  among_none e h = rw e (simp (le-ltb (65535 - w) (length l / 28) h))
-
-  pub among_leaf : render ≡ true → 65535 - w < length l / 28 → (x : Answer BspLeafContents) → x ≡ leaf_contents_here l ((65535 - w) * 28) → x ≡ end_among render l w
-  unfolding end_among
-  among_leaf e h x q = rw e (q ∙ simp (lt-ltb (65535 - w) (length l / 28) h))
-
-  pub among_code : render ≡ false → (k : Option BspLeafContents) → contents_of (65536 - w) ≡ k → coded_answer k ≡ end_among render l w
-  unfolding end_among
-  among_code e k q = rw e (ap coded_answer (sym q))
 
 -- ---- a leaf's contents by two numbers of its record: the code and the visibility offset
 

@@ -11,6 +11,8 @@ use Rattle.format.specs.Step.{ok}
 use Rattle.math.specs.Plane as Pl
 use Rattle.math.specs.declared.vector.Vector3.{Vector3}
 use Rattle.math.specs.declared.plane.Hyperplane.{Hyperplane}
+use Rattle.math.specs.declared.plane.HyperplaneSide.{HyperplaneSide}
+use Rattle.math.specs.declared.plane.HyperplaneSide.TheVariants.{Positive, Negative}
 use Rattle.records.specs.Triple.{vector_at}
 use Rattle.records.specs.Plane.{file_plane, plane_at}
 use Rattle.format.specs.Refusal.{number_of}
@@ -153,6 +155,7 @@ module _ (s : List ℕ) (t : Tables) (i : ℕ) where
       pub plane_not : (x : Refusal) → r ≡ Err x → plane_in s t i ≡ Ans.refused (number_of x)
       plane_not x q = there (Err x) q
 
--- two distances, one after the other
-pub with_two : (p q : Vector3) (h : Hyperplane) (x y : Float) → x ≡ Pl.point_dist h p → y ≡ Pl.point_dist h q → ◌≡◌ {A = Float × Float} (x, y) (two_dists p q h)
-with_two p q h x y e f = rw (e, f)
+-- the side that is the front or not, as it is compared with the front
+pub front_side : (a : HyperplaneSide) → Pl.side_if (Pl.same_side a Positive) ≡ a
+front_side Positive = refl
+front_side Negative = refl

@@ -1,6 +1,7 @@
 -- Each way through a walk by the bytes of whole sections, which says nothing where the walk is refused; and the code of the contents at an end.
 -- Assumes nothing.
 use Rattle.std.specs.Prelude.{Option, Some, None, Result, Ok, Err}
+use Rattle.std.specs.Borrow.{Bor}
 use Rattle.std.proofs.Common.{◌≡◌, ℕ, ◌+◌, ◌-◌, ◌*◌, ◌/◌, ◌%◌, ◌<◌, ◌≤◌, Bool, true, false, cond, ltb, List, length, sym, refl, ap, ◌∙◌, arith, ltb-false, ltb-true, ne_eqb}
 use Rattle.format.specs.Answers.{answer_of}
 use Rattle.format.specs.Answer as Ans
@@ -8,17 +9,19 @@ use Rattle.format.specs.Answer.{Answer, answer, then_answer}
 use Rattle.format.specs.Code.{contents_of}
 use Rattle.format.specs.declared.contents.BspLeafContents.{BspLeafContents}
 use Rattle.format.specs.declared.refusal.Refusal.{Refusal}
+use Rattle.math.specs.Plane as Pl
 use Rattle.math.specs.declared.vector.Vector3.{Vector3}
 use Rattle.walk.specs.Walk.{with_visits, meet, walk}
 use Rattle.walk.specs.Private.{after}
 use Rattle.walk.proofs.Steps.{walk_outside, walk_spent}
 use Rattle.nodes.specs.Tables.{file_table}
-use Rattle.nodes.specs.Fast.{coded, end_of, is_render, leaf_contents_here, node_size, place_in, table, contents_met}
-use Rattle.nodes.specs.Walks.{are_whole, ends, child_toward, made_from, MadeIn, node_bytes, onward_answer, plane_bytes}
+use Rattle.nodes.specs.Fast.{coded, end_of, is_render, leaf_contents_here, node_size, place_in, plane_here, table, contents_met}
+use Rattle.nodes.specs.Walks.{are_whole, ends, child_toward, found_answer, made_from, MadeIn, node_bytes, onward_answer, plane_bytes, word_at}
 use Rattle.nodes.specs.Quick.{code_or, end_code, leaves_by, or_nothing, part_with, quick_answer, quick_in, QuickIn, quick_walk, said, tables_by, Whole, word_contents}
+use Rattle.nodes.specs.declared.read.Words.{Words}
 use Rattle.nodes.specs.declared.table.HullTable.{HullTable}
 use Rattle.nodes.specs.declared.table.Tables.{Tables}
-use Rattle.nodes.proofs.Making.{nodes_counted, own_table, whole_made}
+use Rattle.nodes.proofs.Making.{nodes_counted, none_of, made_toward, whole_answer}
 use Rattle.nodes.proofs.Places.{none}
 use Rattle.nodes.proofs.Wholes.{whole_is, all_whole}
 use Rattle.nodes.proofs.Stepping.{at_first, step_refused, step_node, step_end}
@@ -51,9 +54,7 @@ module _ (n m : List ℕ) (render : Bool) (root : ℕ) (p : Vector3) where
     counted = nodes_counted s t n m true w.its refl render w.table_is
 
     made : (i : ℕ) → i < count → (r : Result ℕ Refusal) → MadeIn (child_toward p) render n m (i * node_size render) (onward_answer (file_table render) r) → onward_answer t.table r ≡ made_from (child_toward p) s t i
-    made i h r e =
-        ap (λ (x : HullTable). onward_answer x r) (sym (own_table s t n m true w.its refl render w.table_is))
-        ∙ whole_made s t n m true w.its refl render w.table_is i (child_toward p) (omega (arith, h, counted)) (onward_answer (file_table render) r) e
+    made i h r e = whole_answer s t n m true w.its refl render w.table_is i (child_toward p) (omega (arith, h, counted)) (λ x. onward_answer x r) e
 
   pub no_root : count ≤ root → QuickIn n m render root p 0
   no_root h s t w = sym (ap (λ o. or_nothing (with_visits o)) (walk_outside (ends (table s t)) p t.nodes.count root (omega (arith, h, counted s t w))))
@@ -63,12 +64,21 @@ module _ (n m : List ℕ) (render : Bool) (root : ℕ) (p : Vector3) where
     spent g s t w =
         sym (st s t w ∙ ap (λ o. or_nothing (after v o)) (walk_spent (ends (table s t)) p (t.nodes.count - v) i (omega (arith, g, counted s t w)) (omega (arith, h, counted s t w))))
 
-    module _ (g : v < count) (r : Result ℕ Refusal) (is-r : MadeIn (child_toward p) render n m (i * node_size render) (onward_answer (file_table render) r)) where
-      pub refused_here : (x : Refusal) → r ≡ Err x → QuickIn n m render root p 0
+    module _ (g : v < count) (f : Result (Words × Bor (List ℕ)) Refusal) (is-f : MadeIn (λ y. y) render n m (i * node_size render) (found_answer (file_table render) f)) where
+      pub refused_here : (x : Refusal) → f ≡ Err x → QuickIn n m render root p 0
       refused_here x q s t w =
-          sym (st s t w ∙ ap or_nothing (step_refused s t p v (t.nodes.count - v) (t.nodes.count - (v + 1)) i (omega (arith, g, counted s t w)) (omega (arith, h, counted s t w)) r (made s t w i h r is-r) x q))
+          sym (st s t w ∙ ap or_nothing (step_refused s t p v (t.nodes.count - v) (t.nodes.count - (v + 1)) i (omega (arith, g, counted s t w)) (omega (arith, h, counted s t w)) (Err x) (made s t w i h (Err x) (none_of (child_toward p) render n m (i * node_size render) f is-f x q)) x refl))
 
-      module _ (x : ℕ) (q : r ≡ Ok x) where
+      module _ (y : Words) (b : Bor (List ℕ)) (is_y : f ≡ Ok (y, b)) (x : ℕ) (is_x : x ≡ word_at y (Pl.point_side (plane_here b.now 0) p)) where
+        abbrev r : Result ℕ Refusal
+        r = Ok x
+
+        abbrev q : r ≡ Ok x
+        q = refl
+
+        is-r : MadeIn (child_toward p) render n m (i * node_size render) (onward_answer (file_table render) r)
+        is-r = made_toward p render n m (i * node_size render) f is-f y b is_y x is_x
+
         goes : (s : List ℕ) (t : Tables) → Whole s t n m render → x < 32768 → quick_in s t root p ≡ or_nothing (after (v + 1) (walk (ends (table s t)) (t.nodes.count - (v + 1)) x p))
         goes s t w l =
             st s t w ∙ ap or_nothing (step_node s t p v (t.nodes.count - v) (t.nodes.count - (v + 1)) i (omega (arith, g, counted s t w)) (omega (arith, h, counted s t w)) r (made s t w i h r is-r) x q l)

@@ -14,7 +14,7 @@ use Rattle.format.specs.declared.contents.BspLeafContents.{BspLeafContents}
 use Rattle.format.specs.declared.refusal.Refusal.{Refusal}
 use Rattle.walk.specs.Walk.{meet}
 use Rattle.nodes.specs.Tables.{nth, is_box, file_table}
-use Rattle.nodes.specs.Fast.{is_render, place_in, coded, words_answer, render_node_here, clip_node_here, box_node, node_in, node_at, leaf_contents_here, end_of, table, contents_met}
+use Rattle.nodes.specs.Fast.{is_render, place_in, coded, words_answer, render_node_here, clip_node_here, node_in, leaf_contents_here, end_of, table, contents_met}
 use Rattle.nodes.specs.declared.table.HullTable.{HullTable}
 use Rattle.nodes.specs.declared.table.HullTable.TheVariants.{Render, Clip, Box}
 use Rattle.nodes.specs.declared.table.Part.{Part}
@@ -57,21 +57,6 @@ module _ (s : List ℕ) (p : Part) (i : ℕ) (b : Bool) where
 
     pub clip_not : (x : Refusal) → r ≡ Err x → Ans.refused (number_of x) ≡ node_in (file_table b) s p i
     clip_not x q = rw e (sym (ap (λ y. then_answer y (clip_node_here s)) (sym is-r ∙ ap answer_of q)))
-
--- of a box or of the file
-module _ (s : List ℕ) (t : Tables) (i : ℕ) (w : Result Words Refusal) (b : Bool) (is_b : b ≡ is_box t.table) where
-  a_box : (tab : HullTable) → is_box tab ≡ true → tab ≡ Box
-  a_box Render e = let z : ◌≡◌ {A = ℕ} 0 1 = cc in absurd (omega arith)
-  a_box Clip e = let z : ◌≡◌ {A = ℕ} 0 1 = cc in absurd (omega arith)
-  a_box Box e = refl
-
-  pub box_at_lem : b ≡ true → words_answer Box w ≡ box_node i → words_answer t.table w ≡ node_at s t i
-  unfolding node_at
-  box_at_lem e a = rw (a_box t.table (sym is_b ∙ e)) a
-
-  pub file_at : b ≡ false → (k : Bool) → k ≡ is_render t.table → words_answer (file_table k) w ≡ node_in (file_table k) s t.nodes i → words_answer t.table w ≡ node_at s t i
-  unfolding node_at
-  file_at e k is-k a = rw (← in_file t.table (sym is_b ∙ e), ← is-k) a
 
 -- ---- the contents at an end
 

@@ -1,7 +1,7 @@
 -- Bytes that are a part of a file: what stands in them stands in the file.
 -- Assumes nothing.
 use Rattle.std.proofs.Common.{◌≡◌, ℕ, ◌+◌, ◌*◌, ◌<◌, ◌≤◌, List, length, get_or, take, drop, ap, ◌∙◌, arith, length-drop, length-take-le, get_or-drop, get_or-take}
-use Rattle.nodes.specs.Fast.{u16, u32, plane_here, Within}
+use Rattle.nodes.specs.Fast.{u16, u32, Pair, plane_here, Within}
 
 -- a number's words
 pub u32_pair : (s : List ℕ) (at : ℕ) → u32 s at ≡ u16 s at + 65536 * u16 s (at + 2)
@@ -9,6 +9,10 @@ unfolding u16 u32
 u32_pair s at =
     let q : at + 2 + 1 ≡ at + 3 = omega arith in
     rw q (omega arith)
+
+pub two_words : (s : List ℕ) (at n : ℕ) → ((i : ℕ) → get_or s i 0 < 256) → n ≡ u32 s at → Pair s at n
+unfolding u16
+two_words s at n fits e = (omega (arith, e, fits at, fits (at + 1), u32_pair s at), omega (arith, e, fits at, fits (at + 1), u32_pair s at))
 
 pub within_itself : (s : List ℕ) → Within s s 0
 within_itself s = record { inside = omega arith; same = λ i h. ap (λ (k : ℕ). get_or s k 0) (omega arith) }
@@ -43,3 +47,9 @@ module _ (n s : List ℕ) (a : ℕ) (w : Within n s a) where
   unfolding plane_here
   plane_within at h =
       rw (within_u32 at (omega arith), number at 4 (omega arith), number at 8 (omega arith), number at 12 (omega arith), number at 16 (omega arith))
+
+-- the plane of 20 bytes that stand at a place
+pub plane_taken : (s : List ℕ) (at : ℕ) → at + 20 ≤ length s → plane_here (take 20 (drop at s)) 0 ≡ plane_here s at
+plane_taken s at h =
+    let l : length (take 20 (drop at s)) ≡ 20 = length-take-le 20 (drop at s) (omega (arith, length-drop at s)) in
+    plane_within (take 20 (drop at s)) s at (part_within s at 20 h) 0 (omega (arith, l)) ∙ ap (plane_here s) (omega arith)

@@ -1,6 +1,6 @@
 -- A file that has all nodes and all planes: the bytes of their sections, and what is read from them.
 -- Assumes nothing.
-use Rattle.std.proofs.Common.{◌≡◌, ℕ, ◌+◌, ◌-◌, ◌*◌, ◌<◌, ◌≤◌, Bool, true, false, cond, ltb, leb, List, [], length, take, drop, sym, refl, ap, ◌∙◌, mul-le-mul, arith, length-drop, length-take-le, ltb-false, le-ltb, lt-ltb, leb-true}
+use Rattle.std.proofs.Common.{◌≡◌, ℕ, ◌+◌, ◌-◌, ◌*◌, ◌<◌, ◌≤◌, Bool, true, false, cond, ltb, leb, List, [], length, take, drop, sym, refl, ap, ◌∙◌, mul-le-mul, arith, length-drop, length-take-le, ltb-false, le-ltb, leb-true}
 use Rattle.nodes.specs.Fast.{Within, is_render, node_size}
 use Rattle.nodes.specs.Tables.{is_box}
 use Rattle.nodes.specs.Walks.{is_whole, are_whole, all_bytes, bytes_of}
@@ -9,10 +9,6 @@ use Rattle.nodes.specs.declared.table.Tables.{Tables}
 use Rattle.nodes.proofs.Sections.{part_within}
 
 module _ (p : Part) (size n : ℕ) where
-  pub above_limit : p.readable < p.count → false ≡ is_whole p size n
-  unfolding is_whole
-  above_limit h = simp (lt-ltb p.readable p.count h)
-
   pub by_end : p.count ≤ p.readable → leb (p.at + p.count * size) n ≡ is_whole p size n
   unfolding is_whole
   by_end h = simp (le-ltb p.readable p.count h)
@@ -29,24 +25,6 @@ module _ (p : Part) (size n : ℕ) where
 module _ (t : Tables) (n : ℕ) where
   abbrev on_nodes : Bool
   on_nodes = is_whole t.nodes (node_size (is_render t.table)) n
-
-  pub whole_box : is_box t.table ≡ true → false ≡ are_whole t n
-  unfolding are_whole
-  whole_box e = rw e
-
-  by_parts : is_box t.table ≡ false → cond on_nodes (is_whole t.planes 20 n) false ≡ are_whole t n
-  unfolding are_whole
-  by_parts e = rw e
-
-  module _ (x : is_box t.table ≡ false) (k : Bool) (is-k : k ≡ is_render t.table) (size : ℕ) (is_size : size ≡ node_size k) (b : Bool) (is_b : b ≡ is_whole t.nodes size n) where
-    by_nodes : b ≡ on_nodes
-    by_nodes = is_b ∙ ap (λ (z : ℕ). is_whole t.nodes z n) (is_size ∙ ap node_size is-k)
-
-    pub then_planes : b ≡ true → is_whole t.planes 20 n ≡ are_whole t n
-    then_planes e = sym (ap (λ (y : Bool). cond y (is_whole t.planes 20 n) false) (sym by_nodes ∙ e)) ∙ by_parts x
-
-    pub not_nodes : b ≡ false → false ≡ are_whole t n
-    not_nodes e = sym (ap (λ (y : Bool). cond y (is_whole t.planes 20 n) false) (sym by_nodes ∙ e)) ∙ by_parts x
 
   by_three : (a b c : Bool) → is_box t.table ≡ a → on_nodes ≡ b → is_whole t.planes 20 n ≡ c → cond a false (cond b c false) ≡ true → (is_box t.table ≡ false) × (on_nodes ≡ true) × (is_whole t.planes 20 n ≡ true)
   by_three true b c p q r e = let z : ◌≡◌ {A = ℕ} 0 1 = cc in absurd (omega arith)

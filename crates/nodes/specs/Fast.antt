@@ -42,9 +42,6 @@ is_render Box = false
 abbrev pub Positive : ℕ → Type 0
 Positive n = 0 < n
 
-abbrev pub Byte : ℕ → ℕ → Type 0
-Byte x r = (r ≡ x) × (r < 256)
-
 unfoldable pub u16 : List ℕ → ℕ → ℕ
 u16 s at = slice_index s at + 256 * slice_index s (at + 1)
 

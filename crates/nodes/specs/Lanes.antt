@@ -30,6 +30,9 @@ lane_end t l = (end_of t l.word, l.visits)
 
 -- ---- for private contracts
 
+abbrev pub lane_at : ℕ → ℕ → Lane
+lane_at w v = record { word = w; visits = v }
+
 -- what is left of a walk that stands at a word after v visits
 unfoldable pub rest : List ℕ → Tables → Vector3 → ℕ → ℕ → Answer (End × ℕ)
 rest s t p w v = cond (nat_lt w 32768) (after v (walk (ends (table s t)) (t.nodes.count - v) w p)) (answer (end_of t.table w, v))

@@ -1,6 +1,6 @@
 -- The node tables that walks, traces and the tree check go down: render nodes, clip nodes, and the six nodes of a box.
 -- Records are read as the accessors read them: 23 where one cannot be read. (Their 20 does not show: an index is tested before, with 30.)
-use Rattle.std.specs.Prelude.{ℕ, zero, suc, Bool, true, false, List, [], ◌∷◌, nat_lt}
+use Rattle.std.specs.Prelude.{ℕ, zero, suc, Bool, true, false, cond, List, [], ◌∷◌, Option, Some, None, eqb, nat_lt}
 use Rattle.math.specs.Plane.{axis_x, axis_y, axis_z}
 use Rattle.math.specs.declared.vector.Vector3.{Vector3}
 use Rattle.math.specs.declared.plane.Hyperplane.{Hyperplane}
@@ -144,6 +144,10 @@ abbrev pub is_box : HullTable → Bool
 is_box Render = false
 is_box Clip = false
 is_box Box = true
+
+-- the node table of a number: 0 render nodes, 1 clip nodes, 2 a box
+unfoldable pub table_numbered : ℕ → Option HullTable
+table_numbered n = cond (eqb n 0) (Some Render) (cond (eqb n 1) (Some Clip) (cond (eqb n 2) (Some Box) None))
 
 -- the table of the file's nodes, render nodes or clip nodes
 abbrev pub file_table : Bool → HullTable

@@ -1,7 +1,8 @@
 -- For the contracts of functions below the calls; a reader of the calls may leave this file out.
 -- The walk of a point to an end (`walk_to_end`), and what a trace sees at a node (`segment_in`, `segment_any`): both make something of a node and its
 -- plane. Then the bytes of the nodes and the planes, where the file has all of them (`are_whole`, `node_bytes`, `plane_bytes`).
-use Rattle.std.specs.Prelude.{Result, Ok, Err, ◌≡◌, ℕ, ◌+◌, ◌*◌, ◌/◌, ◌≤◌, Bool, true, false, cond, List, [], ◌++◌, length, take, drop, nat_le, nat_lt, Float}
+use Rattle.std.specs.Prelude.{Result, Ok, Err, ◌≡◌, ℕ, ◌+◌, ◌*◌, ◌/◌, Bool, true, false, cond, List, [], ◌++◌, length, take, drop, nat_le, nat_lt, Float}
+use Rattle.std.specs.Borrow.{Bor}
 use Rattle.format.specs.Answer.{Answer, answer, refused, mapped, then_answer}
 use Rattle.format.specs.Refusal.{number_of}
 use Rattle.format.specs.declared.refusal.Refusal.{Refusal}
@@ -52,15 +53,10 @@ abbrev pub MadeIn : {X : Type 0} → (Entered End → X) → Bool → List ℕ �
 MadeIn make render n m at x =
     (s : List ℕ) (a b : ℕ) → Within n s a → Within m s b → x ≡ made_at make render s (a + at) b (length m / 20)
 
--- for private contracts: a node's words and the place of its plane among the bytes m
-abbrev pub found_answer : HullTable → List ℕ → Result (Words × ℕ) Refusal → Answer (Entered End)
-found_answer t m (Ok (w, at)) = answer (record { nd = node_of t w; plane = plane_here m at })
-found_answer t m (Err e) = refused (number_of e)
-
--- they are of the node at a place of the bytes n, and the plane lies within the bytes m
-pub record FoundIn (render : Bool) (n m : List ℕ) (at : ℕ) (r : Result (Words × ℕ) Refusal) : Type 0 where
-  pub made : MadeIn (λ x. x) render n m at (found_answer (file_table render) m r)
-  pub inside : (w : Words) (p : ℕ) → r ≡ Ok (w, p) → p + 20 ≤ length m
+-- for private contracts: a node's words and its plane's bytes
+abbrev pub found_answer : HullTable → Result (Words × Bor (List ℕ)) Refusal → Answer (Entered End)
+found_answer t (Ok (w, b)) = answer (record { nd = node_of t w; plane = plane_here b.now 0 })
+found_answer t (Err e) = refused (number_of e)
 
 -- a walk makes the child on the point's side
 abbrev pub child_toward : Vector3 → Entered End → Child End

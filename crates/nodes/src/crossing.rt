@@ -1,13 +1,13 @@
 // What a trace needs where a segment crosses a plane and where it comes to an end, from the bytes of planes and leaves; and whether a file
 // has all nodes, planes and leaves.
-ghost use Rattle.std.specs.Prelude.{◌≡◌, ◌+◌, ◌≤◌, length};
+ghost use Rattle.std.specs.Prelude.{◌≡◌};
 ghost use Rattle.format.specs.Answer.{mapped};
 ghost use Rattle.format.specs.Answers.{answer_of};
 ghost use Rattle.nodes.specs.Fast as Fast;
 ghost use Rattle.nodes.specs.Owned as Owned;
 
-use crate::bytes::{f32_at, u32_at};
-use crate::here::{along, leaf_contents, normal_at};
+use crate::bytes::{f32_at, plane_bytes_at, u32_at};
+use crate::here::{along, leaf_contents, normal_of};
 use crate::read::is_front;
 use crate::table::Tables;
 use crate::whole::{are_whole, bytes_of, is_whole};
@@ -16,21 +16,21 @@ use format::contents::BspLeafContents;
 use format::refusal::{Answer, Refusal};
 use math::{Hyperplane, Vector3};
 
-// On which sides of the plane at a place two points lie.
-fn sides_here(planes: &[u8], at: usize, p: Vector3, q: Vector3) -> (bool, bool)
-    requires { at + 20 ≤ length planes.now }
-    ensures { Owned.sides_of result ≡ Owned.two_sides p q (Fast.plane_here planes.now at) }
+// On which sides of a plane two points lie.
+fn sides_here(bytes: &[u8; 20], p: Vector3, q: Vector3) -> (bool, bool)
+    ensures { Owned.sides_of result ≡ Owned.two_sides p q (Fast.plane_here bytes.now 0) }
 {
-    let dist = f32_at(planes, at + 12);
-    let kind = u32_at(planes, at + 16);
+    let dist = f32_at(bytes, 12);
+    let kind = u32_at(bytes, 16);
     if kind < 3 {
         return (along(p, kind) >= dist, along(q, kind) >= dist);
     }
-    let plane = Hyperplane::new(normal_at(planes, at), dist);
+    let plane = Hyperplane::new(normal_of(bytes), dist);
     (is_front(plane.point_side(p)), is_front(plane.point_side(q)))
 }
 
 // On which sides of the plane of a number. 30: there is no such plane.
+#[tactic(auto, using(crate::proofs::Numbering::outside_30, crate::proofs::Numbering::there))]
 pub fn sides_in(planes: &[u8], number: u32, p: Vector3, q: Vector3) -> Answer<(bool, bool)>
     ensures { Owned.sides_answer result ≡ mapped (Owned.two_sides p q) (Owned.plane_of planes.now number) }
 {
@@ -38,7 +38,7 @@ pub fn sides_in(planes: &[u8], number: u32, p: Vector3, q: Vector3) -> Answer<(b
     if planes.len() / 20 <= index {
         return Err(Refusal::IndexOutsideTable);
     }
-    Ok(sides_here(planes, index * 20, p, q))
+    Ok(sides_here(plane_bytes_at(planes, index * 20), p, q))
 }
 
 // The contents at an end, by the bytes of the leaves, when it is met: 30, then 23; a word that is no contents is 23.

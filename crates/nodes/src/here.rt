@@ -3,7 +3,7 @@ ghost use Rattle.std.specs.Prelude.{◌≡◌, ◌+◌, ◌≤◌, true, false, 
 ghost use Rattle.format.specs.Answers.{answer_of};
 ghost use Rattle.nodes.specs.Fast as Fast;
 
-use crate::bytes::{f32_at, pair_at, u16_at, u32_at};
+use crate::bytes::{f32_at, u16_at, u32_at};
 use crate::lines::point_of;
 use crate::read::Words;
 use format::code::contents_of;
@@ -13,6 +13,7 @@ use math::{Hyperplane, Vector3};
 
 // Whether the word of a clip node's child is neither a node nor contents: the codes are 65536 less it, 1 to 6 and 9 to 14. With 14 added
 // to them, the words of these contents are 0 to 5 and 8 to 13, and the nodes 14 to 32781.
+#[tactic(auto, using(crate::proofs::Clips::turned_high, crate::proofs::Clips::turned_low))]
 pub fn is_invalid(word: u16) -> bool
     ensures { result ≡ Fast.invalid word }
 {
@@ -41,7 +42,7 @@ pub fn clip_words(s: &[u8], at: usize) -> Answer<Words>
     }
     Ok(Words {
         plane,
-        both: pair_at(s, at + 4),
+        both: u32_at(s, at + 4),
     })
 }
 
@@ -59,7 +60,7 @@ pub fn render_words(s: &[u8], at: usize) -> Answer<Words>
     }
     Ok(Words {
         plane,
-        both: pair_at(s, at + 4),
+        both: u32_at(s, at + 4),
     })
 }
 
@@ -76,53 +77,53 @@ pub fn along(p: Vector3, axis: u32) -> f32
     }
 }
 
-pub fn normal_at(s: &[u8], at: usize) -> Vector3
-    requires { at + 12 ≤ length s.now }
-    ensures { result ≡ Fast.normal s.now at }
+// The normal in a plane's twenty bytes.
+pub fn normal_of(bytes: &[u8; 20]) -> Vector3
+    ensures { result ≡ Fast.normal bytes.now 0 }
 {
-    Vector3::new(f32_at(s, at), f32_at(s, at + 4), f32_at(s, at + 8))
+    Vector3::new(f32_at(bytes, 0), f32_at(bytes, 4), f32_at(bytes, 8))
 }
 
+// How far two points are from the plane of twenty bytes.
 #[inline(always)]
-pub fn dists_here(s: &[u8], at: usize, p: Vector3, q: Vector3) -> (f32, f32)
-    requires { at + 20 ≤ length s.now }
-    ensures { result ≡ Fast.two_dists p q (Fast.plane_here s.now at) }
+pub fn dists_here(bytes: &[u8; 20], p: Vector3, q: Vector3) -> (f32, f32)
+    ensures { result ≡ Fast.two_dists p q (Fast.plane_here bytes.now 0) }
 {
-    let dist = f32_at(s, at + 12);
-    let kind = u32_at(s, at + 16);
+    let dist = f32_at(bytes, 12);
+    let kind = u32_at(bytes, 16);
     if kind < 3 {
         return (along(p, kind) - dist, along(q, kind) - dist);
     }
-    let plane = Hyperplane::new(normal_at(s, at), dist);
+    let plane = Hyperplane::new(normal_of(bytes), dist);
     (plane.point_dist(p), plane.point_dist(q))
 }
 
 // The same of points that are lists of three, so that the coordinate along an axis is found by its number and not by a branch
 // (docs/DECISIONS.md 102).
-pub fn ends_here(s: &[u8], at: usize, p: &[f32; 3], q: &[f32; 3]) -> (f32, f32)
-    requires { at + 20 ≤ length s.now }
-    ensures { result ≡ Fast.two_dists (Fast.point_of p.now) (Fast.point_of q.now) (Fast.plane_here s.now at) }
+pub fn ends_here(bytes: &[u8; 20], p: &[f32; 3], q: &[f32; 3]) -> (f32, f32)
+    ensures { result ≡ Fast.two_dists (Fast.point_of p.now) (Fast.point_of q.now) (Fast.plane_here bytes.now 0) }
 {
-    let dist = f32_at(s, at + 12);
-    let kind = u32_at(s, at + 16);
+    let dist = f32_at(bytes, 12);
+    let kind = u32_at(bytes, 16);
     if kind < 3 {
         return (p[kind as usize] - dist, q[kind as usize] - dist);
     }
-    let plane = Hyperplane::new(normal_at(s, at), dist);
+    let plane = Hyperplane::new(normal_of(bytes), dist);
     (plane.point_dist(point_of(p)), plane.point_dist(point_of(q)))
 }
 
+// The plane of twenty bytes: of type 0, 1 or 2 the normal is ignored. A match, since the last arm takes the normal too.
+#[tactic(auto, using(crate::proofs::Planes::here_x, crate::proofs::Planes::here_y, crate::proofs::Planes::here_z, crate::proofs::Planes::here_slanted))]
 #[inline(always)]
-pub fn plane_here(s: &[u8], at: usize) -> Hyperplane
-    requires { at + 20 ≤ length s.now }
-    ensures { result ≡ Fast.plane_here s.now at }
+pub fn plane_here(bytes: &[u8; 20]) -> Hyperplane
+    ensures { result ≡ Fast.plane_here bytes.now 0 }
 {
-    let dist = f32_at(s, at + 12);
-    match u32_at(s, at + 16) {
+    let dist = f32_at(bytes, 12);
+    match u32_at(bytes, 16) {
         0 => Hyperplane::axis_x(dist),
         1 => Hyperplane::axis_y(dist),
         2 => Hyperplane::axis_z(dist),
-        _ => Hyperplane::new(normal_at(s, at), dist),
+        _ => Hyperplane::new(normal_of(bytes), dist),
     }
 }
 

@@ -1,6 +1,5 @@
-// The walks of two points side by side: a processor waits for the records of one while it reads those of the other. A step is one function
-// with two callers, so that it stays a call, in which the side of an axis plane is no branch; where the points are spread out no processor
-// foresees it.
+// The walks of two points side by side: a processor waits for the records of one while it reads those of the other. A step stays a call, in
+// which the side of an axis plane is no branch; where the points are spread out no processor predicts it.
 ghost use Rattle.std.specs.Prelude.{◌≡◌, ◌+◌, ◌*◌, ◌/◌, ◌<◌, ◌≤◌, length};
 ghost use Rattle.math.specs.Vector as Vec;
 ghost use Rattle.math.specs.Plane as Pl;
@@ -11,11 +10,10 @@ ghost use Rattle.nodes.specs.Lanes as Lanes;
 ghost use Rattle.nodes.specs.Answers as Answers;
 
 use crate::bytes::{f32_at, u32_at};
-use crate::here::normal_at;
+use crate::here::normal_of;
 use crate::read::{Words, is_front};
 use crate::table::Tables;
-use crate::whole::{Sections, are_whole, node_bytes, plane_bytes};
-use format::refusal::Answer;
+use crate::whole::{Sections, are_whole, sections_of};
 use math::{Hyperplane, Vector3};
 
 // The word of the end that a walk comes to, and how many nodes it entered.
@@ -25,32 +23,24 @@ pub struct Lane {
     pub visits: u32,
 }
 
-// The child's word on the point's side of the plane at a place. The coordinate comes from a list.
-fn word_beside(planes: &[u8], at: usize, words: Words, point: Vector3) -> u16
-    requires { at + 20 ≤ length planes.now }
-    ensures { result ≡ Walks.word_at words (Pl.point_side (Fast.plane_here planes.now at) point) }
+// The child's word on the point's side of a plane. The coordinate comes from a list.
+fn word_beside(bytes: &[u8; 20], words: Words, point: Vector3) -> u16
+    ensures { result ≡ Walks.word_at words (Pl.point_side (Fast.plane_here bytes.now 0) point) }
 {
-    let dist = f32_at(planes, at + 12);
-    let kind = u32_at(planes, at + 16);
+    let dist = f32_at(bytes, 12);
+    let kind = u32_at(bytes, 16);
     if kind < 3 {
         let coordinates = [point.x, point.y, point.z];
         return words.on(coordinates[kind as usize] >= dist);
     }
-    words.on(is_front(Hyperplane::new(normal_at(planes, at), dist).point_side(point)))
+    words.on(is_front(Hyperplane::new(normal_of(bytes), dist).point_side(point)))
 }
 
 impl<'a> Sections<'a> {
-    // The child's word that the point goes on to, from the bytes of the two sections.
-    fn onward_beside(&self, index: usize, point: Vector3) -> Answer<u16>
-        requires { index * Fast.node_size self.now.render + Fast.node_size self.now.render ≤ length self.now.nodes.now }
-        ensures { Walks.MadeIn (Walks.child_toward point) self.now.render self.now.nodes.now self.now.planes.now (index * Fast.node_size self.now.render) (Walks.onward_answer (Spec.file_table self.now.render) result) }
-    {
-        let (words, at) = self.found_in(index)?;
-        Ok(word_beside(self.planes, at, words, point))
-    }
-
     // A step of a walk that stands at a word: the next word, the same at an end, 65536 where the walk is refused. The sections are lent, and
     // numbers alone go in and out beside them, so that they stay in registers.
+    #[tactic(auto, using(crate::proofs::Beside::at_an_end, crate::proofs::Beside::outside, crate::proofs::Beside::spent, crate::proofs::Making::room))]
+    #[inline(never)]
     fn step(&self, count: u32, word: u32, visits: u32, x: f32, y: f32, z: f32) -> u32
         requires { (word < 65536) × (count ≤ length self.now.nodes.now / Fast.node_size self.now.render) }
         ensures { Lanes.StepsIn self.now.nodes.now self.now.planes.now self.now.render count (Vec.vector x y z) word visits result }
@@ -64,9 +54,9 @@ impl<'a> Sections<'a> {
         if count <= visits {
             return 65536;
         }
-        match self.onward_beside(word as usize, Vector3 { x, y, z }) {
+        match self.found_at(word as usize) {
             Err(_) => 65536,
-            Ok(next) => next as u32,
+            Ok((words, plane)) => word_beside(plane, words, Vector3 { x, y, z }) as u32,
         }
     }
 }
@@ -90,8 +80,20 @@ fn ended(a: u32, b: u32) -> bool
     false
 }
 
-// Two walks, from the words of two children, to their ends; no number says beforehand after how many steps. Nothing is said where one of them is refused, or the file does not have all nodes
-// and planes.
+// The lane that stands at a word.
+#[inline(always)]
+fn lane_at(word: u32, visits: u32) -> Lane
+    requires { word < 65536 }
+    ensures { result ≡ Lanes.lane_at word visits }
+{
+    Lane {
+        word: word as u16,
+        visits,
+    }
+}
+
+// Two walks, from the words of two children, to their ends. No range: each ends by itself, after at most as many steps as there are nodes.
+// Nothing is said where one of them is refused, or the file does not have all nodes and planes.
 pub fn walk_two(
     s: &[u8],
     t: Tables,
@@ -106,12 +108,7 @@ pub fn walk_two(
     if !whole {
         return None;
     }
-    let table = t.table;
-    let sections = Sections {
-        nodes: node_bytes(s, t, whole),
-        planes: plane_bytes(s, t, whole),
-        render: table.is_render(),
-    };
+    let sections = sections_of(s, t, whole);
     let mut a = first as u32;
     let mut b = second as u32;
     let mut m: u32 = 0;
@@ -132,14 +129,5 @@ pub fn walk_two(
         a = c;
         b = d;
     }
-    Some((
-        Lane {
-            word: a as u16,
-            visits: m,
-        },
-        Lane {
-            word: b as u16,
-            visits: n,
-        },
-    ))
+    Some((lane_at(a, m), lane_at(b, n)))
 }

@@ -1,13 +1,13 @@
 // Planes of the file by their number, from the bytes of those that can be read: for a node table that a caller lends, whose planes are the
 // file's. One test of the number (30) and one of the bytes (23) a plane. `count` is how many planes the section has; `planes` are the bytes of
-// those that can be read, which may be fewer.
+// those that can be read, which may be fewer: so the count is no length, and stands beside the bytes in each reader, as in the callers' table.
 ghost use Rattle.std.specs.Prelude.{◌≡◌, ◌/◌, min, if◌then◌else◌};
 ghost use Rattle.format.specs.Answers.{answer_of};
 ghost use Rattle.nodes.specs.Fast as Fast;
 ghost use Rattle.nodes.specs.Numbered as Numbered;
 
-use crate::bytes::{f32_at, u32_at};
-use crate::here::{dists_here, normal_at, plane_here};
+use crate::bytes::{f32_at, plane_bytes_at, u32_at};
+use crate::here::{dists_here, normal_of, plane_here};
 use crate::read::is_front;
 use format::refusal::{Answer, Refusal};
 use format::section::BspFileSection;
@@ -67,14 +67,14 @@ pub fn pick_by_number(
         }
         return Err(Refusal::Unreadable);
     }
-    let at = (number as usize) * 20;
-    let dist = f32_at(planes, at + 12);
-    let kind = u32_at(planes, at + 16);
+    let bytes = plane_bytes_at(planes, (number as usize) * 20);
+    let dist = f32_at(bytes, 12);
+    let kind = u32_at(bytes, 16);
     if kind < 3 {
         let coordinates = [point.x, point.y, point.z];
         return Ok(of_two(front, back, coordinates[kind as usize] >= dist));
     }
-    let plane = Hyperplane::new(normal_at(planes, at), dist);
+    let plane = Hyperplane::new(normal_of(bytes), dist);
     if is_front(plane.point_side(point)) {
         return Ok(front);
     }
@@ -82,6 +82,7 @@ pub fn pick_by_number(
 }
 
 // How far two points are from the plane of a number.
+#[tactic(auto, using(crate::proofs::Numbering::outside_30, crate::proofs::Numbering::unread_23, crate::proofs::Numbering::there))]
 pub fn dists_by_number(
     planes: &[u8],
     count: u32,
@@ -98,10 +99,11 @@ pub fn dists_by_number(
     if planes.len() < at + 20 {
         return Err(Refusal::Unreadable);
     }
-    Ok(dists_here(planes, at, p, q))
+    Ok(dists_here(plane_bytes_at(planes, at), p, q))
 }
 
 // The plane of a number.
+#[tactic(auto, using(crate::proofs::Numbering::outside_30, crate::proofs::Numbering::unread_23, crate::proofs::Numbering::there))]
 pub fn plane_by_number(planes: &[u8], count: u32, number: u32) -> Answer<Hyperplane>
     ensures { answer_of result ≡ Numbered.plane_numbered planes.now count number }
 {
@@ -112,5 +114,5 @@ pub fn plane_by_number(planes: &[u8], count: u32, number: u32) -> Answer<Hyperpl
     if planes.len() < at + 20 {
         return Err(Refusal::Unreadable);
     }
-    Ok(plane_here(planes, at))
+    Ok(plane_here(plane_bytes_at(planes, at)))
 }

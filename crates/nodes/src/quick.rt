@@ -9,22 +9,21 @@ ghost use Rattle.nodes.specs.Walks as Walks;
 ghost use Rattle.nodes.specs.Quick as Quick;
 
 use crate::bytes::{f32_at, u32_at};
-use crate::here::{leaf_contents, normal_at};
+use crate::here::{leaf_contents, normal_of};
 use crate::read::{Words, is_front};
-use crate::table::{HullTable, Part, Tables};
+use crate::table::{HullTable, Tables, part_with};
 use crate::whole::{Sections, are_whole, node_bytes, plane_bytes};
 use format::code::contents_of;
-use format::refusal::Answer;
 use math::{Hyperplane, Vector3};
 
-// The child's word on the point's side of the plane at a place. The side is a branch, and another one for each axis: where the points move
-// little from call to call, as a game's do, a processor foresees it.
-fn word_ahead(planes: &[u8], at: usize, words: Words, point: Vector3) -> u16
-    requires { at + 20 ≤ length planes.now }
-    ensures { result ≡ Walks.word_at words (Pl.point_side (Fast.plane_here planes.now at) point) }
+// The child's word on the point's side of a plane. The side is a branch, and another one for each axis: where the points move little from call
+// to call, as a game's do, a processor predicts it. (The readers of a plane here, in `here`, `lanes`, `lines`, `crossing` and `numbered` differ in
+// how they come by a coordinate, which is where their time goes: one reader for all would take that as a parameter, and be no plainer.)
+fn word_ahead(bytes: &[u8; 20], words: Words, point: Vector3) -> u16
+    ensures { result ≡ Walks.word_at words (Pl.point_side (Fast.plane_here bytes.now 0) point) }
 {
-    let dist = f32_at(planes, at + 12);
-    let kind = u32_at(planes, at + 16);
+    let dist = f32_at(bytes, 12);
+    let kind = u32_at(bytes, 16);
     if kind == 0 {
         return words.on(point.x >= dist);
     }
@@ -34,13 +33,14 @@ fn word_ahead(planes: &[u8], at: usize, words: Words, point: Vector3) -> u16
     if kind == 2 {
         return words.on(point.z >= dist);
     }
-    words.on(is_front(Hyperplane::new(normal_at(planes, at), dist).point_side(point)))
+    words.on(is_front(Hyperplane::new(normal_of(bytes), dist).point_side(point)))
 }
 
 // Where a walk of so many visits stops that does not go on to a node: at the end of a word, or refused.
 fn stopped(word: u16, visits: u64) -> u64
     requires { visits < 4294967296 }
-    ensures { result ≡ (if nat_lt word 32768 then 0 else word * 4294967296 + visits) }
+    ensures said { result ≡ (if nat_lt word 32768 then 0 else word * 4294967296 + visits) }
+    ensures bounded { result < 281474976710656 }
 {
     if word < 32768 {
         return 0;
@@ -49,19 +49,11 @@ fn stopped(word: u16, visits: u64) -> u64
 }
 
 impl<'a> Sections<'a> {
-    // The child's word that the point goes on to, from the bytes of the two sections.
-    fn onward_ahead(&self, index: usize, point: Vector3) -> Answer<u16>
-        requires { index * Fast.node_size self.now.render + Fast.node_size self.now.render ≤ length self.now.nodes.now }
-        ensures { Walks.MadeIn (Walks.child_toward point) self.now.render self.now.nodes.now self.now.planes.now (index * Fast.node_size self.now.render) (Walks.onward_answer (Spec.file_table self.now.render) result) }
-    {
-        let (words, at) = self.found_in(index)?;
-        Ok(word_ahead(self.planes, at, words, point))
-    }
-
     // The walk by the bytes of the two sections. As a `for` over the visits it takes three instructions more a node, and some 4% more time.
     fn walk_whole(&self, root: usize, point: Vector3) -> u64
         requires { length self.now.nodes.now / Fast.node_size self.now.render < 32768 }
-        ensures { Quick.QuickIn self.now.nodes.now self.now.planes.now self.now.render root point result }
+        ensures said { Quick.QuickIn self.now.nodes.now self.now.planes.now self.now.render root point result }
+        ensures bounded { result < 281474976710656 }
     {
         let count = self.node_count();
         if count <= root {
@@ -70,9 +62,10 @@ impl<'a> Sections<'a> {
         let mut node = root;
         let mut visits: u64 = 0;
         while visits < (count as u64) {
-            let Ok(word) = self.onward_ahead(node, point) else {
+            let Ok((words, plane)) = self.found_at(node) else {
                 return 0;
             };
+            let word = word_ahead(plane, words, point);
             visits += 1;
             if count <= (word as usize) {
                 return stopped(word, visits);
@@ -80,24 +73,6 @@ impl<'a> Sections<'a> {
             node = word as usize;
         }
         0
-    }
-}
-
-// So many records from a place on, of which the limit allows so many.
-fn part_with(at: u32, count: u32, limit: u32) -> Part
-    ensures { result ≡ Quick.part_with at count limit }
-{
-    if limit < count {
-        return Part {
-            at,
-            count,
-            readable: 0,
-        };
-    }
-    Part {
-        at,
-        count,
-        readable: count,
     }
 }
 
@@ -116,7 +91,9 @@ fn tables_by(render: bool, at: u32, count: u32, planes_at: u32, planes_count: u3
 }
 
 // The walk of the point (x, y, z) down the render nodes or the clip nodes of a file, which lie from `at` on and are so many, and so the
-// planes: the end's word times 2^32 and the visits, or 0 where the file does not have all of them or the walk is refused.
+// planes: the end's word times 2^32 and the visits, or 0 where the file does not have all of them or the walk is refused. (The places, the counts
+// and the coordinates travel as numbers: lent as structs they are written to memory and read again before the walk begins. And one number is
+// answered, not an Option of two: an end's word is 32768 or more, so 0 is no answer.)
 pub fn walk_quick(
     s: &[u8],
     at: u32,
@@ -129,7 +106,8 @@ pub fn walk_quick(
     y: f32,
     z: f32,
 ) -> u64
-    ensures { Quick.quick_answer (Spec.file_table render) result ≡ Quick.quick_walk s.now (Quick.tables_by render at count planes_at planes_count) root (Vec.vector x y z) }
+    ensures said { Quick.quick_answer (Spec.file_table render) result ≡ Quick.quick_walk s.now (Quick.tables_by render at count planes_at planes_count) root (Vec.vector x y z) }
+    ensures bounded { result < 281474976710656 }
 {
     let t = tables_by(render, at, count, planes_at, planes_count);
     let whole = are_whole(t, s.len());
@@ -144,7 +122,7 @@ pub fn walk_quick(
     sections.walk_whole(root, Vector3 { x, y, z })
 }
 
-// The code of the leaf at a place.
+// The code of the leaf at a place, 0 where it is refused: no code is 0. (One number, as of the walk.)
 fn leaf_code(s: &[u8], at: usize) -> u32
     requires { at + 28 ≤ length s.now }
     ensures { result ≡ Quick.code_or (Fast.leaf_contents_here s.now at) }
@@ -155,7 +133,7 @@ fn leaf_code(s: &[u8], at: usize) -> u32
     }
 }
 
-// The code that stands in a clip node.
+// The code that stands in a clip node, 0 where the word is none: no code is 0.
 fn word_code(word: u16) -> u32
     ensures { result ≡ Quick.code_or (Quick.word_contents word) }
 {
@@ -165,7 +143,9 @@ fn word_code(word: u16) -> u32
     }
 }
 
-// The code of the contents of the end that a word stands for, with so many leaves from `at` on; 0 where it is refused.
+// The code of the contents of the end that a word stands for, with so many leaves from `at` on; 0 where it is refused. (No code is 0,
+// so one number is answered, as of the walk.)
+#[tactic(auto, using(crate::proofs::Quicks::code_leaf, crate::proofs::Quicks::code_word, crate::proofs::Places::within))]
 pub fn end_code(s: &[u8], at: u32, count: u32, render: bool, word: u16) -> u32
     ensures { result ≡ Quick.end_code s.now render at count word }
 {

@@ -5,6 +5,7 @@ ghost use Rattle.math.specs.Plane as Pl;
 ghost use Rattle.nodes.specs.Fast as Fast;
 ghost use Rattle.nodes.specs.Tables as Spec;
 
+use crate::bytes::plane_bytes_at;
 use crate::here::{clip_words, leaf_contents, plane_here, render_words};
 use crate::table::{HullTable, Part, Tables};
 use format::code::contents_of;
@@ -52,6 +53,7 @@ impl Words {
 }
 
 // The nodes of a box, in the order of `for_bounds`; 65535 is Empty and 65534 Solid.
+#[tactic(auto, unfolding(crate::specs::Fast::box_node, format::specs::Code::contents_of), using(crate::proofs::Readers::nth_past))]
 fn box_words(index: usize) -> Answer<Words>
     ensures { Fast.words_answer HullTable.Box result ≡ Fast.box_node index }
 {
@@ -85,6 +87,7 @@ fn box_words(index: usize) -> Answer<Words>
 }
 
 // The words of a node of the file: a render node or a clip node.
+#[tactic(auto, using(crate::proofs::Readers::no_node, crate::proofs::Readers::render_not, crate::proofs::Readers::clip_not, crate::proofs::Places::within))]
 fn file_words(s: &[u8], nodes: Part, render: bool, index: usize) -> Answer<Words>
     ensures { Fast.words_answer (Spec.file_table render) result ≡ Fast.node_in (Spec.file_table render) s.now nodes index }
 {
@@ -110,13 +113,11 @@ pub fn read_words(s: &[u8], t: Tables, index: usize) -> Answer<Words>
 }
 
 // Whether a side is the positive one.
+#[tactic(auto, using(math::proofs::Same::equal_sides, crate::proofs::Planes::front_side))]
 pub fn is_front(side: HyperplaneSide) -> bool
     ensures { Pl.side_if result ≡ side }
 {
-    match side {
-        HyperplaneSide::Positive => true,
-        HyperplaneSide::Negative => false,
-    }
+    side == HyperplaneSide::Positive
 }
 
 // The planes of a box, in the order of `for_bounds`.
@@ -136,6 +137,7 @@ fn box_plane(mins: Vector3, maxs: Vector3, index: usize) -> Answer<Hyperplane>
 }
 
 // The plane of an index.
+#[tactic(auto, using(crate::proofs::Planes::no_plane, crate::proofs::Planes::box_plane_lem, crate::proofs::Places::within))]
 pub fn plane_at(s: &[u8], t: Tables, index: usize) -> Answer<Hyperplane>
     ensures { answer_of result ≡ Fast.plane_in s.now t index }
 {
@@ -148,7 +150,7 @@ pub fn plane_at(s: &[u8], t: Tables, index: usize) -> Answer<Hyperplane>
         return box_plane(t.mins, t.maxs, index);
     }
     let at = planes.place(20, s.len(), index)?;
-    Ok(plane_here(s, at))
+    Ok(plane_here(plane_bytes_at(s, at)))
 }
 
 // How far two points are from the plane of an index.
@@ -170,6 +172,7 @@ pub fn side_at(s: &[u8], t: Tables, index: usize, p: Vector3) -> Answer<bool>
 }
 
 // The contents at an end, when it is met: 30, then 23; a word that is no contents is 23.
+#[tactic(auto, using(crate::proofs::Readers::no_leaf, crate::proofs::Readers::leaf_not, crate::proofs::Readers::code_met, crate::proofs::Places::within))]
 pub fn end_contents(s: &[u8], t: Tables, word: u16) -> Answer<BspLeafContents>
     ensures { answer_of result ≡ Fast.contents_met s.now t word }
 {

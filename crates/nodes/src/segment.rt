@@ -1,35 +1,24 @@
 // What a segment's way down needs of a node: its words, and how far the segment's ends are from its plane.
-ghost use Rattle.std.specs.Prelude.{◌≡◌, ◌+◌, ◌*◌, ◌≤◌, length};
-ghost use Rattle.nodes.specs.Fast as Fast;
-ghost use Rattle.nodes.specs.Tables as Spec;
+ghost use Rattle.std.specs.Prelude.{◌≡◌};
 ghost use Rattle.nodes.specs.Walks as Walks;
 
 use crate::here::dists_here;
 use crate::read::{Words, dists_at, read_words};
 use crate::table::Tables;
 use crate::whole::Sections;
-use format::refusal::{Answer, Refusal};
+use format::refusal::Answer;
 use math::Vector3;
 
 impl<'a> Sections<'a> {
-    // A node's words, and how far two points are from its plane, from the bytes of the two sections.
-    fn segment_at(&self, index: usize, p: Vector3, q: Vector3) -> Answer<(Words, f32, f32)>
-        requires { index * Fast.node_size self.now.render + Fast.node_size self.now.render ≤ length self.now.nodes.now }
-        ensures { Walks.MadeIn (Walks.node_and_dists p q) self.now.render self.now.nodes.now self.now.planes.now (index * Fast.node_size self.now.render) (Walks.segment_answer (Spec.file_table self.now.render) result) }
-    {
-        let (words, at) = self.found_in(index)?;
-        let (a, b) = dists_here(self.planes, at, p, q);
-        Ok((words, a, b))
-    }
-
-    // The same of the node of an index, whatever the bytes are. 20: there is no such node.
+    // A node's words, and how far two points are from its plane, from the bytes of the two sections. 20: there is no such node. (The points are a
+    // segment's ends: a struct of both would be made from a caller's two and be taken apart at once.)
+    #[tactic(auto, using(crate::proofs::Handed::none_found))]
     pub fn segment_in(&self, index: usize, p: Vector3, q: Vector3) -> Answer<(Words, f32, f32)>
         ensures { Walks.MadeOf (Walks.node_and_dists p q) self.now.render self.now.nodes.now self.now.planes.now index (λ t. Walks.segment_answer t result) }
     {
-        if self.has_node(index) {
-            return self.segment_at(index, p, q);
-        }
-        Err(Refusal::NoSuchRecord)
+        let (words, plane) = self.found_in(index)?;
+        let (a, b) = dists_here(plane, p, q);
+        Ok((words, a, b))
     }
 }
 

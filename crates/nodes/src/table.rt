@@ -2,6 +2,7 @@
 ghost use Rattle.std.specs.Prelude.{◌≡◌};
 ghost use Rattle.format.specs.Answers.{answer_of};
 ghost use Rattle.nodes.specs.Fast as Fast;
+ghost use Rattle.nodes.specs.Quick as Quick;
 ghost use Rattle.nodes.specs.Tables as Spec;
 
 use format::refusal::{Answer, Refusal};
@@ -17,7 +18,8 @@ pub enum HullTable {
 }
 
 impl HullTable {
-    // The render nodes or the clip nodes.
+    // The render nodes or the clip nodes. (A choice of two by a flag, as of a plane's two sides in `math`: one function for both would take the two,
+    // and be the `if` itself.)
     pub fn of_nodes(render: bool) -> HullTable
         ensures { result ≡ Spec.file_table render }
     {
@@ -28,24 +30,29 @@ impl HullTable {
         }
     }
 
+    // The table of a number, as the calls for C give it: 0 the render nodes, 1 the clip nodes, 2 a box.
+    #[tactic(auto, unfolding(crate::specs::Tables::table_numbered))]
+    pub fn numbered(n: u64) -> Option<HullTable>
+        ensures { result ≡ Spec.table_numbered n }
+    {
+        match n {
+            0 => Some(HullTable::Render),
+            1 => Some(HullTable::Clip),
+            2 => Some(HullTable::Box),
+            _ => None,
+        }
+    }
+
     pub fn is_render(self) -> bool
         ensures { result ≡ Fast.is_render self }
     {
-        match self {
-            HullTable::Render => true,
-            HullTable::Clip => false,
-            HullTable::Box => false,
-        }
+        matches!(self, HullTable::Render)
     }
 
     pub fn is_box(self) -> bool
         ensures { result ≡ Spec.is_box self }
     {
-        match self {
-            HullTable::Render => false,
-            HullTable::Clip => false,
-            HullTable::Box => true,
-        }
+        matches!(self, HullTable::Box)
     }
 }
 
@@ -68,24 +75,30 @@ pub struct Tables {
     pub maxs: Vector3,
 }
 
-// A section of records of the given size, of which the limit allows so many.
-fn part_of(section: BspFileSection, size: u32, limit: u32) -> Part
-    requires { Fast.Positive size }
-    ensures { result ≡ Fast.part_of section size limit }
+// So many records from a place on, of which the limit allows so many.
+pub(crate) fn part_with(at: u32, count: u32, limit: u32) -> Part
+    ensures { result ≡ Quick.part_with at count limit }
 {
-    let count = section.size / size;
     if limit < count {
         return Part {
-            at: section.offset,
+            at,
             count,
             readable: 0,
         };
     }
     Part {
-        at: section.offset,
+        at,
         count,
         readable: count,
     }
+}
+
+// A section of records of the given size, of which the limit allows so many.
+fn part_of(section: BspFileSection, size: u32, limit: u32) -> Part
+    requires { Fast.Positive size }
+    ensures { result ≡ Fast.part_of section size limit }
+{
+    part_with(section.offset, section.size / size, limit)
 }
 
 // As many records as a box has nodes, none of them in the file.

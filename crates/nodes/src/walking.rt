@@ -1,5 +1,5 @@
 // The walk of a point down a node table, to the end that it comes to: by numbers alone where the file has all records of the nodes and the
-// planes (`quick`), else record by record.
+// planes (`quick`), else record by record. The coordinates are numbers, as in `quick`.
 ghost use Rattle.std.specs.Prelude.{◌≡◌, ◌<◌};
 ghost use Rattle.math.specs.Vector as Vec;
 ghost use Rattle.walk.specs.Walk.{with_visits, point_walk};

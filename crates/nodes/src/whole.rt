@@ -1,8 +1,10 @@
 // Whether a file has all records of the nodes and the planes, and then their sections' own bytes, from which a record is read with one test.
 ghost use Rattle.std.specs.Prelude.{◌≡◌, ◌+◌, ◌*◌, ◌/◌, ◌≤◌, length, nat_lt};
 ghost use Rattle.nodes.specs.Fast as Fast;
+ghost use Rattle.nodes.specs.Tables as Spec;
 ghost use Rattle.nodes.specs.Walks as Walks;
 
+use crate::bytes::plane_bytes_at;
 use crate::here::{clip_words, render_words};
 use crate::read::Words;
 use crate::table::{Part, Tables};
@@ -41,6 +43,7 @@ pub fn are_whole(t: Tables, len: usize) -> bool
 }
 
 // The bytes of a part where it is asked for and whole, else none.
+#[tactic(auto, using(crate::proofs::Wholes::none_asked, crate::proofs::Wholes::none_whole, crate::proofs::Wholes::bytes_are, crate::proofs::Wholes::ends_inside))]
 pub(crate) fn bytes_of(s: &[u8], part: Part, size: u8, whole: bool) -> &[u8]
     ensures { result.now ≡ Walks.bytes_of whole s.now part size }
 {
@@ -78,6 +81,20 @@ pub struct Sections<'a> {
     pub render: bool,
 }
 
+// The bytes of the nodes and of the planes: none where the file does not have all of them.
+#[inline(always)]
+pub(crate) fn sections_of(s: &[u8], t: Tables, whole: bool) -> Sections<'_>
+    requires { whole ≡ Walks.are_whole t (length s.now) }
+    ensures { Walks.Read s.now t result.nodes.now result.planes.now whole × (result.render ≡ Fast.is_render t.table) }
+{
+    let table = t.table;
+    Sections {
+        nodes: node_bytes(s, t, whole),
+        planes: plane_bytes(s, t, whole),
+        render: table.is_render(),
+    }
+}
+
 impl<'a> Sections<'a> {
     // How many nodes the bytes have.
     #[inline(always)]
@@ -110,17 +127,30 @@ impl<'a> Sections<'a> {
         clip_words(self.nodes, index * 8)
     }
 
-    // The words of a node and the place of its plane. Every reader of both is made of this one.
+    // The words of a node and the bytes of its plane. Two walks need that the node is there, and test it themselves.
+    #[tactic(auto, using(crate::proofs::Making::in_unread, crate::proofs::Making::in_outside))]
     #[inline(always)]
-    pub(crate) fn found_in(&self, index: usize) -> Answer<(Words, usize)>
+    pub(crate) fn found_at(&self, index: usize) -> Answer<(Words, &'a [u8; 20])>
         requires { index * Fast.node_size self.now.render + Fast.node_size self.now.render ≤ length self.now.nodes.now }
-        ensures { Walks.FoundIn self.now.render self.now.nodes.now self.now.planes.now (index * Fast.node_size self.now.render) result }
+        ensures { Walks.MadeIn (λ x. x) self.now.render self.now.nodes.now self.now.planes.now (index * Fast.node_size self.now.render) (Walks.found_answer (Spec.file_table self.now.render) result) }
     {
         let words = self.words_in(index)?;
         let plane = words.plane as usize;
         if self.planes.len() / 20 <= plane {
             return Err(Refusal::IndexOutsideTable);
         }
-        Ok((words, plane * 20))
+        Ok((words, plane_bytes_at(self.planes, plane * 20)))
+    }
+
+    // The same of the node of an index, whatever the bytes are. 20: there is no such node. Every other reader is made of this one.
+    #[tactic(auto, using(crate::proofs::Making::room))]
+    #[inline(always)]
+    pub(crate) fn found_in(&self, index: usize) -> Answer<(Words, &'a [u8; 20])>
+        ensures { Walks.MadeOf (λ x. x) self.now.render self.now.nodes.now self.now.planes.now index (λ t. Walks.found_answer t result) }
+    {
+        if self.has_node(index) {
+            return self.found_at(index);
+        }
+        Err(Refusal::NoSuchRecord)
     }
 }

@@ -29,8 +29,8 @@ use Rattle.hull.specs.Traces.{met_node, met_contents}
 use Rattle.hull.proofs.Descents.{seen_of, plane_of}
 use Rattle.ordered.specs.Rows.{coded_contents, row_of, word_on, rows, met_child, row_answer, row_and_dists, dists_answer}
 use Rattle.ordered.specs.declared.rows.RowWords.{RowWords}
-use Rattle.ordered.specs.declared.rows.Met.{Met}
-use Rattle.ordered.specs.declared.rows.Met.TheVariants as M
+use Rattle.hull.specs.declared.tracing.MetChild.{MetChild}
+use Rattle.hull.specs.declared.tracing.MetChild.TheVariants as M
 use Rattle.ordered.proofs.Laws.{child_node, child_end, made, made_no_plane}
 
 -- ---- the distances that were told
@@ -85,8 +85,8 @@ module _ (bs : List ℕ) (count : ℕ) (ws : List ℤ) where
       unfolding meet
       meets_end h c is_c = ap (Traces.met_child (rows bs count ws)) (child_end w b word is_word h c is_c)
 
-    module _ (m : Met) (is_m : met_child m ≡ child_on (row_of w) (Pl.side_if b)) where
-      pub meets_place : (i : ℕ) → m ≡ M.Place i → child ≡ met_node i
+    module _ (m : MetChild) (is_m : met_child m ≡ child_on (row_of w) (Pl.side_if b)) where
+      pub meets_place : (i : ℕ) → m ≡ M.Node i → child ≡ met_node i
       meets_place i q = sym (ap (Traces.met_child (rows bs count ws)) (sym (ap met_child q) ∙ is_m))
 
       pub meets_contents : (c : BspLeafContents) → m ≡ M.Contents c → child ≡ met_contents c

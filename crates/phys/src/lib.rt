@@ -89,6 +89,7 @@ impl Trace {
 
     // This trace with another that starts at its end. Refused (19) after a terminal trace, and where the points differ; a
     // NaN always differs.
+    #[tactic(auto, using(format::proofs::Same::same_contents), unfolding(crate::specs::Trace::join))]
     pub fn join(self, other: Trace) -> Answer<Trace>
         ensures { answer_of result ≡ Tr.join self other }
     {

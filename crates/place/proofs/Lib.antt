@@ -1,3 +1,4 @@
 -- Laws about the place where loading refuses.
 mod Stops
 pub mod EveryFile
+pub mod Stages

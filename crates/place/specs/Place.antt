@@ -25,7 +25,7 @@ use Rattle.place.specs.Part.{stop_in}
 use Rattle.place.specs.Stop.{stop, here_or}
 use Rattle.place.specs.declared.part.Part.TheVariants as Part
 use Rattle.place.specs.declared.part.Stop.{Stop}
-use Rattle.format.specs.Section.{no_section}
+use Rattle.format.specs.Section.{no_map}
 
 -- the file loads, or it is refused with a number, in a section, at a record and a byte
 pub data Located : Type 0 where
@@ -36,26 +36,6 @@ pub data Located : Type 0 where
 abbrev pub located : {A : Type 0} → Step A → ℕ → Stop → (A → Located) → Located
 located (ok v p) z here next = next v
 located (refused n) z here next = refused_at n z here
-
-abbrev pub no_map : BspData
-no_map = record {
-  entities = no_section;
-  planes = no_section;
-  textures = no_section;
-  vertices = no_section;
-  visibility = no_section;
-  render_nodes = no_section;
-  texinfo = no_section;
-  faces = no_section;
-  lightmaps = no_section;
-  collision_nodes = no_section;
-  leaves = no_section;
-  facelist = no_section;
-  edges = no_section;
-  edgelist = no_section;
-  models = no_section;
-  texture_count = 0;
-}
 
 -- the header: the version, or the first entry of the directory that is refused
 abbrev pub version_stop : Step ℤ → Stop → Stop

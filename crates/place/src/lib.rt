@@ -74,7 +74,7 @@ fn at_start<T>(step: Answer<T>, id: Id, map: BspData) -> Result<T, RefusedAt>
     })
 }
 
-// Where loading refuses a file.
+// Where loading refuses a file. More than 40 lines: nineteen steps, one or two lines each.
 #[tactic(auto, unfolding(crate::specs::Place::place_of))]
 pub fn load_place(file: &[u8]) -> Result<(), RefusedAt>
     ensures { place_answer result ≡ Spec.place_of file.now }

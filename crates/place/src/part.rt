@@ -54,7 +54,7 @@ pub enum Part {
 
 impl Part {
     // The section whose records a part reads; none for the header's entries.
-    pub fn section(self) -> Option<BspFileSectionId>
+    pub(crate) fn section(self) -> Option<BspFileSectionId>
         ensures { result ≡ section_of_part self }
     {
         match self {

@@ -24,27 +24,11 @@ pub fn past<T: Copy>(read: Read<T>) -> Answer<usize>
 }
 
 // The section of an entry of the directory.
-#[tactic(auto, unfolding(crate::specs::Part::id_of))]
+#[tactic(auto, unfolding(crate::specs::Part::id_of, format::specs::Section::section_numbered))]
 fn id_of(i: u32) -> BspFileSectionId
     ensures { result ≡ Spec.id_of i }
 {
-    match i {
-        0 => BspFileSectionId::Entities,
-        1 => BspFileSectionId::Planes,
-        2 => BspFileSectionId::Textures,
-        3 => BspFileSectionId::Vertices,
-        4 => BspFileSectionId::Visibility,
-        5 => BspFileSectionId::RenderNodes,
-        6 => BspFileSectionId::TextureInfo,
-        7 => BspFileSectionId::Faces,
-        8 => BspFileSectionId::Lightmaps,
-        9 => BspFileSectionId::CollisionNodes,
-        10 => BspFileSectionId::Leaves,
-        11 => BspFileSectionId::FaceList,
-        12 => BspFileSectionId::Edges,
-        13 => BspFileSectionId::EdgeList,
-        _ => BspFileSectionId::Models,
-    }
+    BspFileSectionId::numbered(i).unwrap_or(BspFileSectionId::Models)
 }
 
 pub fn past_entry(s: &[u8], i: u32, at: usize) -> Answer<usize>

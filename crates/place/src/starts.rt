@@ -4,34 +4,9 @@ ghost use Rattle.place.specs.Place as Spec;
 
 use crate::part::{Part, Stop, stop_in};
 use format::field::read_i32;
-use format::section::{BspData, BspFileSection};
+use format::section::BspData;
 use load::with_texture_count;
 use records::number::{read_number, read_offset};
-
-// A map record that names nothing.
-fn no_map() -> BspData
-    ensures { result ≡ Spec.no_map }
-{
-    let none = BspFileSection { offset: 0, size: 0 };
-    BspData {
-        entities: none,
-        planes: none,
-        textures: none,
-        vertices: none,
-        visibility: none,
-        render_nodes: none,
-        texinfo: none,
-        faces: none,
-        lightmaps: none,
-        collision_nodes: none,
-        leaves: none,
-        facelist: none,
-        edges: none,
-        edgelist: none,
-        models: none,
-        texture_count: 0,
-    }
-}
 
 // The version, or the first entry of the directory that is refused.
 #[tactic(auto, using(sections::proofs::Version::yes_29, sections::proofs::Version::no_29), unfolding(crate::specs::Place::header_stop))]
@@ -39,12 +14,13 @@ pub fn header_stop(s: &[u8]) -> Stop
     ensures { result ≡ Spec.header_stop s.now }
 {
     match read_i32(s, 0) {
-        Ok((29, _)) => stop_in(s, Part::Directory, no_map()),
+        Ok((29, _)) => stop_in(s, Part::Directory, BspData::default()),
         _ => Stop { index: 0, byte: 0 },
     }
 }
 
-// Where the header of a texture starts whose offset stands at a position of the list; that position where it leads past the file.
+// Where the header of a texture starts whose offset stands at a position of the list; that position where it leads past the file. (The
+// parameters of `section` of `texture_list`, which says why they are no struct.)
 #[tactic(auto, unfolding(crate::specs::Place::start_at))]
 fn start_of(s: &[u8], base: u32, at: usize) -> usize
     ensures { result ≡ Spec.start_at s.now base at }
@@ -52,10 +28,8 @@ fn start_of(s: &[u8], base: u32, at: usize) -> usize
     let Ok((Some(offset), _)) = read_offset(s, at) else {
         return at;
     };
-    match offset.checked_add(base as usize) {
-        Some(start) if start < s.len() => start,
-        _ => at,
-    }
+    let start = (base as usize) + (offset as usize);
+    if start < s.len() { start } else { at }
 }
 
 // The textures: the first offset that is refused, else the first header, else the section's end.

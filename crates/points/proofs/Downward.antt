@@ -46,13 +46,13 @@ module _ (s : List ℕ) (t : Tables) (cs : List Float) where
     pub counted : reads_of s t cs k₀ (child_at c₀) ids₀ ≡ n + reads_of s t cs k (child_at c) ids
     pub bytes : settled_by s t cs k₀ (child_at c₀) ids₀ out₀ ≡ settled_by s t cs k (child_at c) ids out₀
 
-  pub gone_none : (k : ℕ) (c : Onto) (ids aside out : List ℕ) → 0 < length ids → length ids ≤ length aside → Gone k c ids aside out ids aside out c k 0
-  gone_none k c ids aside out h r =
+  pub gone_none : {k : ℕ} {c : Onto} {ids aside out : List ℕ} → 0 < length ids → length ids ≤ length aside → Gone k c ids aside out ids aside out c k 0
+  gone_none h r =
       record { some = h; as_long = refl; as_wide = refl; room = r; kept = refl; fewer = omega arith; counted = omega arith; bytes = refl }
 
-  module _ (k₀ : ℕ) (c₀ : Onto) (ids₀ aside₀ out₀ ids aside out : List ℕ) (c : Onto) (k n : ℕ) (g : Gone k₀ c₀ ids₀ aside₀ out₀ ids aside out c k n) (r : Meeting) (is-r : meeting_meets t.table r ≡ met s t k c) where
-    pub at_rest : (b : ℕ) → r ≡ M.Settled b → (out' : List ℕ) → out' ≡ fill (λ q. b) ids out → Settles s t cs k₀ (child_at c₀) ids₀ out₀ n out'
-    at_rest b q out' e =
+  module _ {k₀ : ℕ} {c₀ : Onto} {ids₀ aside₀ out₀ ids aside out : List ℕ} {c : Onto} {k n : ℕ} (g : Gone k₀ c₀ ids₀ aside₀ out₀ ids aside out c k n) (r : Meeting) (is-r : meeting_meets t.table r ≡ met s t k c) where
+    pub at_rest : {b : ℕ} → r ≡ M.Settled b → {out' : List ℕ} → out' ≡ fill (λ q. b) ids out → Settles s t cs k₀ (child_at c₀) ids₀ out₀ n out'
+    at_rest {b} q {out'} e =
         let m : met s t k c ≡ settled b = sym is-r ∙ ap (meeting_meets t.table) q in
         let z : reads_of s t cs k (child_at c) ids ≡ 0 = settled_reads (table s t) code_of (point_at cs) (child_at c) b k m ids in
         record {
@@ -60,7 +60,7 @@ module _ (s : List ℕ) (t : Tables) (cs : List Float) where
           bytes = e ∙ ap (fill (λ q. b) ids) g.kept ∙ sym (settled_bytes (table s t) code_of (point_at cs) (child_at c) b k m ids out₀) ∙ sym g.bytes;
         }
 
-    module _ (w : WordsT) (h : Hyperplane) (q : r ≡ M.Node w h) where
+    module _ {w : WordsT} {h : Hyperplane} (q : r ≡ M.Node w h) where
       abbrev entered : Entered End
       entered = record { nd = node_of t.table w; plane = h }
 
@@ -94,7 +94,7 @@ module _ (s : List ℕ) (t : Tables) (cs : List Float) where
       other_here : settled_by s t cs k (child_at c) ids out₀ ≡ settled_by s t cs j (child_of t.table (word_on w true)) F (settled_by s t cs j (child_of t.table (word_on w false)) B out₀)
       other_here = ap (λ (x : ℕ). settled_by s t cs x (child_at c) ids out₀) one_less ∙ divided_other (table s t) code_of (point_at cs) (child_at c) entered j is_node' ids out₀
 
-      module _ (l : List ℕ) (f : ℕ) (parts : (l ≡ F ++ B) × (f ≡ length F)) where
+      module _ {l : List ℕ} {f : ℕ} (parts : (l ≡ F ++ B) × (f ≡ length F)) where
         long : length l ≡ length ids
         long = ap length parts.0 ∙ length-append F B ∙ kept_length _ ids
 
@@ -121,8 +121,8 @@ module _ (s : List ℕ) (t : Tables) (cs : List Float) where
             }
 
         -- two points go apart and are settled
-        pub ends_two : 0 < f → f < length l → length l ≡ 2 → (m : ℕ) (out' : List ℕ) → TwoSettled s t cs j w l out m out' → Settles s t cs k₀ (child_at c₀) ids₀ out₀ (n + 1 + m) out'
-        ends_two a b e m out' z =
+        pub ends_two : 0 < f → f < length l → length l ≡ 2 → {m : ℕ} {out' : List ℕ} → TwoSettled s t cs j w l out m out' → Settles s t cs k₀ (child_at c₀) ids₀ out₀ (n + 1 + m) out'
+        ends_two a b e {m} {out'} z =
             let one : f ≡ 1 = omega (arith, a, b, e) in
             let d : Divides s t cs k₀ (child_at c₀) ids₀ out₀ w 1 j (n + 1) l out = subst (λ (x : ℕ). Divides s t cs k₀ (child_at c₀) ids₀ out₀ w x j (n + 1) l out) one (divided a b) in
             record {
@@ -130,7 +130,7 @@ module _ (s : List ℕ) (t : Tables) (cs : List Float) where
               bytes = z.bytes ∙ ap (λ (x : List ℕ). settled_by s t cs j (child_of t.table (word_on w false)) (drop 1 l) (settled_by s t cs j (child_of t.table (word_on w true)) (take 1 l) x)) d.kept ∙ sym d.bytes;
             }
 
-        module _ (aside' : List ℕ) (wide : length aside' ≡ length aside) (c' : Onto) where
+        module _ (aside' : List ℕ) (wide : length aside' ≡ length aside) {c' : Onto} where
           pub all_behind : f ≡ 0 → c' ≡ onto_word (word_on w false) → Gone k₀ c₀ ids₀ aside₀ out₀ l aside' out c' j (n + 1)
           unfolding fill
           all_behind z e =

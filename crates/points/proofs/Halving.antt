@@ -7,7 +7,7 @@ use mathlib.Core.Path.{◌≡◌, refl, sym, ◌∙◌, ap, subst}
 use borrow.Rule.Slice.PartMut.{post_of, put_mid, mid_len, same_len_mid, take_put, drop_put}
 use lib.Dec.{leb}
 use lib.Ieee.{Float}
-use lib.ListN.{length, take, drop, length-append, length-drop}
+use lib.ListN.{length, take, drop}
 use lib.Seq.{take_all, take-nil, take-take, take_at, drop_at, drop-drop, length-take-le}
 use Rattle.walk.specs.Table.{Child}
 use Rattle.nodes.specs.Tables.{End}
@@ -34,10 +34,6 @@ part_all l = take_all (length l - 0) l (omega arith)
 
 -- a part is lent and comes back as x
 module _ (l x : List ℕ) (a b : ℕ) (h : a ≤ b) (g : b ≤ length l) where
-  pub as_many : length (put_mid a (b - a) l x) ≡ length l → length x ≡ b - a
-  as_many e =
-      omega (arith, e, length-append (take a l) (x ++ post_of a (b - a) l), length-append x (post_of a (b - a) l), length-take-le a l (omega arith), length-drop (b - a) (drop a l), length-drop a l)
-
   module _ (long : length x ≡ b - a) where
     pub put_length : length (put_mid a (b - a) l x) ≡ length l
     put_length = same_len_mid a (b - a) l x (long ∙ sym (mid_len a b l g))
@@ -81,8 +77,8 @@ module _ (s : List ℕ) (t : Tables) (cs : List Float) where
     pub counted : reads_of s t cs k₀ (child_at c₀) ids₀ ≡ n + reads_of s t cs k (child_at c) (part lo hi ids)
     pub bytes : settled_by s t cs k₀ (child_at c₀) ids₀ out₀ ≡ settled_by s t cs k (child_at c) (part lo hi ids) out
 
-  pub doing_none : (k : ℕ) (c : Onto) (ids aside out : List ℕ) → 0 < length ids → Doing k c ids aside out ids aside out c k 0 0 (length ids)
-  doing_none k c ids aside out h =
+  pub doing_none : {k : ℕ} {c : Onto} {ids aside out : List ℕ} → 0 < length ids → Doing k c ids aside out ids aside out c k 0 0 (length ids)
+  doing_none {ids = ids} h =
       record {
         some = h;
         inside = omega arith;
@@ -93,34 +89,25 @@ module _ (s : List ℕ) (t : Tables) (cs : List Float) where
         bytes = rw (part_all ids);
       }
 
-  module _ (k₀ : ℕ) (c₀ : Onto) (ids₀ aside₀ out₀ ids aside out : List ℕ) (c : Onto) (k n lo hi : ℕ) (g : Doing k₀ c₀ ids₀ aside₀ out₀ ids aside out c k n lo hi) where
+  module _ {k₀ : ℕ} {c₀ : Onto} {ids₀ aside₀ out₀ ids aside out : List ℕ} {c : Onto} {k n lo hi : ℕ} (g : Doing k₀ c₀ ids₀ aside₀ out₀ ids aside out c k n lo hi) where
     lent_long : length (part lo hi ids) ≡ hi - lo
     lent_long = mid_len lo hi ids g.inside
-
-    pub lent_some : 0 < length (part lo hi ids)
-    lent_some = omega (arith, lent_long, g.some)
-
-    pub lent_room : length ids₀ ≤ length aside₀ → length (part lo hi ids) ≤ length aside
-    lent_room h = omega (arith, lent_long, g.inside, g.as_long, g.as_wide)
 
     pub few_so_far : k₀ < 4294967296 → length ids₀ ≤ 1024 → n ≤ 4398046511104
     few_so_far a b = omega (arith, g.counted, few_reads s t cs k₀ (child_at c₀) ids₀ a b)
 
-    pub few_at_end : (m : ℕ) (out' : List ℕ) → Settles s t cs k (child_at c) (part lo hi ids) out m out' → k₀ < 4294967296 → length ids₀ ≤ 1024 → n + m ≤ 4398046511104
-    few_at_end m out' z a b = omega (arith, g.counted, z.counted, few_reads s t cs k₀ (child_at c₀) ids₀ a b)
-
-    pub doing_ends : (m : ℕ) (out' : List ℕ) → Settles s t cs k (child_at c) (part lo hi ids) out m out' → Settles s t cs k₀ (child_at c₀) ids₀ out₀ (n + m) out'
-    doing_ends m out' z = record { counted = omega (arith, g.counted, z.counted); bytes = z.bytes ∙ sym g.bytes }
+    pub few_at_end : {m : ℕ} {out' : List ℕ} → Settles s t cs k (child_at c) (part lo hi ids) out m out' → k₀ < 4294967296 → length ids₀ ≤ 1024 → n + m ≤ 4398046511104
+    few_at_end z a b = omega (arith, g.counted, z.counted, few_reads s t cs k₀ (child_at c₀) ids₀ a b)
 
     -- the group is divided; l is its part of the list afterwards
-    module _ (w : WordsT) (f j m : ℕ) (l out₁ : List ℕ) (d : Divides s t cs k (child_at c) (part lo hi ids) out w f j m l out₁) where
+    module _ {w : WordsT} {f j m : ℕ} {l out₁ : List ℕ} (d : Divides s t cs k (child_at c) (part lo hi ids) out w f j m l out₁) where
       long : length l ≡ hi - lo
       long = d.as_long ∙ lent_long
 
       abbrev ids₁ : List ℕ
       ids₁ = put_mid lo (hi - lo) ids l
 
-      pub is_inside : lo + f ≤ hi
+      is_inside : lo + f ≤ hi
       is_inside = omega (arith, long, d.not_all)
 
       pub all_long : length ids₁ ≡ length ids
@@ -165,7 +152,7 @@ module _ (s : List ℕ) (t : Tables) (cs : List Float) where
                 rest_less = omega (arith, long, d.not_all);
               }
 
-      module _ (p : Parts) (is-p : p ≡ parts_of w lo f hi) where
+      module _ {p : Parts} (is-p : p ≡ parts_of w lo f hi) where
         pub less_of : Less p
         less_of = subst Less (sym is-p) less
 

@@ -11,8 +11,8 @@ use lib.Dec.{eqb, ltb}
 use Rattle.std.specs.Prelude.{Option, Some, None, ◌==◌}
 use Rattle.std.specs.List.{position_or_len}
 use Rattle.std.specs.Option.{unwrap_or}
-use lib.ListN.{length, take, drop, get_or, set, length-set, length-append}
-use lib.Seq.{take-suc, drop-cons, take-suc-set, take_all, drop-set-lt, take-set-le, get_or-drop}
+use lib.ListN.{length, take, drop, get_or, set, length-set}
+use lib.Seq.{take-suc, drop-cons, take-suc-set, drop-set-lt, take-set-le, get_or-drop}
 use lib.Ieee.{Float, nan, le}
 use Rattle.math.specs.Plane as Pl
 use Rattle.ways.specs.Groups.{kept, fill, is_front, in_front}
@@ -40,11 +40,6 @@ fill_all v ids out i h = ap (λ (l : List ℕ). fill v l out) (none ids i h)
     none (x ∷ l) zero h = absurd (omega arith)
     none (x ∷ l) (suc i) h = none l i (omega arith)
 
--- an entry of the list is set
-module _ (v : ℕ → ℕ) (ids before out : List ℕ) (i : ℕ) (h : i < length ids) (e : fill v (drop i ids) out ≡ fill v ids before) where
-  pub fill_step : (out' : List ℕ) → out' ≡ set out (get_or ids i 0) (v (get_or ids i 0)) → fill v (drop (i + 1) ids) out' ≡ fill v ids before
-  fill_step out' q = ap (fill v (drop (i + 1) ids)) q ∙ sym (fill_next v ids out i h) ∙ e
-
 -- ---- numbers in order
 
 from_next : (q i : ℕ) → from q (suc i) ≡ from q i ++ ((q + i) ∷ [])
@@ -53,9 +48,6 @@ from_next q (suc i) = ap (λ (l : List ℕ). q ∷ l) (from_next (suc q) i ∙ a
 
 pub number_next : (l : List ℕ) (i : ℕ) → i < length l → take i l ≡ from 0 i → take (i + 1) (set l i i) ≡ from 0 (i + 1)
 number_next l i h e = rw (add-one) (take-suc-set l i i h ∙ ap (λ (x : List ℕ). x ++ (i ∷ [])) e ∙ ap (λ (x : ℕ). from 0 i ++ (x ∷ [])) {x = i} {y = 0 + i} (omega arith) ∙ sym (from_next 0 i))
-
-pub number_all : (l : List ℕ) (i n : ℕ) → length l ≤ i → i ≤ n → length l ≡ n → take i l ≡ from 0 i → l ≡ from 0 n
-number_all l i n h k e t = let q : i ≡ n = omega arith in sym (take_all i l h) ∙ t ∙ ap (from 0) q
 
 -- ---- the first zero
 
@@ -115,9 +107,6 @@ module _ (f : ℕ → Bool) (ids : List ℕ) where
     pub behind : take (i - n) aside ≡ kept (λ q. not (f q)) (take i ids)
     pub rest : drop i l ≡ drop i ids
 
-  pub parted_none : (aside : List ℕ) → Parted ids aside 0 0
-  parted_none aside = record { few = omega arith; within = omega arith; as_long = refl; in_front_lem = refl; behind = refl; rest = refl }
-
   module _ (l aside : List ℕ) (n i : ℕ) (p : Parted l aside n i) (more : i < length l) (wide : i < length aside) where
     abbrev x : ℕ
     x = get_or l i 0
@@ -162,12 +151,6 @@ module _ (f : ℕ → Bool) (ids : List ℕ) where
     parted_next b e n' (inl w) = subst (λ (j : ℕ). Parted (set l n x) (set aside (i - n) x) j (i + 1)) (sym w.1) (parted_front (sym e ∙ w.0))
     parted_next b e n' (inr w) = subst (λ (j : ℕ). Parted (set l n x) (set aside (i - n) x) j (i + 1)) (sym w.1) (parted_back (sym e ∙ w.0))
 
-  pub parted_all : (l aside : List ℕ) (n i : ℕ) → Parted l aside n i → length l ≤ i → Sided f ids l aside n
-  parted_all l aside n i p m =
-      let e : i ≡ length ids = omega (arith, p.within, p.as_long) in
-      let t : take i ids ≡ ids = take_all i ids (omega (arith, p.within, p.as_long)) in
-      (omega (arith, p.few, p.within), (p.as_long, (p.in_front_lem ∙ ap (kept f) t, ap (λ (j : ℕ). take (j - n) aside) (sym e) ∙ p.behind ∙ ap (kept (λ q. not (f q))) t)))
-
 -- ---- along an axis
 
 kept_same : (f g : ℕ → Bool) → ((q : ℕ) → f q ≡ g q) → (l : List ℕ) → kept f l ≡ kept g l
@@ -204,22 +187,6 @@ pub count_axis : (cs : List Float) (h : Hyperplane) (a : Axis) → h.alignment �
 count_axis cs h a e k is-k ids = ap length (kept_same (reaches cs k h.dist) (in_front (point_at cs) h) (reaches_is cs h a e k is-k) ids)
 
 module _ (f : ℕ → Bool) where
-  pub count_next : (ids : List ℕ) (n i : ℕ) → i < length ids → n ≡ length (kept f (take i ids)) → (b : Bool) → b ≡ f (get_or ids i 0) → (n' : ℕ) → ((b ≡ true) × (n' ≡ n + 1)) ⊎ ((b ≡ false) × (n' ≡ n)) → n' ≡ length (kept f (take (i + 1) ids))
-  count_next ids n i h e b is_b n' w = go w ∙ sym (ap (λ (l : List ℕ). length (kept f l)) one_on)
-    where
-      x : ℕ
-      x = get_or ids i 0
-
-      one_on : take (i + 1) ids ≡ take i ids ++ (x ∷ [])
-      one_on = rw (add-one) (take-suc ids i 0 h)
-
-      go : ((b ≡ true) × (n' ≡ n + 1)) ⊎ ((b ≡ false) × (n' ≡ n)) → n' ≡ length (kept f (take i ids ++ (x ∷ [])))
-      go (inl w) = w.1 ∙ ap (λ (j : ℕ). j + 1) e ∙ sym (ap length (kept_in f (take i ids) x (sym is_b ∙ w.0)) ∙ length-append (kept f (take i ids)) (x ∷ []))
-      go (inr w) = w.1 ∙ e ∙ sym (ap length (kept_out f (take i ids) x (sym is_b ∙ w.0)))
-
-  pub count_all : (ids : List ℕ) (n i : ℕ) → length ids ≤ i → n ≡ length (kept f (take i ids)) → n ≡ length (kept f ids)
-  count_all ids n i h e = e ∙ ap (λ (l : List ℕ). length (kept f l)) (take_all i ids h)
-
   none_kept : (g : ℕ → Bool) (l : List ℕ) → length (kept g l) ≡ 0 → (kept g l ≡ []) × (kept (λ q. not (g q)) l ≡ l)
   none_kept g [] e = (refl, refl)
   none_kept g (x ∷ l) e = go (g x) e (none_kept g l)

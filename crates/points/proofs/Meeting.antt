@@ -1,14 +1,13 @@
 -- What a group meets at a child.
 use Rattle.nodes.specs.declared.read.Words.{Words}
 use Rattle.std.specs.Prelude.{Result, Ok, Err}
-use Prim.Native.Nat.{ℕ, zero, suc, ◌<◌, ◌≤◌}
+use Prim.Native.Nat.{ℕ, zero, suc, ◌<◌}
 use Rattle.format.specs.Answers.{answer_of}
 use native.Mathlib.Omega.{arith}
 use mathlib.Core.Bool.{Bool, true, false}
 use mathlib.Core.List.{List}
 use mathlib.Core.Path.{◌≡◌, refl, sym, ◌∙◌, ap}
-use borrow.Author.Tests.{lt-ltb, le-ltb}
-use Rattle.format.specs.Answer.{Answer}
+use borrow.Author.Tests.{lt-ltb}
 use Rattle.format.specs.Contents.{code_of}
 use Rattle.format.specs.Refusal.{number_of}
 use Rattle.format.specs.declared.refusal.Refusal.{Refusal}
@@ -18,12 +17,11 @@ use Rattle.math.specs.Plane as Pl
 use Rattle.math.specs.declared.plane.Hyperplane.{Hyperplane}
 use Rattle.math.specs.declared.plane.HyperplaneSide.{HyperplaneSide}
 use Rattle.walk.specs.Walk.{enter}
-use Rattle.nodes.specs.Tables.{End}
-use Rattle.nodes.specs.Fast.{table, node_of, words_answer, contents_met, plane_in}
+use Rattle.nodes.specs.Fast.{table, node_of, words_answer, plane_in}
 use Rattle.nodes.specs.Fast as Fast
 use Rattle.nodes.proofs.Entering.{enter_not, enter_is, enter_no_plane}
 use Rattle.nodes.specs.declared.table.Tables.{Tables}
-use Rattle.ways.specs.Groups.{Meets, settled, onward, byte_of, entering, meets, is_front}
+use Rattle.ways.specs.Groups.{settled, onward, entering, meets, is_front}
 use Rattle.points.specs.Going.{met}
 use Rattle.nodes.specs.declared.read.Onto.{Onto}
 use Rattle.nodes.specs.declared.read.Onto.TheVariants as O
@@ -48,41 +46,10 @@ code_some Current270 e = omega arith
 code_some CurrentUp e = omega arith
 code_some CurrentDown e = omega arith
 
--- ---- at an end
+-- ---- at a node
 
 module _ (s : List ℕ) (t : Tables) where
-  end_met : (k w : ℕ) (r : Result BspLeafContents Refusal) → answer_of r ≡ contents_met s t w → settled (byte_of (table s t) code_of (answer_of r)) ≡ met s t k (O.End w)
-  unfolding contents_met meets
-  end_met zero w r e = ap (λ (a : Answer BspLeafContents). settled (byte_of (table s t) code_of a)) e
-  end_met (suc k) w r e = ap (λ (a : Answer BspLeafContents). settled (byte_of (table s t) code_of a)) e
-
-  pub end_refused : (w : ℕ) (r : Result BspLeafContents Refusal) → answer_of r ≡ contents_met s t w → (x : Refusal) → r ≡ Err x → settled 0 ≡ met s t 0 (O.End w)
-  end_refused w r e x q = sym (ap (λ (y : Result BspLeafContents Refusal). settled (byte_of (table s t) code_of (answer_of y))) q) ∙ end_met 0 w r e
-
-  pub end_contents_lem : (w : ℕ) (r : Result BspLeafContents Refusal) → answer_of r ≡ contents_met s t w → (c : BspLeafContents) → r ≡ Ok c → (n : ℕ) → n ≡ code_of c → settled n ≡ met s t 0 (O.End w)
-  end_contents_lem w r e c q n z = ap settled z ∙ sym (ap (λ (y : Result BspLeafContents Refusal). settled (byte_of (table s t) code_of (answer_of y))) q) ∙ end_met 0 w r e
-
-  -- an end is met whatever is left
-  pub end_any : (k : ℕ) (c : Onto) (w : ℕ) → c ≡ O.End w → (r : Meets End) → r ≡ met s t 0 (O.End w) → r ≡ met s t k c
-  unfolding meets
-  end_any zero c w q r e = e ∙ ap (met s t zero) (sym q)
-  end_any (suc k) c w q r e = e ∙ ap (met s t (suc k)) (sym q)
-
-  -- ---- at a node
-
   module _ (k : ℕ) (c : Onto) (i : ℕ) (q : c ≡ O.Node i) where
-    pub none_left : k ≡ 0 → settled 0 ≡ met s t k c
-    unfolding meets
-    none_left z = rw (z, q)
-
-    pub outside : t.nodes.count ≤ i → settled 0 ≡ met s t k c
-    unfolding meets
-    outside h = rw q (by k)
-      where
-        by : (k : ℕ) → settled 0 ≡ met s t k (O.Node i)
-        by zero = refl
-        by (suc k) = simp (le-ltb i t.nodes.count h)
-
     module _ (some : 0 < k) (h : i < t.nodes.count) where
       pub entered_at : met s t k c ≡ entering (table s t) code_of (enter (table s t) i)
       unfolding meets

@@ -35,7 +35,8 @@ fn reaches(coords: &[f32], axis: u16, dist: f32, id: u16) -> bool
 }
 
 // The points of a list that go to the front, to the front of the list, the others aside, each in their order; how many are in front. Both
-// are written at each turn, so that the side is no branch.
+// are written at each turn, so that the side is no branch. The two lists are no struct with a ghost field for what is needed of their lengths:
+// that can be proved, but each part of a list that `settle_group` lends would be a new one, which is no plainer.
 fn part_by<F: Fn(u16) -> bool>(ids: &mut [u16], aside: &mut [u16], goes_front: F) -> usize
     requires calls { F.IsAlwaysCallable goes_front }
     requires room { length ids.old ≤ length aside.old }
@@ -53,17 +54,14 @@ fn part_by<F: Fn(u16) -> bool>(ids: &mut [u16], aside: &mut [u16], goes_front: F
     front
 }
 
+// Which of a point's coordinates an axis is.
 fn axis_number(axis: Axis) -> u16
     ensures { result ≡ Going.axis_number axis }
 {
-    match axis {
-        Axis::X => 0,
-        Axis::Y => 1,
-        Axis::Z => 2,
-    }
+    axis as u16
 }
 
-// The same by the side of a plane.
+// The points of a list parted by the side of a plane.
 fn part(coords: &[f32], plane: Hyperplane, ids: &mut [u16], aside: &mut [u16]) -> usize
     requires { length ids.old ≤ length aside.old }
     ensures { Going.Sided (in_front (Going.point_at coords.now) plane) ids.old ids.new aside.new result }
@@ -115,7 +113,7 @@ fn reorder(coords: &[f32], plane: Hyperplane, ids: &mut [u16], aside: &mut [u16]
     front
 }
 
-// Whether the first eight of many points say that there are some on either side, so that it is not worth counting all.
+// Whether some of the first eight of many points are in front and some are not, so that it is not worth counting all.
 fn are_mixed(coords: &[f32], plane: Hyperplane, ids: &[u16]) -> bool {
     if ids.len() <= 8 {
         return false;
@@ -156,6 +154,7 @@ pub fn put(out: &mut [u8], id: u16, byte: u8)
 }
 
 // The same byte for each point of a list.
+#[tactic(auto, using(crate::proofs::Lists::fill_next, crate::proofs::Lists::fill_all))]
 pub fn settle(ids: &[u16], byte: u8, out: &mut [u8])
     ensures { out.new ≡ fill (λ q. byte) ids.now out.old }
 {

@@ -1,4 +1,5 @@
 // The contents at many points of a hull.
+// The file, its map record and the hull stand apart as in `hull`.
 ghost use Rattle.std.specs.Prelude.{◌≡◌, ◌≤◌, length};
 ghost use Rattle.format.specs.Answers.{answer_of};
 ghost use Rattle.format.specs.Listed.{listed};
@@ -16,12 +17,13 @@ use nodes::read::Onto;
 use nodes::table::tables_of;
 
 // The list's entries are their own places.
+#[tactic(auto, using(crate::proofs::Lists::number_next))]
 fn number(ids: &mut [u16])
     requires { length ids.old ≤ 1024 }
     ensures { ids.new ≡ Going.from 0 (length ids.old) }
 {
-    for i in 0..ids.len() {
-        ids[i] = i as u16;
+    for (i, id) in ids.iter_mut().enumerate() {
+        *id = i as u16;
     }
 }
 
@@ -118,6 +120,7 @@ fn answer_up_to<const N: usize>(
 
 // The contents codes of the points, in their order, at the front of the list, and how often a node was read: once for all points that
 // come to it the same way. 24, then 22, then the refusal of the first point that is refused; a refusal leaves the list as it is.
+#[tactic(auto, using(crate::proofs::Opening::too_many, crate::proofs::Opening::not_in_threes, crate::proofs::Opening::too_short, crate::proofs::Opening::all_right, crate::proofs::Opening::no_points, crate::proofs::Opening::asked))]
 pub fn contents_at_points(
     s: &[u8],
     map: BspData,

@@ -22,8 +22,6 @@ pub fn record<T: Copy, F: FnOnce(&[u8], usize) -> Read<T>>(
     ensures { (one : List ℕ → ℕ → Step T) → Reads (F.post read s.entry) (one s.now) → answer_of result ≡ record_of id one s.now map index }
 {
     let at = map.section(id).place(id, s.len(), index)?;
-    let Ok((record, _)) = read(s, at) else {
-        return Err(Refusal::Unreadable);
-    };
+    let (record, _) = read(s, at).map_err(|_| Refusal::Unreadable)?;
     Ok(record)
 }

@@ -68,6 +68,7 @@ fn edge_index_of(x: i32) -> BspEdgeIndex
     }
 }
 
+// An i32 as an entry of the list of edges. (`read_f32` of `format` has its shape; the line above `read_u8` there says why.)
 #[tactic(auto, unfolding(crate::specs::Edge::edge_index_at))]
 fn read_edge_index(s: &[u8], at: usize) -> Read<BspEdgeIndex>
     ensures { step_of result ≡ edge_index_at s.now at }

@@ -65,7 +65,7 @@ fn past_sounds(s: &[u8], at: usize) -> usize
 }
 
 // A leaf, whose sound bytes the file's end may cut short.
-// Set in where it is called: loading needs the tests alone, and there the value is then not made.
+// Inlined: loading needs the tests alone, and there the value is then not made.
 #[inline(always)]
 #[tactic(auto, unfolding(crate::specs::Leaf::leaf_at, crate::specs::Leaf::leaf_end_at))]
 pub fn read_leaf(s: &[u8], at: usize) -> Read<BspLeaf>
@@ -80,7 +80,7 @@ pub fn read_leaf(s: &[u8], at: usize) -> Read<BspLeaf>
     Ok((
         BspLeaf {
             contents,
-            vis_offset,
+            vis_offset: vis_offset.map(|offset| offset as usize),
             min,
             max,
             facelist_id: facelist_id as usize,

@@ -52,7 +52,7 @@ fn read_render_child(s: &[u8], at: usize) -> Read<BspRenderNodeChild>
 }
 
 // `load_render_node`.
-// Set in where it is called: loading needs the tests alone, and there the value is then not made.
+// Inlined: loading needs the tests alone, and there the value is then not made.
 #[inline(always)]
 #[tactic(auto, unfolding(crate::specs::Node::render_node_at, crate::specs::Node::render_node_end_at))]
 pub fn read_render_node(s: &[u8], at: usize) -> Read<BspRenderNode>
@@ -79,7 +79,6 @@ pub fn read_render_node(s: &[u8], at: usize) -> Read<BspRenderNode>
     ))
 }
 
-// An accessor is one line over `record`: its section and its reader.
 // The render node of an index.
 pub fn render_node(s: &[u8], map: BspData, index: usize) -> Answer<BspRenderNode>
     ensures { answer_of result ≡ render_node_of s.now map index }
@@ -120,7 +119,7 @@ fn read_collision_child(s: &[u8], at: usize) -> Read<BspCollisionNodeChild>
     Ok((BspCollisionNodeChild::Node(x as usize), next))
 }
 
-// Set in where it is called: loading needs the tests alone, and there the value is then not made.
+// Inlined: loading needs the tests alone, and there the value is then not made.
 #[inline(always)]
 #[tactic(auto, unfolding(crate::specs::Node::collision_node_at))]
 pub fn read_collision_node(s: &[u8], at: usize) -> Read<BspCollisionNode>

@@ -56,12 +56,12 @@ pub fn read_count16(s: &[u8], at: usize, least: u32) -> Read<u32>
 
 // An i32 that is an offset, or -1 for none.
 #[tactic(auto, unfolding(crate::specs::Number::offset_at, crate::specs::Number::offset_of))]
-pub fn read_offset(s: &[u8], at: usize) -> Read<Option<usize>>
+pub fn read_offset(s: &[u8], at: usize) -> Read<Option<u32>>
     ensures { step_of result ≡ offset_at s.now at }
 {
     let (x, next) = read_i32(s, at)?;
     if x < -1 {
         return Err(Refusal::InvalidField);
     }
-    Ok((usize::try_from(x).ok(), next))
+    Ok((u32::try_from(x).ok(), next))
 }

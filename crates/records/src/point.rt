@@ -6,8 +6,8 @@ ghost use Rattle.records.specs.Triple.{point_at};
 use crate::triple::Point;
 use format::field::{Read, read_i16};
 
-// Three whole numbers, `read_i16_3`.
-// Set in where it is called: late in a chain of `?` the compiler takes a call for a rare one, and leaves it a call.
+// Three whole numbers, `read_i16_3`. (`read_vector` is its like for floats, and says why they are two.)
+// Inlined: late in a chain of `?` the compiler takes a call for a rare one, and leaves it a call.
 #[inline(always)]
 #[tactic(auto, unfolding(crate::specs::Triple::point_at))]
 pub fn read_point(s: &[u8], at: usize) -> Read<Point>

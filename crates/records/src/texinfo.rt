@@ -36,7 +36,7 @@ fn read_flag(s: &[u8], at: usize) -> Read<bool>
 }
 
 // `load_texinfo`.
-// Set in where it is called: loading needs the tests alone, and there the value is then not made.
+// Inlined: loading needs the tests alone, and there the value is then not made.
 #[inline(always)]
 #[tactic(auto, unfolding(crate::specs::Texinfo::texinfo_at, crate::specs::Texinfo::texinfo_end_at))]
 pub fn read_texinfo(s: &[u8], at: usize, texture_count: u32) -> Read<BspTexInfo>

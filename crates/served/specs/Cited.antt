@@ -12,7 +12,7 @@ unfoldable pub use Rattle.ffi_accept.specs.Calls.{bsp_accept}
 -- a point from a list of floats
 pub use Rattle.ffi_hull.specs.Layout.{point_at}
 -- and, for the proofs, the parts of which these are made
-unfoldable pub use Rattle.ffi_tree.specs.Calls.{table_numbered}
+unfoldable pub use Rattle.nodes.specs.Tables.{table_numbered}
 pub use Rattle.ffi_tree.specs.Calls.{check_of}
 unfoldable pub use Rattle.ffi_hull.specs.Layout.{hull_from}
 pub use Rattle.ffi_hull.specs.Layout.{vector_at, hull_in, table_word, hull_words}

@@ -27,6 +27,7 @@ pub fn built_in() -> BodySizes
     }
 }
 
+// The hull with other bounds. (`with_surface` of `faces` has its shape: a literal, and nothing to share.)
 fn with_bounds(hull: BspCollisionHull, body: Bounds) -> BspCollisionHull
     ensures { result ≡ Sized.with_bounds hull body }
 {

@@ -30,7 +30,7 @@ fn starts_field(s: &[u8], at: usize, tag: u8) -> bool
     s[at] == tag && s[at + 1] == 24 && s[at + 2] == 0
 }
 
-// The float of the four bytes at a place.
+// The float of the four bytes at a place. (The need is that of the four indices; as a `&[u8; 4]` the caller would have it for the slice.)
 fn float_in(s: &[u8], at: usize) -> f32
     requires { at + 4 ≤ length s.now }
     ensures { result ≡ Sizes.float_in s.now at }

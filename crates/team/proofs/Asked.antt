@@ -14,7 +14,6 @@ use Rattle.format.specs.Answer.{Answer, answer, refused, mapped, then_answer}
 use Rattle.format.specs.Answers.{answer_of}
 use Rattle.format.specs.Refusal.{number_of}
 use Rattle.format.specs.declared.refusal.Refusal.{Refusal}
-use Rattle.vis.proofs.Chain.{handed_on}
 use Rattle.format.specs.Listed.{Listed, listed, into}
 use Rattle.format.specs.Section.{place, section_of, record_count, within_limit, element_size}
 use Rattle.format.specs.Step.{Step}
@@ -29,6 +28,7 @@ use Rattle.vis.specs.Pvs.{visibility_of, section_row, row_of, pvs_of}
 use Rattle.team.specs.Team.{lists_of}
 use Rattle.team.specs.Starts.{whether}
 use Rattle.team.proofs.Unions.{only33, row_only}
+use Rattle.format.proofs.Answers.{handed_answer}
 
 -- an answer, or a refusal other than 22
 abbrev pub not22 : {A : Type 0} → Answer A → Type 0
@@ -154,7 +154,7 @@ module _ (file : List ℕ) (map : BspData) (count : ℕ) where
       pub ask_refused : (e : Refusal) (q : Result Unit Refusal) → refused (number_of e) ≡ whether (pvs_of file map (get_or leaves i 0) count)
           → IsErrAnd q (λ d. d ≡ e) → answer_of q ≡ asked leaves
       ask_refused e q r d =
-          handed_on e q d ∙ first_refused (get_or leaves i 0) (drop (suc i) leaves) (number_of e) r ∙ sym (ap asked (drop-cons leaves i 0 h)) ∙ p
+          handed_answer q e d ∙ first_refused (get_or leaves i 0) (drop (suc i) leaves) (number_of e) r ∙ sym (ap asked (drop-cons leaves i 0 h)) ∙ p
 
       pub ask_next : answer tt ≡ whether (pvs_of file map (get_or leaves i 0) count) → asked (drop (i + 1) leaves) ≡ asked leaves
       ask_next e = rw add-one (first_asked (get_or leaves i 0) (drop (suc i) leaves) e ∙ sym (ap asked (drop-cons leaves i 0 h)) ∙ p)

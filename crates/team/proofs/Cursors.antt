@@ -26,9 +26,6 @@ module _ (s : List ℕ) (leaves at group this : ℕ) where
     pub ahead : this ≤ here
     pub same : row_from leaves (1 + 8 * group) (drop at s) ≡ row_from leaves (1 + 8 * here) (drop next s)
 
-  pub cursor_starts : at ≤ length s → group ≤ 255 * at → this ≤ group → Cursor at group
-  cursor_starts h k l = record { inside = h; small = k; ahead = l; same = refl }
-
   module _ (below : 1 + 8 * this < leaves) (whole : row_from leaves (1 + 8 * group) (drop at s) ≡ refused 33 → ⊥) (next here : ℕ) (p : Cursor next here) where
     -- the row has the group's byte or lists none of its leaves
     pub passed_group : (here ≡ this → ⊥)

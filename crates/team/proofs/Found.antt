@@ -1,23 +1,20 @@
 -- Where the players' rows start: the starts one after another, and the players' lists as the rows at them. Assumes nothing.
 use Rattle.std.specs.Prelude.{Option, Some, None}
-use borrow.Author.Tests.{eq-eqb, ne_eqb, lt-ltb, le-ltb, ltb-false, leb-true}
+use borrow.Author.Tests.{lt-ltb, le-ltb, ltb-false}
 use mathlib.Core.Path.{◌≡◌, refl, sym, ap, ◌∙◌}
 use mathlib.Core.Bool.{Bool, true, false, cond}
 use mathlib.Core.List.{List, [], ◌∷◌, ◌++◌, append_assoc, append-nil}
 use Prim.Native.Nat.{ℕ, zero, suc, ◌+◌, ◌-◌, ◌<◌, ◌≤◌}
-use native.Mathlib.Nat.{min-le_left}
 use native.Mathlib.Numerals.{add-one}
 use native.Mathlib.Omega.{arith}
-use lib.Dec.{eqb, ltb, leb}
-use lib.ListN.{length, drop, take, get_or, set, replicate, length-replicate, get_or-replicate, length-take, drop_of_length-le}
-use lib.Seq.{drop-cons, take-suc-set, get_or-take, length-take-le}
+use lib.Dec.{eqb, ltb}
+use lib.ListN.{length, drop, take, get_or, set, replicate, length-replicate, get_or-replicate, drop_of_length-le}
+use lib.Seq.{drop-cons, take-suc-set, take-append_seam, get_or-take, length-take-le}
 use Rattle.format.proofs.Listing.{into_short, into_list}
 use Rattle.format.specs.Answer.{Answer, answer, refused, mapped, then_answer}
 use Rattle.format.specs.Listed.{listed, into}
-use Rattle.format.specs.Section.{within_limit}
 use Rattle.format.specs.declared.section.BspData.{BspData}
 use Rattle.format.specs.declared.section.BspFileSection.{BspFileSection}
-use Rattle.format.specs.declared.section.BspFileSectionId.TheVariants.{Visibility}
 use Rattle.records.specs.Leaf.{leaf_of}
 use Rattle.records.specs.declared.leaf.BspLeaf.{BspLeaf}
 use Rattle.vis.specs.Row.{row_from, row_at}
@@ -198,27 +195,18 @@ none_found (suc n) starts found z e = absurd (omega arith)
 pub some_found : (rows n : ℕ) (starts found : List ℕ) → (rows ≡ 0 → ⊥) → length starts ≡ n → rows ≤ n → take rows starts ≡ found → 0 < length found
 some_found rows n starts found z l h e = let k : rows ≤ length starts = omega arith in omega (arith, ap length e, length-take-le rows starts k)
 
+pub few_found : (rows : ℕ) (starts : List ℕ) → length starts ≡ 16 → rows ≤ 16 → length (take rows starts) ≤ 16
+few_found rows starts l h = let k : rows ≤ length starts = omega arith in omega (arith, length-take-le rows starts k)
+
 -- ---- the visibility section, which lies in the file
 
 module _ (file : List ℕ) (z : BspFileSection) where
-  pub empty_data : z.size ≡ 0 → [] ≡ data_of file z
-  unfolding visibility_of
-  empty_data e = rw (eq-eqb z.size 0 e)
+  -- the bytes that were read are the data, and bytes were read
+  pub data_read : (v : List ℕ) → answer v ≡ visibility_of file z → v ≡ data_of file z
+  data_read v e = ap or_none e
 
-  pub section_data : (z.size ≡ 0 → ⊥) → visibility_of file z ≡ answer (data_of file z)
-      → (z.offset + z.size ≤ length file) × (within_limit Visibility z.size ≡ true) × (take z.size (drop z.offset file) ≡ data_of file z)
-  unfolding visibility_of
-  section_data n = rw (ne_eqb z.size 0 n) (go (within_limit Visibility z.size) refl (leb (z.offset + z.size) (length file)) refl)
-    where
-      go : (b : Bool) → within_limit Visibility z.size ≡ b → (c : Bool) → leb (z.offset + z.size) (length file) ≡ c
-          → cond b (cond c (answer (take z.size (drop z.offset file))) (refused 23)) (refused 23) ≡ answer (or_none (cond b (cond c (answer (take z.size (drop z.offset file))) (refused 23)) (refused 23)))
-          → (z.offset + z.size ≤ length file) × (b ≡ true) × (take z.size (drop z.offset file) ≡ or_none (cond b (cond c (answer (take z.size (drop z.offset file))) (refused 23)) (refused 23)))
-      go true p true q e = (leb-true _ _ q, refl, refl)
-      go true p false q e = let w : ◌≡◌ {A = ℕ} 0 1 = cc in absurd (omega arith)
-      go false p c q e = let w : ◌≡◌ {A = ℕ} 0 1 = cc in absurd (omega arith)
-
-pub section_size : (size : ℕ) (rest : List ℕ) → within_limit Visibility size ≡ true → length (take size rest) ≤ 1048576
-section_size size rest e = omega (arith, length-take size rest, min-le_left size (length rest), leb-true size 1048576 e)
+  pub never_unread : {P : Type 0} (n : ℕ) → refused n ≡ visibility_of file z → visibility_of file z ≡ answer (data_of file z) → P
+  never_unread n e f = let w : ◌≡◌ {A = ℕ} 0 1 = cc in absurd (omega arith)
 
 -- ---- cursors at the starts: all groups are 0
 
@@ -237,45 +225,61 @@ rests_rows s count (at ∷ ats) [] l z = absurd (omega arith)
 rests_rows s count (at ∷ ats) (group ∷ groups) l z =
     rw (z 0 (omega arith)) (ap (λ (r : List (List ℕ)). rest_of s count at 0 ∷ r) (rests_rows s count ats groups (omega arith) (λ i h. z (suc i) (omega arith))))
 
-module _ (s : List ℕ) (count rows : ℕ) (starts : List ℕ) (n : rows ≤ length starts) (h : rows ≤ 16) where
-  as_many_starts : length (take rows starts) ≡ rows
-  as_many_starts = length-take-le rows starts n
+-- the positions begin with the starts, and `rest` follows them
+module _ (s : List ℕ) (count : ℕ) (starts front rest : List ℕ) (h : length starts ≤ 16) (q : front ≡ starts) where
+  abbrev pub ats : List ℕ
+  ats = take (length starts) (front ++ rest)
 
-  as_many_zeros : length (take rows none16) ≡ rows
-  as_many_zeros = length-take-le rows none16 (omega (arith, length-replicate {A = ℕ} 16 0))
+  abbrev pub zero_groups : List ℕ
+  zero_groups = take (length starts) none16
 
-  pub as_many : length (take rows starts) ≡ length (take rows none16)
+  at_starts : ats ≡ starts
+  at_starts = rw q (take-append_seam starts rest)
+
+  as_many_starts : length ats ≡ length starts
+  as_many_starts = ap length at_starts
+
+  as_many_zeros : length zero_groups ≡ length starts
+  as_many_zeros = length-take-le (length starts) none16 (omega (arith, length-replicate {A = ℕ} 16 0))
+
+  pub as_many : length ats ≡ length zero_groups
   as_many = as_many_starts ∙ sym as_many_zeros
 
-  pub some_rows : 0 < rows → 0 < length (take rows starts)
+  pub some_rows : 0 < length starts → 0 < length ats
   some_rows p = omega (arith, as_many_starts)
 
-  at_starts : rests_of s count (take rows starts) (take rows none16) ≡ rows_at s count (take rows starts)
-  at_starts = rests_rows s count (take rows starts) (take rows none16) (sym as_many) (λ i p. zeros rows i h (omega (arith, as_many_starts)))
+  same_rests : rests_of s count ats zero_groups ≡ rows_at s count starts
+  same_rests = rests_rows s count ats zero_groups (sym as_many) (λ i p. zeros (length starts) i h (omega (arith, as_many_starts))) ∙ ap (rows_at s count) at_starts
 
-  pub start_cursors : Starts s count (take rows starts) → Cursors s count 0 (take rows starts) (take rows none16)
-  start_cursors w i p = rw (zeros rows i h (omega (arith, as_many_starts))) (w i p)
+  same_start : (i : ℕ) → get_or ats i 0 ≡ get_or starts i 0
+  same_start i = ap (λ (l : List ℕ). get_or l i 0) at_starts
+
+  pub start_cursors : Starts s count starts → Cursors s count 0 ats zero_groups
+  start_cursors w i p = let k : i < length starts = omega (arith, as_many_starts) in rw (same_start i, zeros (length starts) i h k) (w i k)
 
   -- the pool from the starts on, in a lent list
   abbrev pub team : List ℕ
-  team = pooled (rows_at s count (take rows starts)) 1 (count - 1)
+  team = pooled (rows_at s count starts) 1 (count - 1)
 
   abbrev pub walked : List ℕ
-  walked = pooled (rests_of s count (take rows starts) (take rows none16)) 1 (count - 1)
+  walked = pooled (rests_of s count ats zero_groups) 1 (count - 1)
 
   same_pool : walked ≡ team
-  same_pool = ap (λ (r : List (List ℕ)). pooled r 1 (count - 1)) at_starts
+  same_pool = ap (λ (r : List (List ℕ)). pooled r 1 (count - 1)) same_rests
 
-  module _ (lent : List ℕ) (m : ℕ) (e : m ≡ length walked) where
+  pub counted : (m : ℕ) → m ≡ length walked → m ≡ length team
+  counted m e = e ∙ ap length same_pool
+
+  module _ (lent : List ℕ) (m : ℕ) (e : m ≡ length team) where
     told : answer m ≡ mapped length (answer team)
-    told = ap answer (e ∙ ap length same_pool)
+    told = ap answer e
 
     pub pool_short : length lent < m → listed (refused 22) lent ≡ into (answer team) lent
     pool_short k = into_short lent (answer team) m told k
 
     module _ (k : m ≤ length lent) where
       pub pool_fits : length walked ≡ length (take m lent)
-      pool_fits = sym e ∙ sym (length-take-le m lent k)
+      pool_fits = ap length same_pool ∙ sym e ∙ sym (length-take-le m lent k)
 
       pub pool_listed : (xs : List ℕ) → xs ≡ walked → listed (answer m) (xs ++ drop m lent) ≡ into (answer team) lent
-      pool_listed xs q = into_list lent (answer team) m xs (ap answer (q ∙ same_pool)) told k
+      pool_listed xs y = into_list lent (answer team) m xs (ap answer (y ∙ same_pool)) told k

@@ -244,9 +244,6 @@ module _ (s : List ℕ) (leaves : ℕ) (ats₀ groups₀ : List ℕ) where
     pub front : take count list ++ pooled (rests_of s leaves ats groups) leaf (leaves - leaf) ≡ whole
     pub fits : length whole ≡ length list
 
-  pub put_starts : (list : List ℕ) → Cursors s leaves 0 ats₀ groups₀ → length whole ≡ length list → Putting ats₀ groups₀ 0 1 0 list
-  put_starts list c e = record { walking = walk_starts c; held = omega arith; front = refl; fits = e }
-
   module _ (ats groups : List ℕ) (this leaf count : ℕ) (list : List ℕ) (p : Putting ats groups this leaf count list) where
     pub put_ends : leaves ≤ leaf → list ≡ whole
     put_ends h =

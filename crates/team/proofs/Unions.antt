@@ -158,10 +158,6 @@ module _ (s : List ℕ) (count : ℕ) where
         none : (k : ℕ) → seen k (rests_of s count ats₀ groups₀) ≡ any (holds k []) (seen k (rests_of s count ats₀ groups₀))
         none k = rw (holds_none k)
 
-    pub pool_ends : (ats groups : List ℕ) (pool next i : ℕ) → Pooling ats groups pool next i → length ats ≤ i
-        → (this < next) × Cursors s count next ats groups × Together s count this ats₀ groups₀ pool ats groups
-    pool_ends ats groups pool next i p h = (p.later, λ j l. p.passed j (omega arith) l, p.together)
-
     module _ (same : length ats₀ ≡ length groups₀) (ats groups : List ℕ) (pool next i : ℕ) (p : Pooling ats groups pool next i) (h : i < length ats) where
       pub next_whole : Whole s count this (get_or ats i 0) (get_or groups i 0)
       next_whole = p.ahead i (omega arith) h

@@ -33,5 +33,5 @@ pub fn pvs_team(
     if rows == 0 {
         return Ok(0);
     }
-    pool::list_rows(file, map.visibility, starts, rows, leaf_count, list)
+    pool::list_rows(file, map.visibility, &starts[..rows], leaf_count, list)
 }

@@ -40,10 +40,7 @@ fn start_of(file: &[u8], map: BspData, leaf: usize) -> Option<usize>
     if leaf == 0 {
         return None;
     }
-    match records::leaf::leaf(file, map, leaf) {
-        Ok(record) => record.vis_offset,
-        Err(_) => None,
-    }
+    records::leaf::leaf(file, map, leaf).ok()?.vis_offset
 }
 
 // The starts of the players' rows, at the front of `starts`, and how many there are.

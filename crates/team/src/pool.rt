@@ -1,7 +1,7 @@
 // The rows of a team, walked side by side, eight leaves at a time. A cursor for each row holds the position of the row's next byte and that
 // byte's group, the leaves from 1 + 8 * group on. A byte of the pool is the union of the rows' bytes for one group, and the next group is the
 // least that a cursor is at: groups that no row has a byte for are not looked at.
-ghost use Rattle.std.specs.Prelude.{◌≡◌, ◌+◌, ◌-◌, ◌*◌, ◌≤◌, ◌<◌, min, length, take, drop};
+ghost use Rattle.std.specs.Prelude.{◌≡◌, ◌+◌, ◌-◌, ◌*◌, ◌≤◌, ◌<◌, min, length, drop};
 ghost use Rattle.format.specs.Answers.{answer_of};
 ghost use Rattle.format.specs.Answer.{answer, refused};
 ghost use Rattle.format.specs.Listed.{listed, into};
@@ -13,7 +13,7 @@ ghost use Rattle.team.specs.SideBySide.{kept_bits, rests_of, rows_at, Cursors, S
 
 use format::refusal::{Answer, Refusal};
 use format::section::BspFileSection;
-use vis::row::{kept_bits, put_leaves};
+use vis::row::{kept_bits, put_leaves, visibility_of};
 
 // The byte of a row for a group, and the cursor after it.
 #[derive(Clone, Copy)]
@@ -25,6 +25,7 @@ struct Taken {
 
 // Takes the byte of a row for the group `this` from a cursor that has not passed it, 0 where the row has none there. (No `for`: the position
 // moves by one byte or by two.)
+#[tactic(auto, using(crate::proofs::Cursors::group_byte, crate::proofs::Cursors::group_follower, crate::proofs::Cursors::taken_byte, crate::proofs::Cursors::passed_group, crate::proofs::Cursors::skipped_groups))]
 fn row_byte(visibility: &[u8], at: usize, group: usize, this: usize, leaf_count: usize) -> Taken
     requires { (length visibility.now ≤ 1048576) × (at ≤ length visibility.now) × (group ≤ 255 * at) × (this ≤ group) × (1 + 8 * this < leaf_count) × (row_from leaf_count (1 + 8 * group) (drop at visibility.now) ≡ refused 33 → ⊥) }
     ensures { (result.at ≤ length visibility.now) × (result.group ≤ 255 * result.at) × (this < result.group) × (row_from leaf_count (1 + 8 * group) (drop at visibility.now) ≡ before (byte_leaves (1 + 8 * this) (kept_bits leaf_count (1 + 8 * this) result.byte)) (row_from leaf_count (1 + 8 * result.group) (drop result.at visibility.now))) }
@@ -59,7 +60,8 @@ struct Union {
 }
 
 // Takes the byte of each row for the group `this`, from cursors that have not passed it.
-// The cursors are two lists: as one list of pairs, of two usize or of two u32, they make a call take up to 11 or 19 percent longer.
+// The cursors are two lists: as one list of pairs, of two usize or of two u32, they make a call take up to 11 or 19 percent longer. (An index, and
+// no `zip` of two `iter_mut`: the invariant is of both lists at one place, which the index names.)
 fn pool_byte(
     visibility: &[u8],
     ats: &mut [usize],
@@ -105,7 +107,8 @@ fn pool_length(
     count
 }
 
-// Writes the leaves that the rows list together, which are as many as the list has entries. There is a row.
+// Writes the leaves that the rows list together, which are as many as the list has entries. There is a row. (No `for`: see `pool_length`. One
+// function for both would take what is done with a byte as a closure, which would hold the list and the count, and be no plainer.)
 fn put_pool(
     visibility: &[u8],
     ats: &mut [usize],
@@ -128,19 +131,21 @@ fn put_pool(
     }
 }
 
-// Lists the leaves that the rows at the first `rows` starts list together. There is a row.
-#[tactic(auto, using(crate::proofs::Found::as_many, crate::proofs::Found::some_rows, crate::proofs::Found::start_cursors, crate::proofs::Found::pool_short, crate::proofs::Found::pool_fits, crate::proofs::Found::pool_listed))]
+// Lists the leaves that the rows at the starts list together. There is a row, and at most 16. Each of the two
+// passes moves its own copy of the starts.
 fn list_pool(
     visibility: &[u8],
-    starts: [usize; 16],
-    rows: usize,
+    starts: &[usize],
     leaf_count: usize,
     list: &mut [u32],
 ) -> Answer<usize>
-    requires { (length visibility.now ≤ 1048576) × (0 < rows) × (rows ≤ 16) × Starts visibility.now leaf_count (take rows starts) }
-    ensures { listed (answer_of result) list.new ≡ into (answer (pooled (rows_at visibility.now leaf_count (take rows starts)) 1 (leaf_count - 1))) list.old }
+    requires { (length visibility.now ≤ 1048576) × (0 < length starts.now) × (length starts.now ≤ 16) × Starts visibility.now leaf_count starts.now }
+    ensures { listed (answer_of result) list.new ≡ into (answer (pooled (rows_at visibility.now leaf_count starts.now) 1 (leaf_count - 1))) list.old }
 {
-    let mut ats = starts;
+    let rows = starts.len();
+    let mut ats = [0usize; 16];
+    ats[..rows].copy_from_slice(starts);
+    let mut again = ats;
     let mut groups = [0usize; 16];
     let count = pool_length(
         visibility,
@@ -151,11 +156,10 @@ fn list_pool(
     if list.len() < count {
         return Err(Refusal::ListTooShort);
     }
-    ats = starts;
     groups = [0usize; 16];
     put_pool(
         visibility,
-        &mut ats[..rows],
+        &mut again[..rows],
         &mut groups[..rows],
         leaf_count,
         &mut list[..count],
@@ -164,23 +168,16 @@ fn list_pool(
 }
 
 // The same for rows of the visibility section, which lies in the file.
-#[tactic(auto, using(crate::proofs::Found::empty_data, crate::proofs::Found::section_data, crate::proofs::Found::section_size))]
 pub fn list_rows(
     file: &[u8],
     section: BspFileSection,
-    starts: [usize; 16],
-    rows: usize,
+    starts: &[usize],
     leaf_count: usize,
     list: &mut [u32],
 ) -> Answer<usize>
-    requires { (visibility_of file.now section ≡ answer (data_of file.now section)) × (0 < rows) × (rows ≤ 16) × Starts (data_of file.now section) leaf_count (take rows starts) }
-    ensures { listed (answer_of result) list.new ≡ into (answer (pooled (rows_at (data_of file.now section) leaf_count (take rows starts)) 1 (leaf_count - 1))) list.old }
+    requires { (visibility_of file.now section ≡ answer (data_of file.now section)) × (0 < length starts.now) × (length starts.now ≤ 16) × Starts (data_of file.now section) leaf_count starts.now }
+    ensures { listed (answer_of result) list.new ≡ into (answer (pooled (rows_at (data_of file.now section) leaf_count starts.now) 1 (leaf_count - 1))) list.old }
 {
-    let size = section.size;
-    if size == 0 {
-        return list_pool(&file[..0], starts, rows, leaf_count, list);
-    }
-    let start = section.offset as usize;
-    let end = start + (size as usize);
-    list_pool(&file[start..end], starts, rows, leaf_count, list)
+    let visibility = visibility_of(file, section)?;
+    list_pool(visibility, starts, leaf_count, list)
 }

@@ -1,14 +1,13 @@
 -- What the key of a name says of the name: its kind, and whether two stems are the same.
 -- Assumes nothing.
-use Rattle.std.specs.Prelude.{Option, Some, None, ℕ, zero, suc, ◌+◌, ◌*◌, ◌<◌, ◌≡◌, Bool, true, false, ◌&&◌, cond, List, eqb, ltb, length, get_or, drop, replicate}
-use Rattle.std.specs.List.{All}
-use Rattle.std.proofs.Common.{refl, ap, arith}
+use Rattle.std.specs.Prelude.{Option, Some, None, ℕ, zero, suc, ◌+◌, ◌*◌, ◌<◌, ◌≡◌, Bool, true, false, ◌&&◌, cond, List, eqb, ltb, length, get_or, replicate}
+use Rattle.std.proofs.Common.{refl, arith}
 use Rattle.std.proofs.lemmas.List.{length-drop}
 use Rattle.std.proofs.lemmas.List.Elements.{All-drop}
 use borrow.Author.Tests.{ltb-false}
 use Rattle.format.specs.Step.{Step, ok, refused}
 use Rattle.records.specs.Number.{offset_at}
-use Rattle.texture_list.specs.Name.{lowered, char_at, chars, same, stem_of, same_stem, little_endian}
+use Rattle.texture_list.specs.Name.{lowered, char_at, chars, stem_of, same_stem, little_endian}
 use Rattle.texture_list.specs.Key.{keyed, key_at}
 use Rattle.texture_list.specs.Kind.{is_of, is_kind, key_by, key_of}
 use Rattle.texture_list.specs.List.{name_of, names_of}
@@ -82,5 +81,5 @@ module _ (s : List ℕ) (bytes : (i : ℕ) → get_or s i 0 < 256) where
 
   -- two stems are the same exactly if the two numbers of their keys are
   pub same_is : (base i j : ℕ) → same_stem (names_of s base i) (names_of s base j)
-      ≡ (eqb (key_of s base i).stem_start (key_of s base j).stem_start && eqb (key_of s base i).stem_end (key_of s base j).stem_end)
+      ≡ (eqb (key_of s base i).stem.start (key_of s base j).stem.start && eqb (key_of s base i).stem.end (key_of s base j).stem.end)
   same_is base i j = rw (key_is s base i, key_is s base j) (same_numbers 7 _ _ (rw (long base i, long base j) refl) (small base i) (small base j))

@@ -8,8 +8,7 @@ abbrev pub keyed : List ℕ → Key
 keyed c = record {
   first = get_or c 0 0;
   frame = frame_of c;
-  stem_start = little_endian (take 7 (stem_of c));
-  stem_end = little_endian (drop 7 (stem_of c));
+  stem = record { start = little_endian (take 7 (stem_of c)); end = little_endian (drop 7 (stem_of c)) };
 }
 
 -- the key of the name at a position

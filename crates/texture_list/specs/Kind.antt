@@ -21,7 +21,7 @@ is_kind Primary k = eqb k.first 43 && (leb 48 k.frame && leb k.frame 57)
 is_kind Alternate k = eqb k.first 43 && (leb 97 k.frame && leb k.frame 106)
 
 abbrev pub no_key : Key
-no_key = record { first = 0; frame = 0; stem_start = 0; stem_end = 0 }
+no_key = record { first = 0; frame = 0; stem = record { start = 0; end = 0 } }
 
 abbrev pub key_by : List ℕ → ℕ → Step (Option ℕ) → Key
 key_by s base (ok None p) = no_key
@@ -37,10 +37,10 @@ abbrev pub passing : List ℕ → ℕ → Kind → ℕ → Bool
 passing s base kind i = is_kind kind (key_of s base i)
 
 abbrev pub starts : List ℕ → ℕ → ℕ → ℕ
-starts s base i = (key_of s base i).stem_start
+starts s base i = (key_of s base i).stem.start
 
 abbrev pub ends : List ℕ → ℕ → ℕ → ℕ
-ends s base i = (key_of s base i).stem_end
+ends s base i = (key_of s base i).stem.end
 
 -- a frame letter that is missing or wrong
 unfoldable pub is_wrong_key : Key → Bool
@@ -56,11 +56,11 @@ lettered lo c = is_animated c && (leb lo (frame_of c) && leb (frame_of c) (lo + 
 unfoldable pub grouped : ℕ → List ℕ → ℕ → ℕ → ℕ → ℕ → Bool
 grouped lo s base a b i =
     (eqb (key_of s base i).first 43 && (leb lo (key_of s base i).frame && leb (key_of s base i).frame (lo + 9)))
-    && (eqb a (key_of s base i).stem_start && eqb b (key_of s base i).stem_end)
+    && (eqb a (key_of s base i).stem.start && eqb b (key_of s base i).stem.end)
 
 -- a name with one frame and the stem of two numbers
 unfoldable pub is_frame : Key → ℕ → ℕ → ℕ → Bool
-is_frame k a b letter = eqb k.first 43 && (eqb k.frame letter && (eqb a k.stem_start && eqb b k.stem_end))
+is_frame k a b letter = eqb k.first 43 && (eqb k.frame letter && (eqb a k.stem.start && eqb b k.stem.end))
 
 abbrev pub framed : List ℕ → ℕ → ℕ → ℕ → ℕ → ℕ → Bool
 framed s base a b letter i = is_frame (key_of s base i) a b letter

@@ -1,10 +1,7 @@
-// What is answered of a texture by its number in the file.
-// A texture by its number in the file: whether it is there; the 16 bytes of its name, lowered, with zeros from the first zero on, as two
-// numbers whose lowest byte comes first; its width and height. An absent one has zeros: these are the words that C reads, so the flag is a
-// word and no `Option`.
+// What is answered of a texture by its number in the file, if it is there: the 16 bytes of its name, lowered, with zeros from the first zero on,
+// as two numbers whose lowest byte comes first; its width and height.
 #[derive(Clone, Copy)]
 pub struct BspTexture {
-    pub present: bool,
     pub name_start: u64,
     pub name_end: u64,
     pub width: u32,

@@ -2,16 +2,22 @@
 ghost use Rattle.std.specs.Prelude.{◌≡◌};
 ghost use Rattle.texture_list.specs.Kind.{key_of, is_kind};
 
-use crate::name::read_key;
+use crate::name::{Header, read_key};
 use records::number::read_offset;
 
-// A name: its first byte, its frame where the first is a plus sign, and its stem as two numbers.
+// A stem as two numbers: its first seven bytes, and the others.
+#[derive(Clone, Copy, PartialEq, Eq)]
+pub struct Stem {
+    pub start: u64,
+    pub end: u64,
+}
+
+// A name: its first byte, its frame where the first is a plus sign, and its stem.
 #[derive(Clone, Copy)]
 pub struct Key {
     pub first: u8,
     pub frame: u8,
-    pub stem_start: u64,
-    pub stem_end: u64,
+    pub stem: Stem,
 }
 
 // What a search asks for.
@@ -22,25 +28,23 @@ pub enum Kind {
     Alternate,
 }
 
-// The name of a texture that is absent.
+// The name of a texture that is absent: of no kind, since it does not begin with a plus sign; so no Option is asked of each search.
 const NO_KEY: Key = Key {
     first: 0,
     frame: 0,
-    stem_start: 0,
-    stem_end: 0,
+    stem: Stem { start: 0, end: 0 },
 };
 
 // The name of the texture of a number in the file.
-// Set in where it is called: who asks for the kind of a texture alone does not read the rest of its name then.
+// Inlined: who asks for the kind of a texture alone does not read the rest of its name then. (The parameters of the calls of `section`.)
 #[inline(always)]
 #[tactic(auto, unfolding(crate::specs::Kind::key_of))]
 pub fn key_of(s: &[u8], base: u32, index: u32) -> Key
     ensures { result ≡ key_of s.now base index }
 {
     match read_offset(s, (base as usize) + 4 + 4 * (index as usize)) {
-        Ok((Some(offset), _)) => read_key(s, (base as usize) + offset),
-        Ok((None, _)) => NO_KEY,
-        Err(_) => NO_KEY,
+        Ok((Some(offset), _)) => read_key(s, Header { base, offset }),
+        _ => NO_KEY,
     }
 }
 

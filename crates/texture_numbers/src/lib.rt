@@ -10,21 +10,14 @@ ghost use Rattle.texture_numbers.specs.Renumber.{has_none, number_in, Led};
 
 use format::refusal::Answer;
 use format::section::BspData;
-use textures::earliest::earliest_textures;
-
-// What stands for a static texture, which has no stem.
-const NONE: u32 = 4294967295;
+use textures::earliest::{NONE, earliest_textures};
 
 // How many textures are static.
 fn count_static(list: &[u32]) -> u32
     requires { length list.now ≤ 2097152 }
     ensures { result ≡ count (has_none list.now) (length list.now) }
 {
-    let mut n = 0;
-    for &first in list {
-        n += u32::from(first == NONE);
-    }
-    n
+    list.iter().filter(|first| **first == NONE).count() as u32
 }
 
 // The new number of a texture, where `first` is the first one with its stem: so many static textures and firsts are before it, and all textures
@@ -44,6 +37,7 @@ fn number_of(list: &[u32], first: u32, index: u32, before: u32, statics: u32, fi
 }
 
 // Puts the new number of each texture where the first one with its stem stands.
+#[tactic(auto, using(crate::proofs::Numbering::starts, crate::proofs::Numbering::first_inside, crate::proofs::Numbering::counts_none, crate::proofs::Numbering::counts_first, textures::proofs::Firsts::starts_at, textures::proofs::Firsts::count_below))]
 fn number_all(list: &mut [u32])
     requires { (length list.old ≤ 2097152) × Led list.old }
     ensures { list.new ≡ values_below (number_in list.old) (length list.old) }
@@ -62,6 +56,7 @@ fn number_all(list: &mut [u32])
 
 // The new number of each texture, by its number in the file, at the front of a lent list, whose other entries are kept. 23 where the section
 // does not read, then 22; a refusal writes nothing.
+#[tactic(auto, using(crate::proofs::Listing::few_found, crate::proofs::Listing::led_found, crate::proofs::Listing::numbered))]
 pub fn texture_numbers(file: &[u8], map: BspData, list: &mut [u32]) -> Answer<u32>
     ensures { listed (answer_of result) list.new ≡ into (texture_numbers file.now map) list.old }
 {

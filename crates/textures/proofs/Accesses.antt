@@ -5,16 +5,12 @@ use mathlib.Core.Path.{◌≡◌, refl, sym, ◌∙◌}
 use mathlib.Core.Bool.{Bool, true, false, ◌&&◌, cond}
 use mathlib.Core.List.{List}
 use native.Mathlib.Omega.{arith}
-use borrow.Author.Tests.{ne_eqb, le-ltb, leb-true, le-leb, lt-leb}
+use borrow.Author.Tests.{ne_eqb, le-ltb, leb-true}
 use lib.Dec.{eqb, ltb}
-use Rattle.format.specs.Answer.{Answer, answer, refused, then_answer}
-use Rattle.format.specs.declared.section.BspData.{BspData}
-use Rattle.records.specs.declared.texinfo.BspTexInfo.{BspTexInfo}
-use Rattle.texture_list.specs.Kind.{lettered}
+use Rattle.format.specs.Answer.{answer, refused, then_answer}
 use Rattle.textures.specs.Count.{count, lowest, nth}
-use Rattle.textures.specs.Group.{is_static, is_first, alike, precedes, place_of, within, numbered_by, static_by, frame_by}
-use Rattle.texture_list.specs.List.{names_of}
-use Rattle.textures.specs.Access.{sound_at, is_sound, info_at, names_in, frame_texture, static_texture, renumbered}
+use Rattle.textures.specs.Group.{is_static, is_first, alike, precedes, place_of, within, static_by, frame_by}
+use Rattle.textures.specs.Access.{sound_at}
 use Rattle.textures.proofs.Marks.{any_none, and_left}
 use Rattle.textures.proofs.Firsts.{count_below, lowest_none}
 
@@ -39,7 +35,7 @@ nth_past p k n h = lowest_none _ n (any_none _ n one)
 within_past : (n i : ℕ) → n ≤ i → within n i ≡ refused 20
 within_past n i h = rw (le-ltb i n h) refl
 
-static_past : (name : ℕ → List ℕ) (n k : ℕ) → n ≤ k → static_by name n k ≡ refused 20
+pub static_past : (name : ℕ → List ℕ) (n k : ℕ) → n ≤ k → static_by name n k ≡ refused 20
 unfolding static_by
 static_past name n k h = rw (nth_past (is_static name) k n h) (within_past n n (omega arith))
 
@@ -72,52 +68,3 @@ module _ (kind : List ℕ → Bool) (name : ℕ → List ℕ) (n : ℕ) (few : n
       by true y = refl
       by false false = refl
       by false true = rw (no_such_place place i h) (sym (within_past n n (omega arith)))
-
--- ---- the accessors by number
-
-module _ (s : List ℕ) (m : BspData) (x : Bool) (is : x ≡ is_sound s m) where
-  pub static_unsound : (k : ℕ) → x ≡ false → refused 23 ≡ static_texture s m k
-  unfolding static_texture
-  static_unsound k e = rw (← is, e) refl
-
-  pub static_outside : (k : ℕ) → x ≡ true → 4294967295 < k → refused 20 ≡ static_texture s m k
-  unfolding static_texture
-  static_outside k e h = rw (← is, e) (sym (static_past (names_in s m) m.texture_count k (omega (arith, few_textures s m.textures.offset m.texture_count x is e, h))))
-
-  pub static_by_lem : (k : ℕ) (r : Answer ℕ) → x ≡ true → r ≡ static_by (names_of s m.textures.offset) m.texture_count k → r ≡ static_texture s m k
-  unfolding static_texture
-  static_by_lem k r e h = rw (← is, e) h
-
-  module _ (number group place : ℕ) where
-    pub frame_unsound : x ≡ false → refused 23 ≡ frame_texture s m number group place
-    unfolding frame_texture
-    frame_unsound e = rw (← is, e) refl
-
-    module _ (e : x ≡ true) where
-      pub frame_primary : (r : Answer ℕ) → group ≡ 0 → r ≡ frame_by (lettered 48) (names_of s m.textures.offset) m.texture_count number place → r ≡ frame_texture s m number group place
-      unfolding frame_texture
-      frame_primary r g h = rw (← is, e, g) h
-
-      pub frame_alternate : (r : Answer ℕ) → group ≡ 1 → r ≡ frame_by (lettered 97) (names_of s m.textures.offset) m.texture_count number place → r ≡ frame_texture s m number group place
-      unfolding frame_texture
-      frame_alternate r g h = rw (← is, e, g) h
-
-      pub frame_no_group : (group ≡ 0 → ⊥) → (group ≡ 1 → ⊥) → refused 20 ≡ frame_texture s m number group place
-      unfolding frame_texture
-      frame_no_group g h = rw (← is, e, ne_eqb group 0 g, ne_eqb group 1 h) refl
-
--- ---- texture infos
-
-module _ (s : List ℕ) (base n : ℕ) (info : BspTexInfo) where
-  pub info_outside : n ≤ info.tex_id → refused 23 ≡ info_at s base n info
-  unfolding info_at
-  info_outside h = rw (le-leb n info.tex_id h) refl
-
-  module _ (inside : info.tex_id < n) (x : Bool) (is : x ≡ sound_at s base n) where
-    pub info_unsound : x ≡ false → refused 23 ≡ info_at s base n info
-    unfolding info_at
-    info_unsound e = rw (lt-leb n info.tex_id inside, ← is, e) refl
-
-    pub info_numbered : (k : ℕ) (y : BspTexInfo) → x ≡ true → k ≡ numbered_by (names_of s base) n info.tex_id → y ≡ renumbered info k → answer y ≡ info_at s base n info
-    unfolding info_at
-    info_numbered k y e f g = rw (lt-leb n info.tex_id inside, ← is, e, g, f) refl

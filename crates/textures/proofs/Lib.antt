@@ -13,4 +13,4 @@ pub mod Leads
 mod Places
 pub mod Accesses
 mod Trials
-mod Scans
+pub mod Scans

@@ -1,16 +1,18 @@
 -- The new numbers by keys are those by names.
 -- Assumes nothing.
 use Prim.Native.Nat.{ℕ, zero, suc, ◌+◌, ◌<◌, ◌≤◌}
-use mathlib.Core.Path.{◌≡◌, refl, sym, ap, ◌∙◌, subst}
+use mathlib.Core.Path.{◌≡◌, refl, sym, ap, ◌∙◌}
 use mathlib.Core.Bool.{Bool, true, false, not, ◌&&◌}
 use mathlib.Core.List.{List}
 use native.Mathlib.Omega.{arith}
 use borrow.Author.Tests.{ltb-true, ltb-false}
 use lib.Dec.{eqb, ltb}
 use lib.ListN.{get_or}
+use Rattle.std.specs.Prelude.{Option, Some, None}
+use Rattle.std.specs.Option.{MatchOption, unwrap_or}
 use Rattle.format.specs.Answer.{Answer}
 use Rattle.texture_list.specs.Name.{is_animated}
-use Rattle.textures.specs.Count.{any, count, lowest, nth}
+use Rattle.textures.specs.Count.{count, lowest, nth}
 use Rattle.textures.specs.Group.{alike, is_static, is_first, within, numbered_by, static_by}
 use Rattle.texture_list.specs.Kind.{is_of, is_kind, key_of, passing, starts, ends}
 use Rattle.texture_list.specs.List.{names_of}
@@ -18,7 +20,7 @@ use Rattle.textures.specs.Table.{is_earliest, Reached}
 use Rattle.texture_list.specs.declared.kind.Kind.TheVariants.{Animated}
 use Rattle.texture_list.specs.declared.kind.Key.{Key}
 use Rattle.texture_list.proofs.Keys.{kind_is, same_is}
-use Rattle.textures.proofs.Marks.{any_same}
+use Rattle.textures.proofs.Marks.{any_same, any_none}
 use Rattle.textures.proofs.Firsts.{count_same, count_below, lowest_at, lowest_none, part_counted, reached_nth}
 
 pub both : {a b c d : Bool} → a ≡ b → c ≡ d → (a && c) ≡ (b && d)
@@ -29,13 +31,12 @@ unfolding lowest
 lowest_same p q zero h = refl
 lowest_same p q (suc n) h = rw (any_same p q n h, lowest_same p q n h, h n) refl
 
--- the ways through a loop that looks for the lowest
-module _ (p : ℕ → Bool) (n i : ℕ) (none : any p i ≡ false) where
-  pub finds_lowest : (r : Bool) → i < n → r ≡ p i → r ≡ true → i ≡ lowest p n
-  finds_lowest r h e f = sym (lowest_at p n i h (sym e ∙ f) none)
-
-  pub finds_no_lowest : i ≤ n → n ≤ i → i ≡ lowest p n
-  finds_no_lowest h k = let e : i ≡ n = omega arith in e ∙ sym (lowest_none p n (subst (λ (x : ℕ). any p x ≡ false) e none))
+-- what the library's `find` answers of the numbers below n is the lowest
+pub found_lowest : (p : ℕ → Bool) (n : ℕ) (r : Option ℕ)
+    → MatchOption r ((k : ℕ) → 0 ≤ k → k < n → p k ≡ false) (λ i. (0 ≤ i) × (i < n) × (p i ≡ true) × ((k : ℕ) → 0 ≤ k → k < i → p k ≡ false))
+    → (unwrap_or r n ≡ lowest p n) × (unwrap_or r n ≤ n)
+found_lowest p n None h = (sym (lowest_none p n (any_none p n (λ k l. h k (omega arith) l))), omega arith)
+found_lowest p n (Some i) h = (sym (lowest_at p n i h.1 h.2 (any_none p i (λ k l. h.3 k (omega arith) l))), omega (arith, h.1))
 
 pub animated_is : (s : List ℕ) (base i : ℕ) → is_animated (names_of s base i) ≡ passing s base Animated i
 unfolding is_of
@@ -63,7 +64,7 @@ module _ (s : List ℕ) (bytes : (i : ℕ) → get_or s i 0 < 256) (base : ℕ) 
     unfolding numbered_by
     number_static st e f = rw (is_animated_lem, e) (f ∙ sym (statics_are i))
 
-    module _ (first : ℕ) (is_first_lem : first ≡ lowest (λ j. passing s base Animated j && (eqb key.stem_start (starts s base j) && eqb key.stem_end (ends s base j))) n)
+    module _ (first : ℕ) (is_first_lem : first ≡ lowest (λ j. passing s base Animated j && (eqb key.stem.start (starts s base j) && eqb key.stem.end (ends s base j))) n)
         (low : first ≤ n) (few : n ≤ 2097152) (at seen : ℕ) (reached : Reached (is_earliest (passing s base Animated) (starts s base) (ends s base)) 4294967295 first at seen) where
       pub seen_low : seen ≤ 2097152
       seen_low = omega (arith, reached.counted, reached.inside, low, few, count_below (is_earliest (passing s base Animated) (starts s base) (ends s base)) at)
@@ -76,7 +77,7 @@ module _ (s : List ℕ) (bytes : (i : ℕ) → get_or s i 0 < 256) (base : ℕ) 
           by false e = ltb-false at first e
 
       first_is : lowest (alike is_animated (names_of s base) i) n ≡ first
-      first_is = lowest_same _ _ n (λ j. like_is i j ∙ ap (λ (k : Key). passing s base Animated j && (eqb k.stem_start (starts s base j) && eqb k.stem_end (ends s base j))) (sym is_key)) ∙ sym is_first_lem
+      first_is = lowest_same _ _ n (λ j. like_is i j ∙ ap (λ (k : Key). passing s base Animated j && (eqb k.stem.start (starts s base j) && eqb k.stem.end (ends s base j))) (sym is_key)) ∙ sym is_first_lem
 
       pub number_animated : (st : ℕ) → x ≡ true → st ≡ count (λ i. not (passing s base Animated i)) n → st + seen ≡ numbered_by (names_of s base) n i
       unfolding numbered_by

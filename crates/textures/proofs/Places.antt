@@ -250,9 +250,9 @@ module _ (lo : ℕ) (s : List ℕ) (bytes : (i : ℕ) → get_or s i 0 < 256) (b
       frame_of_none h = rw (static_count, first_at) (simp (le-ltb number st above, le-ltb at n h))
 
       module _ (inside : at < n) (key : Key) (is_key : key ≡ key_of s base at) (j : ℕ)
-          (is-j : j ≡ lowest (λ j. grouped lo s base key.stem_start key.stem_end j && eqb (ranked (grouped lo s base key.stem_start key.stem_end) (frames s base) n j) place) n) where
+          (is-j : j ≡ lowest (λ j. grouped lo s base key.stem.start key.stem.end j && eqb (ranked (grouped lo s base key.stem.start key.stem.end) (frames s base) n j) place) n) where
         found_is : lowest (λ j. alike (lettered lo) (names_of s base) at j && eqb (place_of (lettered lo) (names_of s base) n j) place) n ≡ j
-        found_is = lowest_is at n place ∙ sym (subst (λ (k : Key). j ≡ lowest (λ j. grouped lo s base k.stem_start k.stem_end j && eqb (ranked (grouped lo s base k.stem_start k.stem_end) (frames s base) n j) place) n) is_key is-j)
+        found_is = lowest_is at n place ∙ sym (subst (λ (k : Key). j ≡ lowest (λ j. grouped lo s base k.stem.start k.stem.end j && eqb (ranked (grouped lo s base k.stem.start k.stem.end) (frames s base) n j) place) n) is_key is-j)
 
         pub frame_within : (r : Answer ℕ) → r ≡ within n j → r ≡ frame_by (lettered lo) (names_of s base) n number place
         unfolding frame_by

@@ -59,7 +59,7 @@ not_sieved t w sieve a b table sieved none = sieve_none _ not-at
         let q : get_or t (4 * v + 1) 0 ≡ b = eqb-true _ _ (and_right (eqb (get_or t (4 * v) 0) a) _ n.1.1) in
         true_false (sym (sieved v n.0 n.1.0) ∙ (ap (λ (x : ℕ). may_have sieve x (get_or t (4 * v + 1) 0)) p ∙ (ap (λ (x : ℕ). may_have sieve a x) q ∙ none)))
 
-pub sought_sifted : (key of : Key) → key ≡ of → (t : List ℕ) (l : Option ℕ) → SameNode l (seek t key.stem_start key.stem_end 145 0 0) → SameNode l (seek t of.stem_start of.stem_end 145 0 0)
+pub sought_sifted : (key of : Key) → key ≡ of → (t : List ℕ) (l : Option ℕ) → SameNode l (seek t key.stem.start key.stem.end 145 0 0) → SameNode l (seek t of.stem.start of.stem.end 145 0 0)
 sought_sifted key of is_key t l e = rw (← is_key) e
 
 -- a node is marked by the search by the sieve

@@ -14,33 +14,30 @@ use format::section::BspData;
 use records::texinfo::{BspTexInfo, texinfo};
 
 // The static texture of a new number.
+#[tactic(auto, using(crate::proofs::Accesses::static_past, format::proofs::Chain::tests, crate::proofs::Accesses::few_textures), unfolding(crate::specs::Access::static_texture))]
 pub fn static_texture(file: &[u8], map: BspData, number: u64) -> Answer<u32>
     ensures { answer_of result ≡ Access.static_texture file.now map number }
 {
     if !is_sound(file, map.textures.offset, map.texture_count) {
         return Err(Refusal::Unreadable);
     }
-    let Ok(number) = u32::try_from(number) else {
-        return Err(Refusal::NoSuchRecord);
-    };
+    let number = u32::try_from(number).map_err(|_| Refusal::NoSuchRecord)?;
     find_static(file, map.textures.offset, map.texture_count, number)
 }
 
 // The frame at a place of a group of a section that reads; its letters start at `lo`.
+#[tactic(auto, using(crate::proofs::Accesses::number_past, crate::proofs::Accesses::place_past))]
 fn group_frame(s: &[u8], base: u32, count: u32, lo: u8, number: u64, place: u64) -> Answer<u32>
     requires { (lo ≤ 97) × (count ≤ 2097152) }
     ensures { answer_of result ≡ frame_by (lettered lo) (names_of s.now base) count number place }
 {
-    let Ok(number) = u32::try_from(number) else {
-        return Err(Refusal::NoSuchRecord);
-    };
-    let Ok(place) = u32::try_from(place) else {
-        return Err(Refusal::NoSuchRecord);
-    };
+    let number = u32::try_from(number).map_err(|_| Refusal::NoSuchRecord)?;
+    let place = u32::try_from(place).map_err(|_| Refusal::NoSuchRecord)?;
     find_frame(s, base, count, lo, number, place)
 }
 
 // The frame at a place of a group, 0 the primary and 1 the alternate one, of the texture of a new number.
+#[tactic(auto, using(crate::proofs::Accesses::few_textures, format::proofs::Chain::tests), unfolding(crate::specs::Access::frame_texture))]
 pub fn frame_texture(file: &[u8], map: BspData, number: u64, group: u32, place: u64) -> Answer<u32>
     ensures { answer_of result ≡ Access.frame_texture file.now map number group place }
 {
@@ -66,6 +63,7 @@ fn renumber(info: BspTexInfo, number: u32) -> BspTexInfo
 }
 
 // A texture info with its texture's new number.
+#[tactic(auto, using(crate::proofs::Accesses::few_textures, format::proofs::Chain::tests), unfolding(crate::specs::Access::info_at))]
 fn number_info(s: &[u8], base: u32, count: u32, info: BspTexInfo) -> Answer<BspTexInfo>
     ensures { answer_of result ≡ Access.info_at s.now base count info }
 {
@@ -77,7 +75,7 @@ fn number_info(s: &[u8], base: u32, count: u32, info: BspTexInfo) -> Answer<BspT
 }
 
 // The texture info of an index, with its texture's new number. A call of its own, since the tables that the number is found with lie in its
-// frame, which is written to page by page: what reads another record does without them.
+// frame, which is written to page by page: what reads another record does without them. (The parameters of the calls of `records`.)
 #[inline(never)]
 #[tactic(auto, using(format::proofs::Chain::steps), unfolding(crate::specs::Access::texture_info))]
 pub fn texture_info(file: &[u8], map: BspData, index: usize) -> Answer<BspTexInfo>

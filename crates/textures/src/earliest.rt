@@ -14,12 +14,13 @@ ghost use Rattle.texture_list.specs.declared.kind.Kind.TheVariants as Of;
 use crate::group::fill;
 use crate::sieve::{seek_sifted, sift_all};
 use crate::sound::is_sound_in;
+use crate::stem_table::StemTable;
 use format::refusal::{Answer, Refusal};
 use format::section::BspData;
 use texture_list::kind::{Kind, is_kind, key_of};
 
-// No texture.
-const NONE: u32 = 4294967295;
+// No texture: the first one with its stem, said of a static texture.
+pub const NONE: u32 = u32::MAX;
 
 // The textures whose stems a table has.
 #[derive(Clone, Copy)]
@@ -49,7 +50,7 @@ fn look_up(
     if !is_kind(Kind::Animated, key) {
         return NONE;
     }
-    let Some(v) = seek_sifted(t, sieve, key.stem_start, key.stem_end) else {
+    let Some(v) = seek_sifted(t, sieve, key.stem) else {
         return NONE;
     };
     let head = heads[v];
@@ -81,54 +82,56 @@ fn look_up_all(
     }
 }
 
-// Part by part. The table, its sieve and the nodes' textures are for the function's own use.
+// Part by part. The table, whose marks are the nodes' textures, and its sieve are for the function's own use.
 fn look_up_parts(
     s: &[u8],
     base: u32,
     count: u32,
-    t: &mut [u64],
+    table: &mut StemTable<u32>,
     sieve: &mut [u8],
-    heads: &mut [u32],
     list: &mut [u32],
 )
-    requires { (8 ≤ length t.old) × ((length t.old ≡ 4 * length heads.old) × ((count ≤ 2097152) × ((length list.old ≡ count) × Stems.Known s.now base Of.Animated count 0 list.old))) }
+    requires { (count ≤ 2097152) × ((length list.old ≡ count) × Stems.Known s.now base Of.Animated count 0 list.old) }
     ensures { Stems.Known s.now base Of.Animated count count list.new }
 {
+    let (words, heads) = (&mut *table.words, &mut *table.marks);
     let mut from = 0;
     // not by `for`: a part ends where its table is full
     while from < count {
-        let filling = fill(s, base, Kind::Animated, from, count, t);
+        let filling = fill(s, base, Kind::Animated, from, count, words);
         let heads = &mut heads[..filling.nodes];
-        sift_all(t, filling.nodes, sieve);
+        sift_all(words, filling.nodes, sieve);
         let part = Part {
             from,
             to: filling.to,
         };
-        look_up_all(s, base, count, part, t, sieve, heads, list);
+        look_up_all(s, base, count, part, words, sieve, heads, list);
         from = filling.to;
     }
 }
 
 // The first texture with the stem of each texture of a section of so many.
+#[tactic(auto, using(crate::proofs::Leads::all_found))]
 fn find_each(
     s: &[u8],
     base: u32,
     count: u32,
-    t: &mut [u64],
+    table: &mut StemTable<u32>,
     sieve: &mut [u8],
-    heads: &mut [u32],
     list: &mut [u32],
 )
-    requires { (8 ≤ length t.old) × ((length t.old ≡ 4 * length heads.old) × ((count ≤ 2097152) × (length list.old ≡ count))) }
+    requires { (count ≤ 2097152) × (length list.old ≡ count) }
     ensures { list.new ≡ values_below (earliest_by (names_of s.now base) count) count }
 {
     list.fill(NONE);
-    look_up_parts(s, base, count, t, sieve, heads, list);
+    look_up_parts(s, base, count, table, sieve, list);
 }
 
 // For each texture of the map, by its number in the file, the first one with its stem, and 2^32 - 1 for a static one, which has none: at the
 // front of a lent list, whose other entries are kept. 23 where the section does not read, then 22; a refusal writes nothing. The test that the
-// section reads and the search have the table in turn; all but the list is for the function's own use.
+// section reads and the search have the words in turn, each with marks of its own: so words and marks are lent one by one, and are made a
+// `StemTable` for each of the two. All but the list is for the function's own use.
+#[tactic(auto, using(crate::proofs::Leads::earliest_unsound, crate::proofs::Leads::earliest_short, crate::proofs::Leads::earliest_listed))]
 fn list_earliest(
     file: &[u8],
     map: BspData,
@@ -142,14 +145,22 @@ fn list_earliest(
     ensures { listed (answer_of result) list.new ≡ into (earliest_textures file.now map) list.old }
 {
     let (base, count) = (map.textures.offset, map.texture_count);
-    if !is_sound_in(file, base, count, t, marks) {
+    let mut table = StemTable {
+        words: &mut *t,
+        marks,
+    };
+    if !is_sound_in(file, base, count, &mut table) {
         return Err(Refusal::Unreadable);
     }
     let end = count as usize;
     if list.len() < end {
         return Err(Refusal::ListTooShort);
     }
-    find_each(file, base, count, t, sieve, heads, &mut list[..end]);
+    let mut table = StemTable {
+        words: t,
+        marks: heads,
+    };
+    find_each(file, base, count, &mut table, sieve, &mut list[..end]);
     Ok(count)
 }
 

@@ -12,20 +12,22 @@ ghost use Rattle.textures.specs.Stems as Stems;
 ghost use Rattle.textures.specs.Table as Tab;
 
 use crate::sieve::seek_sifted;
+use crate::stem_table::StemTable;
 use crate::table::{Located, add, seek};
 use format::refusal::{Answer, Refusal};
-use texture_list::kind::{Kind, is_kind, key_of};
+use texture_list::kind::{Kind, Stem, is_kind, key_of};
 
 // A stem in the table of the nodes below `nodes`, which become one more if it is new. `None` says that there is no room. A slice of the nodes
 // would not do: a new one goes behind them.
-fn insert(t: &mut [u64], nodes: usize, a: u64, b: u64) -> Option<usize>
+#[tactic(auto, using(crate::proofs::Steps::ins_at, crate::proofs::Steps::ins_deep, crate::proofs::Steps::ins_full, crate::proofs::Steps::ins_new))]
+fn insert(t: &mut [u64], nodes: usize, stem: Stem) -> Option<usize>
     requires { Tab.Table t.old nodes × (8 ≤ length t.old) }
-    ensures { Tab.Insertion true t.old nodes a b t.new result }
+    ensures { Tab.Insertion true t.old nodes stem.start stem.end t.new result }
 {
-    match seek(t, a, b) {
+    match seek(t, stem) {
         Located::At(_) => Some(nodes),
         Located::Free(slot) if nodes < t.len() / 4 => {
-            add(t, slot, nodes, a, b);
+            add(t, slot, nodes, stem);
             Some(nodes + 1)
         }
         _ => None,
@@ -47,7 +49,7 @@ fn fill_one(
 {
     let key = key_of(s, base, index);
     if is_kind(kind, key) {
-        return insert(t, nodes, key.stem_start, key.stem_end);
+        return insert(t, nodes, key.stem);
     }
     Some(nodes)
 }
@@ -76,6 +78,7 @@ pub fn fill(s: &[u8], base: u32, kind: Kind, from: u32, count: u32, t: &mut [u64
 }
 
 // Marks the node with the stem of a texture, if the texture is of a kind.
+#[tactic(auto, using(crate::proofs::Sieves::sought_sifted, crate::proofs::Sieves::sifted_at, crate::proofs::Steps::is_of))]
 #[inline(always)]
 fn mark_one(s: &[u8], base: u32, kind: Kind, index: u32, t: &[u64], sieve: &[u8], marks: &mut [u8])
     requires { Tab.Table t.now (length marks.old) × (Stems.Marked s.now base kind t.now (length marks.old) marks.old index × Sieved t.now (length marks.old) sieve.now) }
@@ -83,7 +86,7 @@ fn mark_one(s: &[u8], base: u32, kind: Kind, index: u32, t: &[u64], sieve: &[u8]
 {
     let key = key_of(s, base, index);
     if is_kind(kind, key) {
-        if let Some(v) = seek_sifted(t, sieve, key.stem_start, key.stem_end) {
+        if let Some(v) = seek_sifted(t, sieve, key.stem) {
             marks[v] = 1;
         }
     }
@@ -109,17 +112,17 @@ fn has_unmarked(marks: &[u8]) -> bool
     marks.iter().skip(1).any(|mark| *mark == 0)
 }
 
-// Whether a texture of the alternate kind has a stem that no primary one has. The table and the marks are for the function's own use.
-fn has_lone(s: &[u8], base: u32, count: u32, t: &mut [u64], marks: &mut [u8]) -> bool
-    requires { (8 ≤ length t.old) × (length t.old ≡ 4 * length marks.old) }
+// Whether a texture of the alternate kind has a stem that no primary one has.
+fn has_lone(s: &[u8], base: u32, count: u32, table: &mut StemTable<u8>) -> bool
     ensures { result ≡ any (Tab.is_lone (passing s.now base Of.Alternate) (passing s.now base Of.Primary) (starts s.now base) (ends s.now base) count) count }
 {
+    let (words, marks) = (&mut *table.words, &mut *table.marks);
     let mut from = 0;
     // not by `for`: a part ends where its table is full
     while from < count {
-        let filling = fill(s, base, Kind::Alternate, from, count, t);
+        let filling = fill(s, base, Kind::Alternate, from, count, words);
         let marks = &mut marks[..filling.nodes];
-        mark(s, base, Kind::Primary, count, t, &[], marks);
+        mark(s, base, Kind::Primary, count, words, &[], marks);
         if has_unmarked(marks) {
             return true;
         }
@@ -143,22 +146,15 @@ fn has_wrong(s: &[u8], base: u32, count: u32) -> bool
     (0..count).any(|i| is_wrong(s, base, i))
 }
 
-// The frame letters of all textures, and then the alternate groups without a primary one. The table and the marks are for the function's own
-// use.
-pub fn check_groups_in(
-    s: &[u8],
-    base: u32,
-    count: u32,
-    t: &mut [u64],
-    marks: &mut [u8],
-) -> Answer<usize>
-    requires { (8 ≤ length t.old) × (length t.old ≡ 4 * length marks.old) }
+// The frame letters of all textures, and then the alternate groups without a primary one.
+#[tactic(auto, using(crate::proofs::Sequence::finds_wrong, crate::proofs::Sequence::finds_lone, crate::proofs::Sequence::finds_none))]
+pub fn check_groups_in(s: &[u8], base: u32, count: u32, table: &mut StemTable<u8>) -> Answer<usize>
     ensures { position_step result ≡ sequenced (names_of s.now base) count }
 {
     if has_wrong(s, base, count) {
         return Err(Refusal::InvalidFrame);
     }
-    if has_lone(s, base, count, t, marks) {
+    if has_lone(s, base, count, table) {
         return Err(Refusal::NoPrimaryFrames);
     }
     Ok(0)
@@ -171,7 +167,11 @@ fn check_sized<const WORDS: usize, const N: usize>(s: &[u8], base: u32, count: u
 {
     let mut t = [0; WORDS];
     let mut marks = [0; N];
-    check_groups_in(s, base, count, &mut t, &mut marks)
+    let mut table = StemTable {
+        words: &mut t,
+        marks: &mut marks,
+    };
+    check_groups_in(s, base, count, &mut table)
 }
 
 // With a table of its own: a small one, of 1,024 nodes, or a large one, of 16,384 nodes.

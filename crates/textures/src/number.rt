@@ -10,8 +10,9 @@ ghost use Rattle.texture_list.specs.declared.kind.Kind.TheVariants as Of;
 
 use crate::group::{fill, mark};
 use crate::sieve::sift_all;
+use crate::stem_table::StemTable;
 use crate::table::{Located, seek};
-use texture_list::kind::{Kind, is_kind, key_of};
+use texture_list::kind::{Kind, Stem, is_kind, key_of};
 
 // Whether a texture is static.
 fn is_static(s: &[u8], base: u32, index: u32) -> bool
@@ -24,11 +25,7 @@ fn is_static(s: &[u8], base: u32, index: u32) -> bool
 pub fn count_static(s: &[u8], base: u32, upto: u32) -> u32
     ensures { result ≡ count (λ i. not (passing s.now base Of.Animated i)) upto }
 {
-    let mut n = 0;
-    for i in 0..upto {
-        n += u32::from(is_static(s, base, i));
-    }
-    n
+    (0..upto).filter(|i| is_static(s, base, *i)).count() as u32
 }
 
 // Whether a texture is the earliest with its stem. The table has the stem, and marks the stems of the textures before this one; this one's is
@@ -41,7 +38,7 @@ fn is_first(s: &[u8], base: u32, index: u32, t: &[u64], marks: &mut [u8]) -> boo
     if !is_kind(Kind::Animated, key) {
         return false;
     }
-    let Located::At(v) = seek(t, key.stem_start, key.stem_end) else {
+    let Located::At(v) = seek(t, key.stem) else {
         return false;
     };
     let old = marks[v];
@@ -85,29 +82,28 @@ fn scan(
     Firsts { at: to, seen }
 }
 
-// The earliest texture of the stem with k stems before it, of the first textures; their end if there is none. The table, its sieve and the marks
-// are for the function's own use.
+// The earliest texture of the stem with k stems before it, of the first textures; their end if there is none.
+#[tactic(auto, using(crate::proofs::Firsts::starts_at))]
 fn find_first(
     s: &[u8],
     base: u32,
     upto: u32,
     k: u32,
-    t: &mut [u64],
+    table: &mut StemTable<u8>,
     sieve: &mut [u8],
-    marks: &mut [u8],
 ) -> Firsts
-    requires { (8 ≤ length t.old) × (length t.old ≡ 4 * length marks.old) }
     ensures { Tab.Reached (Stems.is_earliest s.now base Of.Animated) k upto result.at result.seen }
 {
+    let (words, marks) = (&mut *table.words, &mut *table.marks);
     let mut from = 0;
     let mut seen = 0;
     // not by `for`: a part ends where its table is full
     while from < upto {
-        let filling = fill(s, base, Kind::Animated, from, upto, t);
+        let filling = fill(s, base, Kind::Animated, from, upto, words);
         let marks = &mut marks[..filling.nodes];
-        sift_all(t, filling.nodes, sieve);
-        mark(s, base, Kind::Animated, from, t, sieve, marks);
-        let part = scan(s, base, from, filling.to, k, seen, t, marks);
+        sift_all(words, filling.nodes, sieve);
+        mark(s, base, Kind::Animated, from, words, sieve, marks);
+        let part = scan(s, base, from, filling.to, k, seen, words, marks);
         if part.at < filling.to {
             return part;
         }
@@ -119,23 +115,20 @@ fn find_first(
 
 // Whether a texture is animated and has a stem.
 #[tactic(auto, using(format::proofs::Chain::tests))]
-fn is_like(s: &[u8], base: u32, index: u32, a: u64, b: u64) -> bool
-    ensures { result ≡ (passing s.now base Of.Animated index && (eqb a (starts s.now base index) && eqb b (ends s.now base index))) }
+fn is_like(s: &[u8], base: u32, index: u32, stem: Stem) -> bool
+    ensures { result ≡ (passing s.now base Of.Animated index && (eqb stem.start (starts s.now base index) && eqb stem.end (ends s.now base index))) }
 {
     let key = key_of(s, base, index);
-    is_kind(Kind::Animated, key) && a == key.stem_start && b == key.stem_end
+    is_kind(Kind::Animated, key) && stem == key.stem
 }
 
 // The earliest animated texture with a stem, or `upto` if none of the first textures has it.
-fn earliest_like(s: &[u8], base: u32, upto: u32, a: u64, b: u64) -> u32
-    ensures { (result ≡ lowest (λ i. passing s.now base Of.Animated i && (eqb a (starts s.now base i) && eqb b (ends s.now base i))) upto) × (result ≤ upto) }
+fn earliest_like(s: &[u8], base: u32, upto: u32, stem: Stem) -> u32
+    ensures { (result ≡ lowest (λ i. passing s.now base Of.Animated i && (eqb stem.start (starts s.now base i) && eqb stem.end (ends s.now base i))) upto) × (result ≤ upto) }
 {
-    for i in 0..upto {
-        if is_like(s, base, i, a, b) {
-            return i;
-        }
-    }
-    upto
+    (0..upto)
+        .find(|i| is_like(s, base, *i, stem))
+        .unwrap_or(upto)
 }
 
 // `find_first` with a table of N nodes and so many words, and a sieve of so many bytes.
@@ -151,7 +144,11 @@ fn find_first_sized<const WORDS: usize, const N: usize, const SIEVE: usize>(
     let mut t = [0; WORDS];
     let mut sieve = [0; SIEVE];
     let mut marks = [0; N];
-    find_first(s, base, upto, k, &mut t, &mut sieve, &mut marks)
+    let mut table = StemTable {
+        words: &mut t,
+        marks: &mut marks,
+    };
+    find_first(s, base, upto, k, &mut table, &mut sieve)
 }
 
 // The earliest texture of the stem with k stems before it, of the first textures. The large table has 10,240 nodes: it may lie on the stack
@@ -166,13 +163,14 @@ pub fn first_of(s: &[u8], base: u32, upto: u32, k: u32) -> Firsts
 }
 
 // The new number of a texture of the file.
+#[tactic(auto, using(crate::proofs::Firsts::count_below, crate::proofs::Numbers::number_static, crate::proofs::Numbers::number_animated, crate::proofs::Numbers::seen_low))]
 pub fn texture_number(s: &[u8], base: u32, count: u32, index: u32) -> u32
     requires { count ≤ 2097152 }
     ensures { result ≡ numbered_by (names_of s.now base) count index }
 {
     let key = key_of(s, base, index);
     if is_kind(Kind::Animated, key) {
-        let first = earliest_like(s, base, count, key.stem_start, key.stem_end);
+        let first = earliest_like(s, base, count, key.stem);
         let firsts = first_of(s, base, first, 4294967295);
         return count_static(s, base, count) + firsts.seen;
     }

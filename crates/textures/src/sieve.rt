@@ -4,20 +4,22 @@ ghost use Rattle.textures.specs.Sieve.{place_of, may_have, Sifted, Sieved, SameN
 ghost use Rattle.textures.specs.Table as Tab;
 
 use crate::table::{Located, mix, seek};
+use texture_list::kind::Stem;
 
 // The place of a stem, of 131,072.
 #[tactic(auto, unfolding(crate::specs::Sieve::place_of))]
-fn place_of(a: u64, b: u64) -> usize
-    ensures { result ≡ place_of a b }
+fn place_of(stem: Stem) -> usize
+    ensures { result ≡ place_of stem.start stem.end }
 {
-    (mix(a, b) / 32768) as usize
+    (mix(stem) / 32768) as usize
 }
 
 // Puts a stem into the sieve, if it has its place.
-fn sift(sieve: &mut [u8], a: u64, b: u64)
-    ensures { Sifted sieve.old a b sieve.new }
+#[tactic(auto, using(crate::proofs::Sieves::sift_past))]
+fn sift(sieve: &mut [u8], stem: Stem)
+    ensures { Sifted sieve.old stem.start stem.end sieve.new }
 {
-    let place = place_of(a, b);
+    let place = place_of(stem);
     if place < sieve.len() {
         sieve[place] = 1;
     }
@@ -31,28 +33,32 @@ pub fn sift_all(t: &[u64], nodes: usize, sieve: &mut [u8])
 {
     sieve.fill(0);
     for v in 1..nodes {
-        sift(sieve, t[4 * v], t[4 * v + 1]);
+        let stem = Stem {
+            start: t[4 * v],
+            end: t[4 * v + 1],
+        };
+        sift(sieve, stem);
     }
 }
 
 // Whether the table may have a stem.
 #[tactic(auto, using(format::proofs::Chain::tests), unfolding(crate::specs::Sieve::may_have))]
-fn may_have(sieve: &[u8], a: u64, b: u64) -> bool
-    ensures { result ≡ may_have sieve.now a b }
+fn may_have(sieve: &[u8], stem: Stem) -> bool
+    ensures { result ≡ may_have sieve.now stem.start stem.end }
 {
-    let place = place_of(a, b);
+    let place = place_of(stem);
     sieve.len() <= place || sieve[place] != 0
 }
 
 // The node with a stem, if there is one; the table is searched only where it may have the stem.
-pub fn seek_sifted(t: &[u64], sieve: &[u8], a: u64, b: u64) -> Option<usize>
+pub fn seek_sifted(t: &[u64], sieve: &[u8], stem: Stem) -> Option<usize>
     requires { (nodes : ℕ) × Tab.Table t.now nodes × Sieved t.now nodes sieve.now }
-    ensures { SameNode result (Tab.seek t.now a b 145 0 0) }
+    ensures { SameNode result (Tab.seek t.now stem.start stem.end 145 0 0) }
 {
-    if !may_have(sieve, a, b) {
+    if !may_have(sieve, stem) {
         return None;
     }
-    match seek(t, a, b) {
+    match seek(t, stem) {
         Located::At(v) => Some(v),
         _ => None,
     }

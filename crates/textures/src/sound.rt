@@ -1,19 +1,19 @@
 // Whether the texture section of a map record reads.
-ghost use Rattle.std.specs.Prelude.{◌≡◌, ◌≤◌, ◌*◌, length};
+ghost use Rattle.std.specs.Prelude.{◌≡◌};
 ghost use Rattle.textures.specs.Access.{sound_at};
 
 use crate::group::{check_groups, check_groups_in};
+use crate::stem_table::StemTable;
 use texture_list::section::read_textures;
 
-// Whether the section reads as it does on loading, its end position aside. The table and the marks are for the function's own use.
+// Whether the section reads as it does on loading, its end position aside.
 #[tactic(auto, using(format::proofs::Chain::steps, format::proofs::Chain::tests), unfolding(crate::specs::Access::sound_at))]
-pub fn is_sound_in(s: &[u8], base: u32, count: u32, t: &mut [u64], marks: &mut [u8]) -> bool
-    requires { (8 ≤ length t.old) × (length t.old ≡ 4 * length marks.old) }
+pub fn is_sound_in(s: &[u8], base: u32, count: u32, table: &mut StemTable<u8>) -> bool
     ensures { result ≡ sound_at s.now base count }
 {
     count <= 2097152
         && read_textures(s, base, count).is_ok()
-        && check_groups_in(s, base, count, t, marks).is_ok()
+        && check_groups_in(s, base, count, table).is_ok()
 }
 
 // The same with a table of its own, of `check_groups`.

@@ -94,17 +94,24 @@ fn put_list(list: &[u32], out: &mut [u64]) {
     }
 }
 
+// What a case asks: its kind, its arguments, and the current file.
+#[derive(Clone, Copy)]
+pub struct Asked<'a> {
+    pub kind: u64,
+    pub args: &'a [u64],
+    pub file: &'a [u8],
+}
+
 // The calls that leave a list beside its length. (A `match` here and in `ask`: the kind is a number of the sample, and each call takes other
 // arguments, so a table of closures would say the same with a closure around each line.)
 fn call_list(
-    kind: u64,
-    args: &[u64],
-    file: &[u8],
+    asked: Asked,
     map: &[u32; 31],
     hull: &[u64; 11],
     list: &mut [u32; 4096],
     out: &mut [u64; 4097],
 ) -> u32 {
+    let Asked { kind, args, file } = asked;
     match kind {
         10 => ffi_vis::pvs(
             file,
@@ -129,29 +136,16 @@ fn call_list(
 }
 
 // The same with the list after its length.
-fn ask_list(
-    kind: u64,
-    args: &[u64],
-    file: &[u8],
-    map: &[u32; 31],
-    hull: &[u64; 11],
-    out: &mut [u64; 4097],
-) -> u32 {
+fn ask_list(asked: Asked, map: &[u32; 31], hull: &[u64; 11], out: &mut [u64; 4097]) -> u32 {
     let mut list = [UNTOUCHED_SHORT; 4096];
-    let refusal = call_list(kind, args, file, map, hull, &mut list, out);
+    let refusal = call_list(asked, map, hull, &mut list, out);
     put_list(&list, &mut out[1..]);
     refusal
 }
 
 // The calls that answer words, and leave the current file, map and hull as they are.
-fn ask(
-    kind: u64,
-    args: &[u64],
-    file: &[u8],
-    map: &[u32; 31],
-    hull: &[u64; 11],
-    out: &mut [u64; 4097],
-) -> u32 {
+fn ask(asked: Asked, map: &[u32; 31], hull: &[u64; 11], out: &mut [u64; 4097]) -> u32 {
+    let Asked { kind, args, file } = asked;
     match kind {
         2 => ffi_records::record(file, map, short(args, 0), word_at_u64(args, 1), out),
         3 => ffi_counts::count(map, short(args, 0), out),
@@ -159,7 +153,7 @@ fn ask(
         7 => ffi_walks::contents(file, map, hull, &point(args, 0), out),
         8 => ffi_walks::find_leaf(file, map, word_at_u64(args, 0), &point(args, 1), out),
         9 => ffi_traces::trace(file, map, hull, &segment(args), out),
-        _ => ask_list(kind, args, file, map, hull, out),
+        _ => ask_list(asked, map, hull, out),
     }
 }
 
@@ -173,14 +167,8 @@ fn ask_load(file: &[u8], map: &mut [u32; 31], out: &mut [u64; 4097]) -> u32 {
 }
 
 // A hull, of a model or of a box, which becomes the current one.
-fn ask_hull(
-    kind: u64,
-    args: &[u64],
-    file: &[u8],
-    map: &[u32; 31],
-    hull: &mut [u64; 11],
-    out: &mut [u64; 4097],
-) -> u32 {
+fn ask_hull(asked: Asked, map: &[u32; 31], hull: &mut [u64; 11], out: &mut [u64; 4097]) -> u32 {
+    let Asked { kind, args, file } = asked;
     let refusal = if kind == 5 {
         ffi_hull::hull_of_model(file, map, word_at_u64(args, 0), word_at_u64(args, 1), hull)
     } else {
@@ -193,18 +181,11 @@ fn ask_hull(
 }
 
 // One case: the number of its refusal, or 0, and its words in `out`.
-fn answer(
-    kind: u64,
-    args: &[u64],
-    file: &[u8],
-    map: &mut [u32; 31],
-    hull: &mut [u64; 11],
-    out: &mut [u64; 4097],
-) -> u32 {
-    match kind {
-        1 => ask_load(file, map, out),
-        5 | 6 => ask_hull(kind, args, file, map, hull, out),
-        _ => ask(kind, args, file, map, hull, out),
+fn answer(asked: Asked, map: &mut [u32; 31], hull: &mut [u64; 11], out: &mut [u64; 4097]) -> u32 {
+    match asked.kind {
+        1 => ask_load(asked.file, map, out),
+        5 | 6 => ask_hull(asked, map, hull, out),
+        _ => ask(asked, map, hull, out),
     }
 }
 
@@ -239,7 +220,8 @@ fn case_at(words: &[u64], at: usize) -> Option<Case>
     })
 }
 
-// Whether the words are the expected ones, and all further words are untouched.
+// Whether the words are the expected ones, and all further words are untouched. (A beginning, and what is untouched after it: `==` of the
+// lists would ask for as many words.)
 fn same(expected: &[u64], out: &[u64]) -> bool {
     match out.split_at_checked(expected.len()) {
         Some((answer, rest)) => answer == expected && rest.iter().all(|word| *word == UNTOUCHED),
@@ -299,8 +281,12 @@ fn run_case(
         _ => before.size,
     };
     let mut out = [UNTOUCHED; 4097];
-    let current = file.get(..size).unwrap_or(&[]);
-    let number = answer(kind, args, current, map, hull, &mut out);
+    let asked = Asked {
+        kind,
+        args,
+        file: file.get(..size).unwrap_or(&[]),
+    };
+    let number = answer(asked, map, hull, &mut out);
     let expected = &words[case.refusal + 2..case.next];
     let agrees = agree(number, words[case.refusal], expected, &out);
     Replayed {

@@ -1,2 +1,2 @@
 -- Laws about the definitions of `utf8`.
-mod Runs
+mod Library

@@ -3,7 +3,6 @@ pub mod SetBits
 pub mod Rows
 pub mod RustLoop
 pub mod Fits
-pub mod Chain
 pub mod Placed
 pub mod Passes
 pub mod Lists

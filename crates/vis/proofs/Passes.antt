@@ -13,7 +13,7 @@ use lib.Seq.{length-take-le, take_all}
 use Rattle.format.specs.Answer.{Answer, answer, refused, mapped}
 use Rattle.vis.specs.Row.{before, in_byte, row_from, byte_leaves}
 use Rattle.vis.proofs.SetBits.{length_visible, ones_in_lem}
-use Rattle.vis.proofs.Rows.{kept_bits, before_none, before_before, done, ended, cut, skipped, byte}
+use Rattle.vis.proofs.Rows.{kept_bits, before_before, done, ended, cut, skipped, byte}
 
 -- so many more
 abbrev pub plus : ℕ → Answer ℕ → Answer ℕ
@@ -92,9 +92,6 @@ module _ (s : List ℕ) (offset leaves : ℕ) where
     pub held : count ≤ length list
     pub front : before (take count list) (row_from leaves leaf (drop at s)) ≡ row
     pub fits : mapped length row ≡ answer (length list)
-
-  pub write_starts : (list : List ℕ) → offset ≤ length s → mapped length row ≡ answer (length list) → Writing offset 1 0 list
-  write_starts list h e = record { inside = h; small = omega arith; held = omega arith; front = before_none row; fits = e }
 
   module _ (at leaf count : ℕ) (list : List ℕ) (p : Writing at leaf count list) where
     -- the list is full where the count is reached

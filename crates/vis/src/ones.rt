@@ -15,7 +15,8 @@ pub const SET_BITS: [u8; 256] = [
     3, 4, 4, 5, 4, 5, 5, 6, 4, 5, 5, 6, 5, 6, 6, 7, 4, 5, 5, 6, 5, 6, 6, 7, 5, 6, 6, 7, 6, 7, 7, 8,
 ];
 
-// How many bits of a byte are set. The table is lent: a constant that is read in a loop is laid down anew for each byte.
+// How many bits of a byte are set. By a table, and not by `count_ones`: that the set bits of a row's bytes are counted from a proved table is asked
+// for (docs/SCOPE.md, request 5). The table is lent: a constant that is read in a loop is laid down anew for each byte.
 pub fn set_bits(table: &[u8; 256], byte: u8) -> u8
     requires { table.now ≡ counts 256 0 }
     ensures { result ≡ ones byte }

@@ -5,7 +5,8 @@ ghost use Rattle.format.specs.Answer.{answer, mapped};
 ghost use Rattle.format.specs.Listed.{listed, into};
 ghost use Rattle.vis.specs.Row.{row_from, row_at, byte_leaves};
 ghost use Rattle.vis.specs.Counts.{counts};
-ghost use Rattle.vis.specs.Pvs.{section_row};
+ghost use Rattle.vis.specs.Answers.{bytes_of};
+ghost use Rattle.vis.specs.Pvs as Pvs;
 
 use crate::ones::{SET_BITS, set_bits};
 use format::refusal::{Answer, Refusal};
@@ -25,11 +26,12 @@ pub fn kept_bits(byte: u8, left: usize) -> u8
 const MOST_FIRST: u32 = 4294967287;
 
 // Lists the set bits of a byte, of which the lowest is that of the leaf `first`, past the `count` leaves that the list has, and answers how
-// many it has then. Each number is written before it is known whether its bit is set, and the next one takes its place if it is not.
+// many it has then. Each number is written before it is known whether its bit is set, and the next one takes its place if it is not: so the
+// entry after them may be written over too. Later ones are kept.
 #[inline(always)]
 fn put_eight(byte: u8, first: u32, count: usize, list: &mut [u32]) -> usize
     requires { (count + 8 ≤ length list.old) × (first ≤ 4294967287) }
-    ensures { (result ≡ count + length (byte_leaves first byte)) × (take result list.new ≡ take count list.old ++ byte_leaves first byte) }
+    ensures { (result ≡ count + length (byte_leaves first byte)) × (take result list.new ≡ take count list.old ++ byte_leaves first byte) × (drop (result + 1) list.new ≡ drop (result + 1) list.old) }
 {
     let mut rest = byte as usize;
     let mut at = count;
@@ -41,7 +43,10 @@ fn put_eight(byte: u8, first: u32, count: usize, list: &mut [u32]) -> usize
     at
 }
 
-// The same where the list may have room for the set bits only: as long as one is left there is room. The leaves are worked out bit by bit.
+// The same where the list may have room for the set bits only: as long as one is left there is room. (A function of its own beside `put_eight`:
+// a number whose bit is not set may have no room here. In `put_eight` there is room, and no test in each turn. No method of the library lists the
+// set bits of a byte, and a table of all bytes' leaves would be no plainer.)
+#[tactic(auto, using(crate::proofs::SetBits::room_left))]
 fn put_last(byte: u8, first: u32, count: usize, list: &mut [u32]) -> usize
     requires { (count + length (byte_leaves first byte) ≤ length list.old) × (first ≤ 4294967287) }
     ensures { (result ≡ count + length (byte_leaves first byte)) × (take result list.new ≡ take count list.old ++ byte_leaves first byte) }
@@ -70,11 +75,12 @@ fn put_bits(byte: u8, left: usize, first: u32, count: usize, list: &mut [u32]) -
     put_last(kept_bits(byte, left), first, count, list)
 }
 
-// Lists the leaves of a byte at the front of any list, as many as there is room for, and answers how many. A first leaf above `MOST_FIRST`
-// counts as that one. A call: in line in `team` it makes a pool of many leaves slower.
+// Lists the leaves of a byte at the front of any list, as many as there is room for, and answers how many. The entry after them may be
+// written over, and nothing is said of it; later ones are kept. A first leaf above `MOST_FIRST` counts as that one. A call: in line in `team` it makes a pool of many
+// leaves slower.
 #[inline(never)]
 pub fn put_leaves(byte: u8, first: u32, list: &mut [u32]) -> usize
-    ensures { (result ≡ min (length list.old) (length (byte_leaves (min first 4294967287) byte))) × (take result list.new ≡ take (length list.old) (byte_leaves (min first 4294967287) byte)) }
+    ensures { (result ≡ min (length list.old) (length (byte_leaves (min first 4294967287) byte))) × (take result list.new ≡ take (length list.old) (byte_leaves (min first 4294967287) byte)) × (drop (result + 1) list.new ≡ drop (result + 1) list.old) }
 {
     let first = first.min(MOST_FIRST);
     if 8 <= list.len() {
@@ -88,6 +94,7 @@ pub fn put_leaves(byte: u8, first: u32, list: &mut [u32]) -> usize
 
 // How many leaves the row at the offset lists, by the table of the numbers of set bits. (No `for`, here and in `put_row`: the position moves
 // by one byte or by two, and the leaf by as many as the bytes say, so no range goes with either.)
+#[tactic(auto, using(crate::proofs::Passes::count_ended, crate::proofs::Passes::count_cut, crate::proofs::Passes::count_zeros, crate::proofs::Passes::count_done))]
 fn row_length(
     table: &[u8; 256],
     visibility: &[u8],
@@ -124,7 +131,8 @@ fn row_length(
     Ok(count)
 }
 
-// Writes the leaves that the row at the offset lists, which are as many as the list has entries.
+// Writes the leaves that the row at the offset lists, which are as many as the list has entries. (No `for`: see `row_length`.)
+#[tactic(auto, using(crate::proofs::Passes::some_byte, crate::proofs::Passes::some_follower, crate::proofs::Passes::write_zeros, crate::proofs::Passes::write_done))]
 fn put_row(visibility: &[u8], offset: usize, leaf_count: usize, list: &mut [u32])
     requires { (length visibility.now ≤ 1048576) × (offset ≤ length visibility.now) × (mapped length (row_from leaf_count 1 (drop offset visibility.now)) ≡ answer (length list.old)) }
     ensures { answer list.new ≡ row_from leaf_count 1 (drop offset visibility.now) }
@@ -146,7 +154,7 @@ fn put_row(visibility: &[u8], offset: usize, leaf_count: usize, list: &mut [u32]
 }
 
 // Lists the row at the offset of the visibility data.
-#[tactic(auto, using(crate::proofs::Lists::row_past, crate::proofs::Lists::row_refused, crate::proofs::Lists::row_short, crate::proofs::Lists::row_listed, crate::proofs::Chain::handed_on))]
+#[tactic(auto, using(crate::proofs::Lists::row_past, crate::proofs::Lists::row_refused, crate::proofs::Lists::row_short, crate::proofs::Lists::row_listed, format::proofs::Answers::handed_answer))]
 fn list_row(visibility: &[u8], offset: usize, leaf_count: usize, list: &mut [u32]) -> Answer<usize>
     requires { length visibility.now ≤ 1048576 }
     ensures { listed (answer_of result) list.new ≡ into (row_at visibility.now offset leaf_count) list.old }
@@ -162,8 +170,27 @@ fn list_row(visibility: &[u8], offset: usize, leaf_count: usize, list: &mut [u32
     Ok(count)
 }
 
+// The bytes of the visibility section: 23 where it is above its limit or past the file's end; an empty one is never outside.
+#[inline(always)]
+#[tactic(auto, unfolding(crate::specs::Pvs::visibility_of))]
+pub fn visibility_of(file: &[u8], section: BspFileSection) -> Answer<&[u8]>
+    ensures { bytes_of result ≡ Pvs.visibility_of file.now section }
+{
+    if section.size == 0 {
+        return Ok(&file[..0]);
+    }
+    if BspFileSectionId::Visibility.within_limit(section.size) {
+        let start = section.offset as usize;
+        let end = start + (section.size as usize);
+        if end <= file.len() {
+            return Ok(&file[start..end]);
+        }
+    }
+    Err(Refusal::Unreadable)
+}
+
 // Lists the row at the offset of the visibility section.
-#[tactic(auto, unfolding(crate::specs::Pvs::section_row, crate::specs::Pvs::visibility_of))]
+#[tactic(auto, unfolding(crate::specs::Pvs::section_row), using(crate::proofs::Sections::few_bytes, format::proofs::Answers::handed_on))]
 pub fn list_section_row(
     file: &[u8],
     section: BspFileSection,
@@ -171,18 +198,7 @@ pub fn list_section_row(
     leaf_count: usize,
     list: &mut [u32],
 ) -> Answer<usize>
-    ensures { listed (answer_of result) list.new ≡ into (section_row file.now section offset leaf_count) list.old }
+    ensures { listed (answer_of result) list.new ≡ into (Pvs.section_row file.now section offset leaf_count) list.old }
 {
-    let size = section.size;
-    if size == 0 {
-        return list_row(&file[..0], offset, leaf_count, list);
-    }
-    if BspFileSectionId::Visibility.within_limit(size) {
-        let start = section.offset as usize;
-        let end = start + (size as usize);
-        if end <= file.len() {
-            return list_row(&file[start..end], offset, leaf_count, list);
-        }
-    }
-    Err(Refusal::Unreadable)
+    list_row(visibility_of(file, section)?, offset, leaf_count, list)
 }

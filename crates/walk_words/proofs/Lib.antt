@@ -1,2 +1,2 @@
--- A law about the words of a trace.
+-- A law about lists of seven words.
 pub mod Sevens

@@ -1,7 +1,8 @@
 -- The words of what walks and traces answer.
-use Rattle.std.specs.Prelude.{ℕ, List, [], ◌∷◌, ◌++◌}
+use Rattle.std.specs.Prelude.{ℕ, Bool, Float, List, [], ◌∷◌, ◌++◌}
 use Rattle.format.specs.Contents.{code_of}
 use Rattle.format.specs.declared.contents.BspLeafContents.{BspLeafContents}
+use Rattle.math.specs.declared.vector.Vector3.{Vector3}
 use Rattle.phys.specs.declared.TraceEndBoundary.{TraceEndBoundary}
 use Rattle.phys.specs.declared.TraceEndKind.{TraceEndKind}
 use Rattle.phys.specs.declared.TraceEndKind.TheVariants.{Terminal, Boundary}
@@ -37,3 +38,12 @@ trace_words a =
     ++ (float_word a.0.start.ratio ∷ [])
     ++ vector_words a.0.end.point
     ++ kind_words a.0.end.kind
+
+-- the same, by the parts: the visits, the contents, started solid, the start's point and ratio, the end's point and the words of its kind
+abbrev pub parts_words : ℕ → BspLeafContents → Bool → Vector3 → Float → Vector3 → List ℕ → List ℕ
+parts_words visits contents start_solid from ratio to kind =
+    (visits ∷ code_of contents ∷ flag_word start_solid ∷ [])
+    ++ vector_words from
+    ++ (float_word ratio ∷ [])
+    ++ vector_words to
+    ++ kind

@@ -5,6 +5,7 @@ ghost use Rattle.std.specs.Prelude.{◌≡◌};
 ghost use Rattle.walk_words.specs.Layout as Layout;
 
 use format::contents::BspLeafContents;
+use math::Vector3;
 use phys::{Trace, TraceEndBoundary, TraceEndKind};
 use words::{flag_word, float_word};
 
@@ -34,34 +35,55 @@ fn kind_words(kind: TraceEndKind) -> [u64; 7]
     }
 }
 
+// The visits, and then a trace by its parts: the contents, whether it started solid, the start's point and ratio, the end's point and the words
+// of its kind.
+#[inline(always)]
+pub fn parts_words(
+    visits: u64,
+    contents: BspLeafContents,
+    start_solid: bool,
+    from: Vector3,
+    ratio: f32,
+    to: Vector3,
+    kind: [u64; 7],
+) -> [u64; 17]
+    ensures { result ≡ Layout.parts_words visits contents start_solid from ratio to kind }
+{
+    [
+        visits,
+        contents.code() as u64,
+        flag_word(start_solid),
+        float_word(from.x),
+        float_word(from.y),
+        float_word(from.z),
+        float_word(ratio),
+        float_word(to.x),
+        float_word(to.y),
+        float_word(to.z),
+        kind[0],
+        kind[1],
+        kind[2],
+        kind[3],
+        kind[4],
+        kind[5],
+        kind[6],
+    ]
+}
+
 // The visits, and then the trace.
 pub fn trace_words(trace: Trace, visits: u64) -> [u64; 17]
     ensures { result ≡ Layout.trace_words (trace, visits) }
 {
-    let contents = trace.contents;
     let start = trace.start;
     let end = trace.end;
     let from = start.point;
-    let to = end.point;
-    let kind = end.kind;
-    let k = kind_words(kind);
-    [
+    parts_words(
         visits,
-        contents.code() as u64,
-        flag_word(trace.start_solid),
-        float_word(from.x),
-        float_word(from.y),
-        float_word(from.z),
-        float_word(start.ratio),
-        float_word(to.x),
-        float_word(to.y),
-        float_word(to.z),
-        k[0],
-        k[1],
-        k[2],
-        k[3],
-        k[4],
-        k[5],
-        k[6],
-    ]
+        trace.contents,
+        trace.start_solid,
+        from,
+        start.ratio,
+        end.point,
+        kind_words(end.kind),
+    )
 }

@@ -12,7 +12,8 @@ use format::refusal::Answer;
 use format::section::{BspData, BspFileSection};
 use math::{Alignment, Axis, Hyperplane};
 
-// The numbers of the refusals that a call for C gives by itself, as `Refusal::number` has them.
+// The numbers of the refusals that a call for C gives by itself, as `Refusal::number` has them: as constants, since a call gives them before
+// anything is read.
 pub const LIST_TOO_SHORT: u32 = 22;
 
 pub const NO_SUCH_RECORD: u32 = 20;
@@ -40,7 +41,8 @@ pub fn give(words: &[u64], out: &mut [u64]) -> u32
     }
 }
 
-// The same for words of 32 bits.
+// The same for words of 32 bits. (What both do is `put_front`, for items of any type. `Written`, by which both are stated, has a list of numbers,
+// which items of any type are not.)
 pub fn give_u32(words: &[u32], out: &mut [u32]) -> u32
     ensures { Words.written result out.new ≡ Words.give words.now out.old }
 {
@@ -63,7 +65,7 @@ pub fn give_words<const N: usize>(answer: Answer<[u64; N]>, out: &mut [u64]) -> 
     }
 }
 
-// A number that stands in a word as it is.
+// A number that stands in a word as it is. (It is `Into<u64>` but for `usize`, which has none.)
 pub trait Number: Copy {
     ghost worth: { Self → ℕ };
 
@@ -185,10 +187,12 @@ pub fn float_at(floats: &[f32], at: usize) -> f32
     item_or(floats, at, f32::NAN)
 }
 
-fn section_at(words: &[u32], at: usize) -> BspFileSection
-    requires { at ≤ 28 }
+// The section of two words from a place on.
+#[inline(always)]
+pub fn section_at(words: &[u32], at: u8) -> BspFileSection
     ensures { result ≡ Words.section_in words.now at }
 {
+    let at = usize::from(at);
     BspFileSection {
         offset: word_at(words, at),
         size: word_at(words, at + 1),

@@ -1,61 +1,32 @@
 -- `ffi_line::trace_line` meets its contract. Assumes nothing.
-use Prim.Native.Nat.{ℕ}
+use native.Mathlib.Omega.{arith}
 use mathlib.Core.Path.{◌≡◌, ap, ap₂, ◌∙◌}
-use borrow.Author.Tests.{lt-ltb, le-ltb}
-use Rattle.format.specs.Answer.{Answer, refused, mapped, then_answer}
-use Rattle.math.specs.declared.vector.Vector3.{Vector3}
-use Rattle.words.specs.Words.{given, map_of}
+use Rattle.format.specs.Answer.{mapped}
+use Rattle.format.specs.Answers.{answer_of}
+use Rattle.words.specs.Words.{given, told}
+use Rattle.words.proofs.Giving.{told_given}
 use Rattle.hull.specs.Hull.{hull_table}
-use Rattle.ffi_hull.proofs.Walked.{long_enough, no_hull, the_hull}
-use Rattle.format.specs.declared.contents.BspLeafContents.{BspLeafContents}
-use Rattle.walk.specs.Table.{Table}
-use Rattle.nodes.specs.Tables.{End}
 use Rattle.line.specs.Line.{whole_line}
-use Rattle.line.specs.declared.state.LineTrace.{LineTrace}
-use Rattle.ffi_hull.specs.Layout.{point_at, hull_from}
-use Rattle.ffi_line.specs.Calls.{line_length, line_words, bsp_trace_line}
-use Rattle.ffi_line.proofs.trace_line.Goals.{After-walked_hull}
+use Rattle.ffi_hull.specs.Layout.{point_at}
+use Rattle.ffi_hull.proofs.Walked.{no_hull, the_hull, room}
+use Rattle.ffi_line.specs.Calls.{line_words, bsp_trace_line}
 use Rattle.ffi_line.proofs.trace_line.Goals as goal
 
--- what is asked of a hull's table and root
-abbrev asked : Vector3 → Vector3 → Table End BspLeafContents → ℕ → Answer LineTrace
-asked p q T root = whole_line T root p q
-
--- where the lists are long enough
-at_hull : (c : After-walked_hull) (a : Answer LineTrace) → let s = c.args in
-    a ≡ then_answer (hull_from s.hull.now) (λ h. asked (point_at s.segment.now 0) (point_at s.segment.now 3) (hull_table s.file.now (map_of s.map.now) h) h.node_id)
-    → given (mapped line_words a) s.out.now ≡ bsp_trace_line s.file.now s.map.now s.hull.now s.segment.now s.out.now
-unfolding bsp_trace_line
-at_hull c a g =
-    let s = c.args in
-    long_enough line_words s.map.now s.hull.now s.segment.now 6 line_length s.out.now (then_answer (hull_from s.hull.now) (λ h. asked (point_at s.segment.now 0) (point_at s.segment.now 3) (hull_table s.file.now (map_of s.map.now) h) h.node_id)) c.if-map-lt31.false c.if-hull-lt-HULL_ASKED.false c.if-segment-lt6.false c.if-out-lt12.false (given (mapped line_words a) s.out.now)
-    (ap (λ (a : Answer LineTrace). given (mapped line_words a) s.out.now) g)
-
-pub returns-then-map-lt31 : goal.returns-then-map-lt31
-unfolding bsp_trace_line
-returns-then-map-lt31 c = simp (lt-ltb _ _ c.if-map-lt31.true)
-
-pub returns-then-hull-lt-HULL_ASKED : goal.returns-then-hull-lt-HULL_ASKED
-unfolding bsp_trace_line
-returns-then-hull-lt-HULL_ASKED c = simp (le-ltb _ _ c.if-map-lt31.false, lt-ltb _ _ c.if-hull-lt-HULL_ASKED.true)
-
-pub returns-then-segment-lt6 : goal.returns-then-segment-lt6
-unfolding bsp_trace_line
-returns-then-segment-lt6 c = simp (le-ltb _ _ c.if-map-lt31.false, le-ltb _ _ c.if-hull-lt-HULL_ASKED.false, lt-ltb _ _ c.if-segment-lt6.true)
-
-pub returns-then-out-lt12 : goal.returns-then-out-lt12
-unfolding bsp_trace_line
-returns-then-out-lt12 c = simp (le-ltb _ _ c.if-map-lt31.false, le-ltb _ _ c.if-hull-lt-HULL_ASKED.false, le-ltb _ _ c.if-segment-lt6.false, lt-ltb _ _ c.if-out-lt12.true)
-
 pub returns-in-Err : goal.returns-in-Err
+unfolding bsp_trace_line
 returns-in-Err c = let s = c.args in
-    at_hull (goal.at.returns-in-Err c).After-walked_hull (refused _)
-    (no_hull s.file.now s.map.now s.hull.now (asked (point_at s.segment.now 0) (point_at s.segment.now 3)) _ c.walked_hull.ensures _ c.in-Err.is _ c.number.ensures)
+    no_hull (λ a. given (mapped line_words a) s.out.now) _ _ _ _ _ _ _ (λ T root. whole_line T root (point_at s.segment.now 0) (point_at s.segment.now 3))
+    _ c.asked.ensures _ c.in-Err.is _ c.number.ensures
 
 pub returns-in-Ok : goal.returns-in-Ok
+unfolding bsp_trace_line
 returns-in-Ok c = let s = c.args in
+    let m = c.in-Ok.m in
     let h = c.in-Ok.h in
-    c.give_line.ensures
-    ∙ at_hull (goal.at.returns-in-Ok c).After-walked_hull _
-    (ap₂ (λ (p q : Vector3). asked p q (hull_table s.file.now c.walked_map.result h) h.node_id) c.first_point.ensures c.second_point.ensures
-    ∙ the_hull s.file.now s.map.now s.hull.now (asked (point_at s.segment.now 0) (point_at s.segment.now 3)) _ c.walked_hull.ensures h c.in-Ok.is _ c.walked_map.ensures)
+    let words : answer_of c.map.result ≡ mapped line_words (answer_of c.trace_line.result) = grind arith in
+    c.give_words.ensures ∙ ap (λ a. told a s.out.now) words
+    ∙ told_given line_words (answer_of c.trace_line.result) s.out.now (λ l. room _ _ _ _ _ _ _ c.asked.ensures _ _ c.in-Ok.is)
+    ∙ ap (λ a. given (mapped line_words a) s.out.now)
+    (c.trace_line.ensures ∙ ap₂ (whole_line (hull_table s.file.now m h) h.node_id) c.first_point-start.ensures c.second_point-end.ensures)
+    ∙ the_hull (λ a. given (mapped line_words a) s.out.now) _ _ _ _ _ _ _ (λ T root. whole_line T root (point_at s.segment.now 0) (point_at s.segment.now 3))
+    _ c.asked.ensures _ _ c.in-Ok.is

@@ -1,31 +1,32 @@
--- `ffi_walks::any_contents` meets its contract: no hull, or what `contents_at_point` says.
--- Assumes nothing.
-use Prim.Native.Nat.{ℕ}
-use mathlib.Core.Path.{refl, ap, ◌∙◌}
-use Rattle.std.proofs.lemmas.Result.{err_from_is_err_and}
-use Rattle.format.specs.Answer.{Answer}
-use Rattle.format.specs.declared.contents.BspLeafContents.{BspLeafContents}
+-- `ffi_walks::any_contents` meets its contract. Assumes nothing.
+use native.Mathlib.Omega.{arith}
+use mathlib.Core.Path.{◌≡◌, ap, ◌∙◌}
+use Rattle.format.specs.Answer.{mapped}
+use Rattle.format.specs.Answers.{answer_of}
 use Rattle.math.specs.declared.vector.Vector3.{Vector3}
-use Rattle.walk.specs.Table.{Table}
+use Rattle.words.specs.Words.{given, told}
+use Rattle.words.proofs.Giving.{told_given}
 use Rattle.walk.specs.Walk.{with_visits, point_walk}
-use Rattle.nodes.specs.Tables.{End}
-use Rattle.hull.specs.Hull.{hull_table}
 use Rattle.ffi_hull.specs.Layout.{point_at}
-use Rattle.ffi_hull.proofs.Walked.{no_hull, the_hull}
+use Rattle.ffi_hull.proofs.Walked.{no_hull, the_hull, room}
+use Rattle.ffi_walks.specs.Calls.{contents_words, bsp_contents}
+use Rattle.ffi_walks.specs.Quick.{contents_asked}
 use Rattle.ffi_walks.proofs.any_contents.Goals as goal
 
--- what is asked of a hull's table and root
-abbrev asked : Vector3 → Table End BspLeafContents → ℕ → Answer (BspLeafContents × ℕ)
-asked p T root = with_visits (point_walk T root p)
+pub returns-in-Err : goal.returns-in-Err
+unfolding bsp_contents
+returns-in-Err c = let s = c.args in
+    no_hull (λ a. given (mapped contents_words a) s.out.now) _ _ _ _ _ _ _ (λ T root. with_visits (point_walk T root (point_at s.point.now 0)))
+    _ c.asked.ensures _ c.in-Err.is _ c.number.ensures
 
-pub returns-in_err-h : goal.returns-in_err-h
-returns-in_err-h c = let s = c.args in
-    let (d, t, e) = err_from_is_err_and c.from_residual.result c.from_residual.ensures.1 in
-    rw (t, e) (no_hull s.file.now s.map.now s.hull.now (asked (point_at s.point.now 0)) _ c.walked_hull.ensures _ c.in_err-h.was _ refl)
-
-pub returns : goal.returns
-returns c = let s = c.args in
-    let h = c.in_ok-h.h in
-    c.contents_at_point.ensures
-    ∙ ap (λ (p : Vector3). asked p (hull_table s.file.now c.walked_map.result h) h.node_id) c.first_point-p.ensures
-    ∙ the_hull s.file.now s.map.now s.hull.now (asked (point_at s.point.now 0)) _ c.walked_hull.ensures h c.in_ok-h.was _ c.walked_map.ensures
+pub returns-in-Ok : goal.returns-in-Ok
+unfolding bsp_contents
+returns-in-Ok c = let s = c.args in
+    let m = c.in-Ok.m in
+    let h = c.in-Ok.h in
+    let words : answer_of c.map.result ≡ mapped contents_words (answer_of c.contents_at_point.result) = grind arith in
+    c.give_words.ensures ∙ ap (λ a. told a s.out.now) words
+    ∙ told_given contents_words (answer_of c.contents_at_point.result) s.out.now (λ x. room _ _ _ _ _ _ _ c.asked.ensures _ _ c.in-Ok.is)
+    ∙ ap (λ a. given (mapped contents_words a) s.out.now) (c.contents_at_point.ensures ∙ ap (λ (p : Vector3). contents_asked s.file.now m h p) c.first_point-p.ensures)
+    ∙ the_hull (λ a. given (mapped contents_words a) s.out.now) _ _ _ _ _ _ _ (λ T root. with_visits (point_walk T root (point_at s.point.now 0)))
+    _ c.asked.ensures _ _ c.in-Ok.is

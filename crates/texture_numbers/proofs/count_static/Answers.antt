@@ -1,19 +1,19 @@
--- `texture_numbers::count_static` meets its contract: as many as there are so far.
+-- `texture_numbers::count_static` meets its contract: the test asks whether a texture has no stem.
 -- Assumes nothing.
-use Rattle.std.proofs.Common.{◌+◌, refl, arith}
-use Rattle.textures.proofs.Firsts.{starts_at, flag_more, count_below}
+use Rattle.std.specs.Prelude.{◌≡◌, eqb, length}
+use Rattle.std.proofs.Common.{◌∙◌, arith, rules, tests}
+use Rattle.std.proofs.lemmas.Iterator.{YieldsList-from_slice}
+use Rattle.std.proofs.lemmas.Iterator.Consumers.{YieldsList-from_filter, count_from_yields_List}
+use Rattle.textures.specs.Count.{count}
+use Rattle.textures.proofs.Firsts.{count_below}
+use Rattle.textures.proofs.Scans.{count_of_list}
 use Rattle.texture_numbers.specs.Renumber.{has_none}
 use Rattle.texture_numbers.proofs.count_static.Goals as goal
 
-pub loop-first-init : goal.loop-first-init
-loop-first-init c = starts_at (has_none c.args.list.now)
-
-pub overflow_add-n : goal.overflow_add-n
-overflow_add-n c =
+pub returns : goal.returns
+returns c =
     let l = c.args.list.now in
-    let h = flag_more (has_none l) _ _ _ c.loop-first.invariant refl in
-    let k = count_below (has_none l) (c.loop-first.first-index + 1) in
-    omega (arith, c.from-n.ensures)
-
-pub loop-first-preserved : goal.loop-first-preserved
-loop-first-preserved c = rw c.from-n.ensures (flag_more (has_none c.args.list.now) _ _ _ c.loop-first.invariant refl)
+    let e : c.count.result ≡ count (has_none l) (length l) =
+    count_from_yields_List c.filter.result _ c.count.ensures.ran (YieldsList-from_filter _ (λ x. eqb x 4294967295) (YieldsList-from_slice l (cc)) c.filter.ensures.closure (λ x b q k. search (rules, tests)))
+    ∙ count_of_list (λ x. eqb x 4294967295) l in
+    omega (arith, e, count_below (has_none l) (length l), c.requires)

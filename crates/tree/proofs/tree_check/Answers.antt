@@ -1,6 +1,7 @@
 -- `tree::tree_check` meets its contract: it is `tree_size` without the number of nodes. Assumes nothing.
-use Rattle.tree.proofs.Laws.{without_size, handed_on}
+use Rattle.tree.proofs.Laws.{without_size}
 use Rattle.tree.proofs.tree_check.Goals as goal
+use Rattle.format.proofs.Answers.{handed_on}
 
 pub returns : goal.returns
 returns c = without_size _ _ _ _ _ c.in_ok-height.ensures

@@ -1,42 +1,22 @@
 -- `write_onward` meets its contract.
 -- Assumes nothing.
-use Prim.Native.Nat.{suc, ◌*◌, ◌^◌, ◌≤◌}
+use Prim.Native.Nat.{◌*◌, ◌^◌}
 use native.Mathlib.Omega.{arith}
-use mathlib.Core.Path.{◌≡◌, ap, subst, ◌∙◌}
+use mathlib.Core.Path.{ap, ◌∙◌}
 use lib.ListN.{length}
-use Rattle.entered.specs.Onward.{with_one_more}
 use Rattle.std.proofs.Common.{Ok}
-use Rattle.entered.proofs.Steps.{handed_on}
-use Rattle.entered.proofs.Parts.{at_end, shorter, down_refused, down_end, no_plane, near_refused, near_stops, both}
+use Rattle.entered.proofs.Parts.{at_end, shorter, no_plane, near_refused, near_stops, both}
 use Prim.Native.Nat.{ℕ, ◌<◌}
-use Rattle.entered.proofs.traced.+write_onward.Goals.{In-Crossing, In-Node}
+use Rattle.entered.proofs.traced.+write_onward.Goals.{In-Node}
 use Rattle.entered.proofs.traced.+write_onward.Goals as goal
+use Rattle.format.proofs.Answers.{handed_on}
 
 -- a slice takes fewer than 2^63 bytes
 bytes : (t : ℕ) (c : In-Node t) → length c.args.list.now * 4 < 2 ^ 63
 bytes t c = omega arith
 
--- the calls left below a crossing are fewer
-fewer : (t : ℕ) (c : In-Crossing t) → c.in-Crossing.below < t
-fewer t c =
-    let l : suc c.in-Crossing.below ≤ c.args.left = subst (λ r. with_one_more r ≤ c.args.left) (c.in_ok-word-in-Node.was ∙ ap Ok c.in-Crossing.is) c.go_down.ensures.falls in
-    let e : c.args.left ≡ t = c.decreases in
-    omega arith
-
-pub write_onward-requires : goal.write_onward-requires
-write_onward-requires t c = (fewer t (goal.at.write_onward-requires t c).In-Crossing, tt)
-
-pub write_onward-rest-requires : goal.write_onward-rest-requires
-write_onward-rest-requires t c = (fewer t (goal.at.write_onward-rest-requires t c).In-Crossing, tt)
-
 pub returns-in-End : goal.returns-in-End
 returns-in-End t c = at_end _ _ _ _ _ _ _ _ c.in-End.is c.in_leaf.result c.in_leaf.ensures
-
-pub returns-in_err-word-in-Node : goal.returns-in_err-word-in-Node
-returns-in_err-word-in-Node t c = rw (handed_on c.from_residual.ensures.1) (down_refused _ _ _ _ _ _ _ _ c.in-Node.is _ c.go_down.result c.go_down.ensures _ c.in_err-word-in-Node.was)
-
-pub returns-in-End-2 : goal.returns-in-End-2
-returns-in-End-2 t c = down_end _ _ _ _ _ _ _ _ c.in-Node.is _ c.go_down.result c.go_down.ensures _ _ (c.in_ok-word-in-Node.was ∙ ap Ok c.in-End-2.is) _ c.whole_of.ensures c.in_leaf-in-End-2.result c.in_leaf-in-End-2.ensures
 
 pub returns-in_err-parts-in-Crossing : goal.returns-in_err-parts-in-Crossing
 returns-in_err-parts-in-Crossing t c = rw (handed_on c.from_residual-in_err-parts-in-Crossing.ensures.1) (no_plane _ _ _ _ _ _ _ _ c.in-Node.is _ c.go_down.result c.go_down.ensures _ _ _ _ _ (c.in_ok-word-in-Node.was ∙ ap Ok c.in-Crossing.is) c.parts_of.result c.parts_of.ensures _ c.in_err-parts-in-Crossing.was)

@@ -1,11 +1,11 @@
 -- `leaf_contents` meets its contract: the contents code, then the visibility offset.
 -- Assumes nothing.
-use Rattle.std.proofs.Common.{◌≡◌, ℕ, Option, Some, None, Err, sym, refl, ap, ◌∙◌, arith}
+use Rattle.std.proofs.Common.{◌≡◌, None, sym, refl, ap, ◌∙◌, arith}
 use Rattle.std.specs.Result.{result_ok}
 use Rattle.std.specs.Option.{ok_or}
 use Rattle.format.specs.Answers.{answer_of}
 use Rattle.format.specs.declared.refusal.Refusal.TheVariants.{Unreadable}
-use Rattle.std.proofs.lemmas.Result.{err_from_is_err_and}
+use Rattle.format.proofs.Answers.{handed_on}
 use Rattle.nodes.proofs.Leaves.{low_code, bad_code, bad_vis, no_vis, vis}
 use Rattle.nodes.proofs.here.leaf_contents.Goals.{else-offset-ge2147483648-via-then-offset-ge2147483648+else-offset-lt4294967295, else-offset-ge2147483648-via-else-offset-ge2147483648}
 use Rattle.nodes.proofs.here.leaf_contents.Goals as goal
@@ -19,8 +19,7 @@ returns-then-offset-lt4294967295 c = bad_vis _ _ _ _ c.requires c.u32_at-code.en
 pub returns-in_err-contents : goal.returns-in_err-contents
 returns-in_err-contents c =
     let none : c.contents_of.result ≡ None = c.ok_or.ensures.ok_part ∙ ap result_ok c.in_err-contents.was in
-    let (d, t, s) = err_from_is_err_and c.from_residual.result c.from_residual.ensures.1 in
-    ap answer_of (t ∙ ap Err s ∙ sym c.in_err-contents.was ∙ c.ok_or.ensures.value) ∙ ap (λ o. answer_of (ok_or o Unreadable)) none
+    ap answer_of (handed_on c.from_residual.ensures.1 ∙ sym c.in_err-contents.was ∙ c.ok_or.ensures.value) ∙ ap (λ o. answer_of (ok_or o Unreadable)) none
     ∙ bad_code _ _ _ 0 c.requires c.u32_at-code.ensures c.if-code-lt2147483648.false (omega arith) _ refl (sym c.contents_of.ensures ∙ none)
 
 pub returns : goal.returns

@@ -1,6 +1,8 @@
 -- `render_words` meets its contract: the plane's number, then the face's.
 -- Assumes nothing.
+use Rattle.std.proofs.Common.{arith}
 use Rattle.nodes.proofs.Renders.{bad_plane, bad_face, all_good}
+use Rattle.nodes.proofs.Sections.{two_words}
 use Rattle.nodes.proofs.here.render_words.Goals as goal
 
 pub returns-then-plane-ge2147483648 : goal.returns-then-plane-ge2147483648
@@ -10,4 +12,4 @@ pub returns-then-u16_at-ge32768 : goal.returns-then-u16_at-ge32768
 returns-then-u16_at-ge32768 c = λ file a w. bad_face _ file a _ _ w c.requires c.u32_at-plane.ensures c.if-plane-ge2147483648.false _ c.u16_at.ensures c.if-u16_at-ge32768.true
 
 pub returns : goal.returns
-returns c = λ file a w. all_good _ file a _ _ w c.requires c.u32_at-plane.ensures c.if-plane-ge2147483648.false _ c.u16_at.ensures c.if-u16_at-ge32768.false _ c.pair_at.ensures
+returns c = λ file a w. all_good _ file a _ _ w c.requires c.u32_at-plane.ensures c.if-plane-ge2147483648.false _ c.u16_at.ensures c.if-u16_at-ge32768.false _ (two_words _ _ _ (λ i. omega (arith, c.type_inv.s i)) c.u32_at.ensures)

@@ -2,7 +2,8 @@
 -- Assumes nothing.
 use Rattle.std.proofs.Common.{◌≡◌, ◌/◌, ◌≤◌, true, length, sym, refl, ◌∙◌, arith}
 use Rattle.nodes.specs.Fast.{node_size}
-use Rattle.nodes.specs.Walks.{Read, are_whole}
+use Rattle.nodes.specs.Walks.{are_whole}
+use Rattle.nodes.specs.declared.whole.Sections.{Sections}
 use Rattle.nodes.proofs.Making.{nodes_counted}
 use Rattle.nodes.proofs.Beside.{beside_first, beside_ends, stops_first, stops_second, beside_on, beside_less, both_ended, none_whole}
 use Rattle.nodes.proofs.lanes.walk_two.Goals.{At-loop-sections}
@@ -14,11 +15,11 @@ on c = c.if-not-whole.false
 all_there : (c : At-loop-sections) → are_whole c.args.t (length c.args.s.now) ≡ true
 all_there c = sym c.are_whole-whole.ensures ∙ on c
 
-read : (c : At-loop-sections) → Read c.args.s.now c.args.t c.node_bytes.result.now c.plane_bytes.result.now c.are_whole-whole.result
-read c = record { told = c.are_whole-whole.ensures; its_nodes = c.node_bytes.ensures; its_planes = c.plane_bytes.ensures }
+abbrev two : At-loop-sections → Sections
+two c = c.sections_of-sections.result
 
-room : (c : At-loop-sections) → c.args.t.nodes.count ≤ length c.node_bytes.result.now / node_size c.is_render.result
-room c = omega (arith, nodes_counted c.args.s.now c.args.t c.node_bytes.result.now c.plane_bytes.result.now c.are_whole-whole.result (read c) (on c) c.is_render.result c.is_render.ensures)
+room : (c : At-loop-sections) → c.args.t.nodes.count ≤ length (two c).nodes.now / node_size (two c).render
+room c = let g = c.sections_of-sections.ensures in omega (arith, nodes_counted c.args.s.now c.args.t (two c).nodes.now (two c).planes.now c.are_whole-whole.result g.0 (on c) (two c).render g.1)
 
 pub returns-then-not-whole : goal.returns-then-not-whole
 returns-then-not-whole c = none_whole _ _ _ _ _ _ (sym c.are_whole-whole.ensures ∙ c.if-not-whole.true)
@@ -33,28 +34,28 @@ pub step-d-requires : goal.step-d-requires
 step-d-requires c = (c.loop-sections.invariant.other, room (goal.at.step-d-requires c).At-loop-sections)
 
 pub returns-then-c-ge65536 : goal.returns-then-c-ge65536
-returns-then-c-ge65536 c = stops_first _ c.args.t _ _ _ _ (all_there (goal.at.returns-then-c-ge65536 c).At-loop-sections) _ _ _ _ c.loop-sections.invariant _ _ (c.step-c.ensures _ c.args.t _ (read (goal.at.returns-then-c-ge65536 c).At-loop-sections) (on (goal.at.returns-then-c-ge65536 c).At-loop-sections) c.is_render.ensures refl) (c.step-d.ensures _ c.args.t _ (read (goal.at.returns-then-c-ge65536 c).At-loop-sections) (on (goal.at.returns-then-c-ge65536 c).At-loop-sections) c.is_render.ensures refl) c.if-c-ge65536.true
+returns-then-c-ge65536 c = stops_first _ c.args.t _ _ _ _ (all_there (goal.at.returns-then-c-ge65536 c).At-loop-sections) _ _ _ _ c.loop-sections.invariant _ _ (c.step-c.ensures _ c.args.t _ c.sections_of-sections.ensures.0 c.if-not-whole.false c.sections_of-sections.ensures.1 refl) (c.step-d.ensures _ c.args.t _ c.sections_of-sections.ensures.0 c.if-not-whole.false c.sections_of-sections.ensures.1 refl) c.if-c-ge65536.true
 
 pub returns-then-d-ge65536 : goal.returns-then-d-ge65536
-returns-then-d-ge65536 c = stops_second _ c.args.t _ _ _ _ (all_there (goal.at.returns-then-d-ge65536 c).At-loop-sections) _ _ _ _ c.loop-sections.invariant _ _ (c.step-c.ensures _ c.args.t _ (read (goal.at.returns-then-d-ge65536 c).At-loop-sections) (on (goal.at.returns-then-d-ge65536 c).At-loop-sections) c.is_render.ensures refl) (c.step-d.ensures _ c.args.t _ (read (goal.at.returns-then-d-ge65536 c).At-loop-sections) (on (goal.at.returns-then-d-ge65536 c).At-loop-sections) c.is_render.ensures refl) c.if-d-ge65536.true
+returns-then-d-ge65536 c = stops_second _ c.args.t _ _ _ _ (all_there (goal.at.returns-then-d-ge65536 c).At-loop-sections) _ _ _ _ c.loop-sections.invariant _ _ (c.step-c.ensures _ c.args.t _ c.sections_of-sections.ensures.0 c.if-not-whole.false c.sections_of-sections.ensures.1 refl) (c.step-d.ensures _ c.args.t _ c.sections_of-sections.ensures.0 c.if-not-whole.false c.sections_of-sections.ensures.1 refl) c.if-d-ge65536.true
 
 pub counted-m-requires : goal.counted-m-requires
-counted-m-requires c = λ h. let m = (c.step-c.ensures _ c.args.t _ (read (goal.at.counted-m-requires c).At-loop-sections) (on (goal.at.counted-m-requires c).At-loop-sections) c.is_render.ensures refl).may c.if-c-ge65536.false h in omega (arith, m.0, m.1)
+counted-m-requires c = λ h. let m = (c.step-c.ensures _ c.args.t _ c.sections_of-sections.ensures.0 c.if-not-whole.false c.sections_of-sections.ensures.1 refl).may c.if-c-ge65536.false h in omega (arith, m.0, m.1)
 
 pub counted-n-requires : goal.counted-n-requires
-counted-n-requires c = λ h. let m = (c.step-d.ensures _ c.args.t _ (read (goal.at.counted-n-requires c).At-loop-sections) (on (goal.at.counted-n-requires c).At-loop-sections) c.is_render.ensures refl).may c.if-d-ge65536.false h in omega (arith, m.0, m.1)
+counted-n-requires c = λ h. let m = (c.step-d.ensures _ c.args.t _ c.sections_of-sections.ensures.0 c.if-not-whole.false c.sections_of-sections.ensures.1 refl).may c.if-d-ge65536.false h in omega (arith, m.0, m.1)
 
 pub loop-sections-smaller : goal.loop-sections-smaller
-loop-sections-smaller c = rw (c.counted-n.ensures, c.counted-m.ensures) (beside_less _ c.args.t _ _ _ _ (all_there (goal.at.loop-sections-smaller c).At-loop-sections) _ _ _ _ c.loop-sections.invariant _ _ (c.step-c.ensures _ c.args.t _ (read (goal.at.loop-sections-smaller c).At-loop-sections) (on (goal.at.loop-sections-smaller c).At-loop-sections) c.is_render.ensures refl) (c.step-d.ensures _ c.args.t _ (read (goal.at.loop-sections-smaller c).At-loop-sections) (on (goal.at.loop-sections-smaller c).At-loop-sections) c.is_render.ensures refl) c.if-c-ge65536.false c.if-d-ge65536.false (sym c.ended.ensures ∙ c.loop-sections-test.true))
+loop-sections-smaller c = rw (c.counted-n.ensures, c.counted-m.ensures) (beside_less _ c.args.t _ _ _ _ (all_there (goal.at.loop-sections-smaller c).At-loop-sections) _ _ _ _ c.loop-sections.invariant _ _ (c.step-c.ensures _ c.args.t _ c.sections_of-sections.ensures.0 c.if-not-whole.false c.sections_of-sections.ensures.1 refl) (c.step-d.ensures _ c.args.t _ c.sections_of-sections.ensures.0 c.if-not-whole.false c.sections_of-sections.ensures.1 refl) c.if-c-ge65536.false c.if-d-ge65536.false (sym c.ended.ensures ∙ c.loop-sections-test.true))
 
 pub loop-sections-preserved : goal.loop-sections-preserved
-loop-sections-preserved c = rw (c.counted-n.ensures, c.counted-m.ensures) (beside_on _ c.args.t _ _ _ _ (all_there (goal.at.loop-sections-preserved c).At-loop-sections) _ _ _ _ c.loop-sections.invariant _ _ (c.step-c.ensures _ c.args.t _ (read (goal.at.loop-sections-preserved c).At-loop-sections) (on (goal.at.loop-sections-preserved c).At-loop-sections) c.is_render.ensures refl) (c.step-d.ensures _ c.args.t _ (read (goal.at.loop-sections-preserved c).At-loop-sections) (on (goal.at.loop-sections-preserved c).At-loop-sections) c.is_render.ensures refl) c.if-c-ge65536.false c.if-d-ge65536.false)
+loop-sections-preserved c = rw (c.counted-n.ensures, c.counted-m.ensures) (beside_on _ c.args.t _ _ _ _ (all_there (goal.at.loop-sections-preserved c).At-loop-sections) _ _ _ _ c.loop-sections.invariant _ _ (c.step-c.ensures _ c.args.t _ c.sections_of-sections.ensures.0 c.if-not-whole.false c.sections_of-sections.ensures.1 refl) (c.step-d.ensures _ c.args.t _ c.sections_of-sections.ensures.0 c.if-not-whole.false c.sections_of-sections.ensures.1 refl) c.if-c-ge65536.false c.if-d-ge65536.false)
 
-pub overflow_cast-result : goal.overflow_cast-result
-overflow_cast-result c = omega (arith, c.loop-sections.invariant.one)
+pub lane_at-requires : goal.lane_at-requires
+lane_at-requires c = c.loop-sections.invariant.one
 
-pub overflow_cast-result-2 : goal.overflow_cast-result-2
-overflow_cast-result-2 c = omega (arith, c.loop-sections.invariant.other)
+pub lane_at-requires-2 : goal.lane_at-requires-2
+lane_at-requires-2 c = c.loop-sections.invariant.other
 
 pub returns : goal.returns
-returns c = let e = both_ended _ _ (sym c.ended.ensures ∙ c.loop-sections-test.false) in beside_ends _ c.args.t _ _ _ _ (all_there (goal.at.returns c).At-loop-sections) _ _ _ _ c.loop-sections.invariant e.0 e.1
+returns c = let e = both_ended _ _ (sym c.ended.ensures ∙ c.loop-sections-test.false) in rw (c.lane_at.ensures, c.lane_at-2.ensures) (beside_ends _ c.args.t _ _ _ _ (all_there (goal.at.returns c).At-loop-sections) _ _ _ _ c.loop-sections.invariant e.0 e.1)

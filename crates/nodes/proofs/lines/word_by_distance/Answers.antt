@@ -11,7 +11,7 @@ use Rattle.nodes.proofs.Making.{on_the_side}
 use Rattle.nodes.proofs.lines.word_by_distance.Goals as goal
 
 pub returns-then-kind-lt3 : goal.returns-then-kind-lt3
-returns-then-kind-lt3 c = let a = c.args in let x = get_or a.point.now c.u32_at-kind.result nan in c.on.ensures ∙ on_the_side a.words (le zero32 (sub binary32 x c.f32_at-dist.result)) ∙ ap (λ z. word_at a.words (from_dist z)) (here_axis_dist _ _ _ _ c.f32_at-dist.ensures c.u32_at-kind.ensures (point_of a.point.now) x (coordinate_of_lem a.point.now _ c.if-kind-lt3.true) c.if-kind-lt3.true)
+returns-then-kind-lt3 c = let a = c.args in let x = get_or a.point.now c.u32_at-kind.result nan in c.on.ensures ∙ on_the_side a.words (le zero32 (sub binary32 x c.f32_at-dist.result)) ∙ ap (λ z. word_at a.words (from_dist z)) (here_axis_dist _ 0 _ _ c.f32_at-dist.ensures c.u32_at-kind.ensures (point_of a.point.now) x (coordinate_of_lem a.point.now _ c.if-kind-lt3.true) c.if-kind-lt3.true)
 
 pub returns : goal.returns
-returns c = let a = c.args in let h = c.new.result in c.on-2.ensures ∙ on_the_side a.words (le zero32 c.point_dist.result) ∙ ap (λ x. word_at a.words (from_dist x)) (c.point_dist.ensures ∙ ap (point_dist h) c.point_of.ensures ∙ ap (λ y. point_dist y (point_of a.point.now)) (here_slanted _ _ _ _ c.f32_at-dist.ensures c.u32_at-kind.ensures _ h c.normal_at.ensures c.new.ensures c.if-kind-lt3.false))
+returns c = let a = c.args in let h = c.new.result in c.on-2.ensures ∙ on_the_side a.words (le zero32 c.point_dist.result) ∙ ap (λ x. word_at a.words (from_dist x)) (c.point_dist.ensures ∙ ap (point_dist h) c.point_of.ensures ∙ ap (λ y. point_dist y (point_of a.point.now)) (here_slanted _ 0 _ _ c.f32_at-dist.ensures c.u32_at-kind.ensures _ h c.normal_of.ensures c.new.ensures c.if-kind-lt3.false))

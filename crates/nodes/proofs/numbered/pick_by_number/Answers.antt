@@ -14,10 +14,10 @@ pub returns-then-known-number : goal.returns-then-known-number
 returns-then-known-number c = picked_23 _ _ _ _ _ _ _ c.min-known.ensures c.if-known-number.true c.if-count-number.false
 
 pub returns-then-kind-lt3 : goal.returns-then-kind-lt3
-returns-then-kind-lt3 c = let p = c.args.point in let x = get_or (p.x ∷ p.y ∷ p.z ∷ []) c.u32_at-kind.result nan in picked _ _ _ p _ _ _ c.min-known.ensures c.if-known-number.false (le c.f32_at-dist.result x) (here_axis_side _ _ _ _ c.f32_at-dist.ensures c.u32_at-kind.ensures p x (coordinate p _ nan c.if-kind-lt3.true) c.if-kind-lt3.true) _ c.of_two.ensures
+returns-then-kind-lt3 c = let p = c.args.point in let x = get_or (p.x ∷ p.y ∷ p.z ∷ []) c.u32_at-kind.result nan in picked _ _ _ p _ _ _ c.min-known.ensures c.if-known-number.false _ c.plane_bytes_at-bytes.ensures (le c.f32_at-dist.result x) (here_axis_side _ 0 _ _ c.f32_at-dist.ensures c.u32_at-kind.ensures p x (coordinate p _ nan c.if-kind-lt3.true) c.if-kind-lt3.true) _ c.of_two.ensures
 
 pub returns-then-is_front : goal.returns-then-is_front
-returns-then-is_front c = let p = c.args.point in picked _ _ _ p _ _ _ c.min-known.ensures c.if-known-number.false true (ap Pl.side_if (sym c.if-is_front.true) ∙ c.is_front.ensures ∙ c.point_side.ensures ∙ ap (λ h. Pl.point_side h p) (here_slanted _ _ _ _ c.f32_at-dist.ensures c.u32_at-kind.ensures _ _ c.normal_at.ensures c.new-plane.ensures c.if-kind-lt3.false)) _ refl
+returns-then-is_front c = let p = c.args.point in picked _ _ _ p _ _ _ c.min-known.ensures c.if-known-number.false _ c.plane_bytes_at-bytes.ensures true (ap Pl.side_if (sym c.if-is_front.true) ∙ c.is_front.ensures ∙ c.point_side.ensures ∙ ap (λ h. Pl.point_side h p) (here_slanted _ 0 _ _ c.f32_at-dist.ensures c.u32_at-kind.ensures _ _ c.normal_of.ensures c.new-plane.ensures c.if-kind-lt3.false)) _ refl
 
 pub returns : goal.returns
-returns c = let p = c.args.point in picked _ _ _ p _ _ _ c.min-known.ensures c.if-known-number.false false (ap Pl.side_if (sym c.if-is_front.false) ∙ c.is_front.ensures ∙ c.point_side.ensures ∙ ap (λ h. Pl.point_side h p) (here_slanted _ _ _ _ c.f32_at-dist.ensures c.u32_at-kind.ensures _ _ c.normal_at.ensures c.new-plane.ensures c.if-kind-lt3.false)) _ refl
+returns c = let p = c.args.point in picked _ _ _ p _ _ _ c.min-known.ensures c.if-known-number.false _ c.plane_bytes_at-bytes.ensures false (ap Pl.side_if (sym c.if-is_front.false) ∙ c.is_front.ensures ∙ c.point_side.ensures ∙ ap (λ h. Pl.point_side h p) (here_slanted _ 0 _ _ c.f32_at-dist.ensures c.u32_at-kind.ensures _ _ c.normal_of.ensures c.new-plane.ensures c.if-kind-lt3.false)) _ refl

@@ -1,13 +1,13 @@
 -- `walk_by_records` meets its contract. The loop's invariant: the answer is that of the walk from the present node, which may enter as many
 -- nodes as are left, with the visits made so far added.
 -- Assumes nothing.
-use Rattle.std.proofs.lemmas.Result.{err_from_is_err_and}
 use Rattle.std.proofs.Common.{◌≡◌, ℕ, suc, ◌+◌, ◌-◌, ◌<◌, sym, ap, ◌∙◌, arith, rules}
 use Rattle.walk.specs.Private.{after}
 use Rattle.walk.proofs.Steps.{walk_outside, walk_spent}
 use Rattle.nodes.proofs.Stepping.{at_first, step_refused, step_node, step_end}
 use Rattle.nodes.proofs.walking.walk_by_records.Goals.{At-loop-node}
 use Rattle.nodes.proofs.walking.walk_by_records.Goals as goal
+use Rattle.format.proofs.Answers.{handed_on}
 
 -- the nodes of the table, and those that may be entered after this one
 abbrev n : At-loop-node → ℕ
@@ -29,7 +29,7 @@ pub returns-then-limit-visits : goal.returns-then-limit-visits
 returns-then-limit-visits c = sym (c.loop-node.invariant.1 ∙ ap (after _) (walk_spent _ _ _ _ (omega arith) c.if-part-node.false))
 
 pub returns-in_err-word : goal.returns-in_err-word
-returns-in_err-word c = let (d, t, s) = err_from_is_err_and c.from_residual.result c.from_residual.ensures.1 in rw (t, s) (let a = c.args in sym (c.loop-node.invariant.1 ∙ step_refused a.s.now a.t _ _ _ (j (goal.at.returns-in_err-word c).At-loop-node) _ (falls (goal.at.returns-in_err-word c).At-loop-node c.if-limit-visits.false) c.if-part-node.false c.onward_from.result c.onward_from.ensures _ c.in_err-word.was))
+returns-in_err-word c = rw (handed_on c.from_residual.ensures.1) (let a = c.args in sym (c.loop-node.invariant.1 ∙ step_refused a.s.now a.t _ _ _ (j (goal.at.returns-in_err-word c).At-loop-node) _ (falls (goal.at.returns-in_err-word c).At-loop-node c.if-limit-visits.false) c.if-part-node.false c.onward_from.result c.onward_from.ensures _ c.in_err-word.was))
 
 pub overflow_add-visits : goal.overflow_add-visits
 overflow_add-visits c = omega arith

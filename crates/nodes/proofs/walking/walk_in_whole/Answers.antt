@@ -9,4 +9,4 @@ returns-then-not-are_whole c l = absurd (omega arith)
 
 pub returns : goal.returns
 returns c l = let a = c.args in
-    quick_of_any a.s.now a.t (sym c.are_whole.ensures ∙ c.if-not-are_whole.false) _ _ _ (λ e. omega (arith, l, e)) (rw (← c.is_render.ensures) c.walk_quick.ensures)
+    quick_of_any a.s.now a.t (sym c.are_whole.ensures ∙ c.if-not-are_whole.false) _ _ _ (λ e. omega (arith, l, e)) (rw (← c.is_render.ensures) c.walk_quick.ensures.said)

@@ -2,14 +2,14 @@
 -- many nodes as are left, with the visits made so far added. Assumes nothing.
 use Prim.Native.Nat.{ℕ, suc, ◌+◌, ◌-◌, ◌/◌, ◌<◌}
 use native.Mathlib.Omega.{arith}
-use mathlib.Core.Path.{◌≡◌, refl, sym, ap, ◌∙◌}
+use mathlib.Core.Path.{◌≡◌, sym, ap, ◌∙◌}
 use lib.ListN.{length}
 use Rattle.walk.specs.Private.{after}
 use Rattle.walk.proofs.Steps.{walk_outside, walk_spent}
-use Rattle.tree.proofs.Laws.{handed_on}
-use Rattle.ordered.proofs.Laws.{at_first, step_refused, step_node, step_end}
+use Rattle.ordered.proofs.Laws.{step_refused, step_node, step_end}
 use Rattle.ordered.proofs.contents.contents_from.Goals.{At-loop-place}
 use Rattle.ordered.proofs.contents.contents_from.Goals as goal
+use Rattle.format.proofs.Answers.{handed_on}
 
 -- the rows of the table, and those that may be entered after this one
 abbrev n : At-loop-place → ℕ
@@ -20,9 +20,6 @@ j c = n c - (c.loop-place.visits + 1)
 
 falls : (c : At-loop-place) → c.loop-place.visits < n c → n c - c.loop-place.visits ≡ suc (j c)
 falls c h = omega arith
-
-pub loop-place-init : goal.loop-place-init
-loop-place-init c = (refl, omega arith, at_first c.args.t.planes.now c.args.t.count c.args.t.words.now c.args.point _ _)
 
 pub returns-then-limit-place : goal.returns-then-limit-place
 returns-then-limit-place c = let l = c.loop-place.invariant in sym (l.2 ∙ ap (after _) (walk_outside _ _ _ _ (omega (arith, l.0, c.if-limit-place.true))))

@@ -6,24 +6,19 @@ use Rattle.std.specs.Prelude.{ℕ, eqb}
 use borrow.Author.Tests.{ne_eqb, eqb-true, eqb-false}
 use denote.Enum.Bare.{sameb}
 use Rattle.math.specs.Vector as Vec
-use Rattle.format.specs.Answer.{answer, refused}
+use Rattle.format.specs.Answer.{answer}
 use Rattle.format.specs.Contents as Contents
 use Rattle.format.specs.contracts.contents.BspLeafContents.{the_type}
 use Rattle.format.specs.declared.contents.BspLeafContents.{BspLeafContents}
 use Rattle.format.specs.declared.contents.BspLeafContents.TheVariants.{Solid}
 use Rattle.format.proofs.Same.{same_contents}
-use Rattle.phys.specs.Trace.{join, join_same, trace, is_terminal}
+use Rattle.phys.specs.Trace.{join, trace, is_terminal}
 use Rattle.phys.specs.declared.Trace.{Trace}
-use Rattle.phys.proofs.Trace.join.Goals.{then-is_terminal-via-then-is_terminal, then-is_terminal-via-else-is_terminal+then-ne}
 use Rattle.phys.proofs.Trace.join.Goals as goal
 
 -- what a test by `==` or `!=` tells
 told : (a b : BspLeafContents) {r x : Bool} → r ≡ sameb the_type a b → r ≡ x → Contents.equal a b ≡ x
 told a b e t = sym (same_contents a b) ∙ sym e ∙ t
-
-away : (b : Bool) {r : Bool} → r ≡ not b → r ≡ true → b ≡ false
-away true e t = sym t ∙ e
-away false e t = refl
 
 here : (b : Bool) {r : Bool} → r ≡ not b → r ≡ false → b ≡ true
 here true e t = refl
@@ -32,43 +27,19 @@ here false e t = sym t ∙ e
 apart_of : (m n k : ℕ) → eqb m n ≡ false → eqb m k ≡ true → eqb n k ≡ false
 apart_of m n k s p = ne_eqb n k (λ e. eqb-false m n s (eqb-true m k p ∙ sym e))
 
-module _ (t u : Trace) where
-  after_terminal : is_terminal t ≡ true → refused 19 ≡ join t u
+module _ (t u : Trace) (k : is_terminal t ≡ false) (e : Vec.same t.end.point u.start.point ≡ true) (s : Contents.equal t.contents u.contents ≡ false) where
+  -- two media are not both solid
+  not_both : (a b : BspLeafContents) → Contents.equal a b ≡ false → Contents.equal a Solid ≡ true → Contents.equal b Solid ≡ false
+  unfolding Contents.equal
+  not_both a b s p = apart_of (Contents.code_of a) (Contents.code_of b) 2 s p
+
+  out_of_solid : Contents.equal t.contents Solid ≡ true → answer (trace t.start u.end u.contents true) ≡ join t u
   unfolding join
-  after_terminal k = simp k
+  out_of_solid p = simp (k, e, s, p, not_both t.contents u.contents s p)
 
-  module _ (k : is_terminal t ≡ false) where
-    apart : Vec.same t.end.point u.start.point ≡ false → refused 19 ≡ join t u
-    unfolding join
-    apart e = simp (k, e)
-
-    module _ (e : Vec.same t.end.point u.start.point ≡ true) where
-      one_medium : Contents.equal t.contents u.contents ≡ true → answer (join_same t u) ≡ join t u
-      unfolding join
-      one_medium s = simp (k, e, s)
-
-      module _ (s : Contents.equal t.contents u.contents ≡ false) where
-        -- two media are not both solid
-        not_both : (a b : BspLeafContents) → Contents.equal a b ≡ false → Contents.equal a Solid ≡ true → Contents.equal b Solid ≡ false
-        unfolding Contents.equal
-        not_both a b s p = apart_of (Contents.code_of a) (Contents.code_of b) 2 s p
-
-        out_of_solid : Contents.equal t.contents Solid ≡ true → answer (trace t.start u.end u.contents true) ≡ join t u
-        unfolding join
-        out_of_solid p = simp (k, e, s, p, not_both t.contents u.contents s p)
-
-        stopped : Contents.equal t.contents Solid ≡ false → answer t ≡ join t u
-        unfolding join
-        stopped p = simp (k, e, s, p)
-
-pub returns-then-is_terminal : goal.returns-then-is_terminal
-returns-then-is_terminal c = elim c.then-is_terminal.branch [
-  | then-is_terminal-via-then-is_terminal w ↦ after_terminal _ _ (sym c.is_terminal.ensures ∙ w.if-is_terminal.true)
-  | then-is_terminal-via-else-is_terminal+then-ne w ↦ apart _ _ (sym c.is_terminal.ensures ∙ w.if-is_terminal.false) (away _ w.ne.ensures w.if-ne.true)
-]
-
-pub returns-then-eq : goal.returns-then-eq
-returns-then-eq c = one_medium _ _ (sym c.is_terminal.ensures ∙ c.if-is_terminal.false) (here _ c.ne.ensures c.if-ne.false) (told _ _ c.eq.ensures c.if-eq.true)
+  stopped : Contents.equal t.contents Solid ≡ false → answer t ≡ join t u
+  unfolding join
+  stopped p = simp (k, e, s, p)
 
 pub returns-then-eq-2 : goal.returns-then-eq-2
 returns-then-eq-2 c = out_of_solid _ _ (sym c.is_terminal.ensures ∙ c.if-is_terminal.false) (here _ c.ne.ensures c.if-ne.false) (told _ _ c.eq.ensures c.if-eq.false)

@@ -1,8 +1,7 @@
 -- `count` meets its contract: by the plane's alignment.
 -- Assumes nothing.
 use Rattle.std.proofs.Common.{◌∙◌, rules, tests}
-use Rattle.ways.specs.Groups.{in_front}
-use Rattle.points.specs.Going.{point_at, reaches}
+use Rattle.points.specs.Going.{reaches}
 use Rattle.points.proofs.Lists.{count_axis}
 use Rattle.points.proofs.divide.count.Goals as goal
 
@@ -11,6 +10,3 @@ returns-in-Axis c = let a = c.args in
     let k = c.axis_number-axis in
     c.count_by.ensures (reaches a.coords.now k.result a.plane.dist) (λ q b e. search (rules, tests))
     ∙ count_axis a.coords.now a.plane _ c.in-Axis.is _ k.ensures a.ids.now
-
-pub returns-in-Normal : goal.returns-in-Normal
-returns-in-Normal c = let a = c.args in c.count_by-in-Normal.ensures (in_front (point_at a.coords.now) a.plane) (λ q b e. search (rules, tests))

@@ -1,17 +1,8 @@
 -- `meet_child` meets its contract, by each way through it.
 -- Assumes nothing.
 use native.Mathlib.Omega.{arith}
-use Rattle.points.proofs.Meeting.{none_left, outside, end_any, not_read, no_plane, is_node}
+use Rattle.points.proofs.Meeting.{not_read, no_plane, is_node}
 use Rattle.points.proofs.group.meet_child.Goals as goal
-
-pub returns-then-left-eq0 : goal.returns-then-left-eq0
-returns-then-left-eq0 c = none_left _ _ _ _ _ c.in-Node.is c.if-left-eq0.true
-
-pub returns-then-t-node : goal.returns-then-t-node
-returns-then-t-node c = outside _ _ _ _ _ c.in-Node.is c.if-t-node.true
-
-pub returns-in-End : goal.returns-in-End
-returns-in-End c = end_any _ _ _ _ _ c.in-End.is _ c.end_byte.ensures
 
 pub returns-in_default : goal.returns-in_default
 returns-in_default c = not_read _ _ _ _ _ c.in-Node.is (omega arith) c.if-t-node.false _ c.read_words.ensures _ c.in_default.is

@@ -7,10 +7,10 @@ use Rattle.walk.specs.Table.{node}
 use Rattle.hull.specs.Hull.{hull_table}
 use Rattle.points.specs.Going.{Settles, from}
 use Rattle.points.proofs.Finished.{of_all, same_table, first_refused, never, all_answered}
-use Rattle.std.proofs.lemmas.Result.{err_from_is_err_and}
 use Rattle.nodes.specs.Fast.{table}
 use Rattle.points.proofs.many.answer_all.Goals.{After-first_zero-zero}
 use Rattle.points.proofs.many.answer_all.Goals as goal
+use Rattle.format.proofs.Answers.{handed_on}
 
 -- all points are settled
 all : (c : After-first_zero-zero) →
@@ -29,8 +29,7 @@ pub returns-in_err-contents_in : goal.returns-in_err-contents_in
 returns-in_err-contents_in c =
     let a = c.args in
     let at = (goal.at.returns-in_err-contents_in c).After-first_zero-zero in
-    let (d, u, e) = err_from_is_err_and c.from_residual.result c.from_residual.ensures.1 in
-    rw (u, e)
+    rw (handed_on c.from_residual.ensures.1)
     (first_refused a.s.now c.tables_of-t.result a.coords.now (length a.ids.now) a.hull.node_id c.requires.threes (hull_table a.s.now a.map a.hull) (same at)
     a.out.now c.settle_group-reads.new.out c.settle_group-reads.result c.requires.as_long (all at) _ c.first_zero-zero.ensures c.if-zero-count.true
     _ c.point_at.ensures a.list.now _ c.in_err-contents_in.ensures)

@@ -1,27 +1,20 @@
 -- `answer_one` meets its contract: what the point gets alone.
 -- Assumes nothing.
 use native.Mathlib.Omega.{arith}
-use Rattle.std.proofs.lemmas.Result.{err_from_is_err_and}
 use Rattle.hull.specs.Hull.{hull_table}
-use Rattle.points.proofs.Finished.{same_table, count_small, only_refused, only_answered}
+use Rattle.points.proofs.Finished.{same_table, count_small, one_point, only_refused, only_answered}
 use Rattle.points.proofs.many.answer_one.Goals as goal
+use Rattle.format.proofs.Answers.{handed_on}
 
 pub returns-in_err-contents : goal.returns-in_err-contents
 returns-in_err-contents c =
     let a = c.args in
-    let t = c.tables_of-t in
-    let (d, u, e) = err_from_is_err_and c.from_residual.result c.from_residual.ensures.1 in
-    rw (u, e)
-    (only_refused a.s.now t.result a.coords.now a.hull.node_id (omega (arith, c.requires.some, c.requires.few, c.requires.threes))
-    (hull_table a.s.now a.map a.hull) (same_table a.s.now a.map a.hull.table a.hull.mins a.hull.maxs t.result t.ensures)
-    a.list.now _ c.point_at.ensures _ c.in_err-contents.ensures)
+    rw (handed_on c.from_residual.ensures.1)
+    (only_refused _ _ _ _ (one_point _ _ c.requires).0 (hull_table a.s.now a.map a.hull) (same_table _ _ _ _ _ _ c.tables_of-t.ensures) a.list.now _ c.point_at.ensures _ c.in_err-contents.ensures)
 
 pub returns : goal.returns
 returns c =
     let a = c.args in
-    let t = c.tables_of-t in
-    only_answered a.s.now t.result a.coords.now a.hull.node_id (omega (arith, c.requires.some, c.requires.few, c.requires.threes))
-    (hull_table a.s.now a.map a.hull) (same_table a.s.now a.map a.hull.table a.hull.mins a.hull.maxs t.result t.ensures)
-    a.list.now _ c.point_at.ensures
-    (count_small a.map a.hull.table a.hull.mins a.hull.maxs t.result t.ensures (omega (arith, c.well_formed.1.0)) (omega (arith, c.well_formed.1.0)))
-    _ _ c.in_ok-contents.ensures (omega (arith, c.requires.room, c.requires.some)) _ c.code.ensures
+    let t = c.tables_of-t.ensures in
+    only_answered _ _ _ _ (one_point _ _ c.requires).0 (hull_table a.s.now a.map a.hull) (same_table _ _ _ _ _ _ t) a.list.now _ c.point_at.ensures
+    (count_small a.map _ _ _ _ t (omega (arith, c.well_formed.1.0)) (omega (arith, c.well_formed.1.0))) _ _ c.in_ok-contents.ensures (one_point _ _ c.requires).1 _ c.code.ensures

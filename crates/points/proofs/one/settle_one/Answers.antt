@@ -1,8 +1,7 @@
 -- `settle_one` meets its contract.
 -- Assumes nothing.
-use mathlib.Core.Logic.{inl}
 use Rattle.points.proofs.Single.{one_settles}
 use Rattle.points.proofs.one.settle_one.Goals as goal
 
 pub returns : goal.returns
-returns c = one_settles _ _ _ _ _ _ _ _ _ c.requires c.walk_on-one.ensures _ (inl c.put.ensures)
+returns c = one_settles _ _ _ c.requires c.walk_on-one.ensures c.put.ensures

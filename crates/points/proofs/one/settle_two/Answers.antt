@@ -9,4 +9,4 @@ pub overflow_add-result : goal.overflow_add-result
 overflow_add-result c = omega (arith, pair_few _ _ _ _ c.args.words _ _ _ (omega (arith, c.ranges)) c.walk_pair-pair.ensures)
 
 pub returns : goal.returns
-returns c = two_settles _ _ _ _ _ _ _ c.requires _ c.walk_pair-pair.ensures _ _ c.put.ensures c.put-2.ensures
+returns c = two_settles _ _ _ c.requires c.walk_pair-pair.ensures c.put.ensures c.put-2.ensures

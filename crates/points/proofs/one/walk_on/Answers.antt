@@ -5,7 +5,7 @@ use Rattle.points.proofs.Swift.{walked, ended_at}
 use Rattle.points.proofs.one.walk_on.Goals as goal
 
 pub returns-in-End : goal.returns-in-End
-returns-in-End c = ended_at _ _ _ _ _ _ _ c.in-End.is _ c.end_byte.ensures
+returns-in-End c = ended_at _ _ _ _ c.in-End.is c.end_byte.ensures
 
 pub returns-in-Ok : goal.returns-in-Ok
-returns-in-Ok c = walked _ _ _ _ _ _ _ c.in-Node.is (omega (arith, c.ranges)) _ c.point_at-p.ensures _ c.walk_to_end.ensures _ _ c.in-Ok.is c.if-visits-left.true _ c.end_byte-in-Ok.ensures
+returns-in-Ok c = walked _ _ _ _ c.in-Node.is (omega (arith, c.ranges)) c.point_at-p.ensures c.walk_to_end.ensures c.in-Ok.is c.if-visits-left.true c.end_byte-in-Ok.ensures

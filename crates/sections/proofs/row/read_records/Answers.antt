@@ -1,14 +1,13 @@
 -- `sections::row::read_records` meets its contract: what is left to read from the position is all that there is to read.
 -- Assumes nothing.
 use Rattle.std.proofs.Common.{◌≡◌, ◌+◌, ◌-◌, ◌∙◌, sym, arith}
-use Rattle.std.proofs.lemmas.Result.{err_from_is_err_and}
 use Rattle.sections.proofs.Loops.{done, more, stop}
 use Rattle.sections.proofs.row.read_records.Goals as goal
+use Rattle.format.proofs.Answers.{handed_on}
 
 pub returns-in_err-p : goal.returns-in_err-p
 returns-in_err-p g c one h =
-    let (d, t, e) = err_from_is_err_and c.from_residual.result c.from_residual.ensures.1 in
-    rw (t, e) (sym (stop one c.args.s.now _ c.loop.p (omega arith) (sym (h _ _ _ c.in_err-p.ensures))) ∙ c.loop.invariant one h)
+    rw (handed_on c.from_residual.ensures.1) (sym (stop one c.args.s.now _ c.loop.p (omega arith) (sym (h _ _ _ c.in_err-p.ensures))) ∙ c.loop.invariant one h)
 
 pub loop-preserved : goal.loop-preserved
 loop-preserved g c one h =

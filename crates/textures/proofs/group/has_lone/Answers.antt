@@ -12,7 +12,7 @@ use Rattle.textures.proofs.group.has_lone.Goals as goal
 
 -- the marks are as many as the nodes
 marks_are : (c : After-fill-filling) → length (take c.fill-filling.result.nodes c.loop-from.marks) ≡ c.fill-filling.result.nodes
-marks_are c = let f = c.fill-filling in omega (arith, length-take f.result.nodes c.loop-from.marks, f.ensures.0.table.room, c.requires.1)
+marks_are c = let f = c.fill-filling in omega (arith, length-take f.result.nodes c.loop-from.marks, f.ensures.0.table.room, c.args.table.now.four_words_each)
 
 pub loop-from-init : goal.loop-from-init
 unfolding any

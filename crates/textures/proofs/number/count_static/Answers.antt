@@ -1,24 +1,21 @@
--- `textures::number::count_static` meets its contract: as many as there are so far
+-- `textures::number::count_static` meets its contract: the test asks whether a texture is static.
 -- Assumes nothing.
-use Rattle.std.specs.Prelude.{◌+◌, not}
-use Rattle.std.proofs.Common.{arith}
+use Rattle.std.specs.Prelude.{ℕ, Bool, ◌≡◌, not}
+use Rattle.std.proofs.Common.{◌∙◌, arith, rules, tests}
+use Rattle.std.proofs.lemmas.Iterator.{YieldsList-from_range}
+use Rattle.std.proofs.lemmas.Iterator.Consumers.{YieldsList-from_filter, count_from_yields_List}
+use Rattle.textures.specs.Count.{count}
 use Rattle.texture_list.specs.Kind.{passing}
 use Rattle.texture_list.specs.declared.kind.Kind.TheVariants.{Animated}
-use Rattle.textures.proofs.Firsts.{starts_at, flag_more, count_below}
+use Rattle.textures.proofs.Firsts.{count_below}
+use Rattle.textures.proofs.Scans.{count_of_range}
 use Rattle.textures.proofs.number.count_static.Goals as goal
 
-pub loop-i-init : goal.loop-i-init
-loop-i-init c = let a = c.args in starts_at (λ j. not (passing a.s.now a.base Animated j))
-
-pub overflow_add-n : goal.overflow_add-n
-overflow_add-n c =
+pub returns : goal.returns
+returns c =
     let a = c.args in
-    let h = flag_more (λ j. not (passing a.s.now a.base Animated j)) _ _ _ c.loop-i.invariant c.is_static.ensures in
-    let k = count_below (λ j. not (passing a.s.now a.base Animated j)) (c.loop-i.i + 1) in
-    omega (arith, c.from-n.ensures)
-
-pub loop-i-preserved : goal.loop-i-preserved
-loop-i-preserved c =
-    let a = c.args in
-    let h = flag_more (λ j. not (passing a.s.now a.base Animated j)) _ _ _ c.loop-i.invariant c.is_static.ensures in
-    rw c.from-n.ensures h
+    let p : ℕ → Bool = λ i. not (passing a.s.now a.base Animated i) in
+    let e : c.count.result ≡ count p a.upto =
+    count_from_yields_List c.filter.result _ c.count.ensures.ran (YieldsList-from_filter _ p (YieldsList-from_range 0 a.upto a.upto (cc) (omega arith)) c.filter.ensures.closure (λ x b q k. search (rules, tests)))
+    ∙ count_of_range p a.upto in
+    omega (arith, e, count_below p a.upto)

@@ -8,5 +8,5 @@ abbrev pub invariant-loop-left : goal.invariant-loop-left
 invariant-loop-left l = record {
   inside : 4 * l.u + 4 ≤ length l.t;
   two : l.d < 2;
-  same : Tab.seek l.t l.a l.b l.left l.u l.d ≡ Tab.seek l.t l.a l.b 145 0 0;
+  same : Tab.seek l.t l.stem.start l.stem.end l.left l.u l.d ≡ Tab.seek l.t l.stem.start l.stem.end 145 0 0;
 }

@@ -1,18 +1,9 @@
 -- `put_last` meets its contract: as long as a bit is left there is room. Assumes nothing.
 use Rattle.std.specs.Prelude.{◌≡◌, suc, ◌+◌, ◌-◌, ◌^◌, ◌<◌}
-use Rattle.std.proofs.Common.{rules, arith}
-use native.Mathlib.Nat.{add-zero}
+use Rattle.std.proofs.Common.{arith}
 use lib.Arith.{lt-one}
-use Rattle.vis.proofs.SetBits.{starts, room_left, no_bits, put_next, put_all}
+use Rattle.vis.proofs.SetBits.{room_left, no_bits, put_next, put_all}
 use Rattle.vis.proofs.row.put_last.Goals as goal
-
-pub loop-shift-init : goal.loop-shift-init
-loop-shift-init c = let a = c.args in
-    let b : a.byte < 2 ^ 8 = search rules in
-    rw add-zero (starts a.byte a.first a.count a.list.now b c.requires.0)
-
-pub bounds-list-at : goal.bounds-list-at
-bounds-list-at c = room_left _ _ _ _ _ _ c.loop-shift.invariant c.if-rest-eq0.false
 
 pub loop-shift-preserved : goal.loop-shift-preserved
 loop-shift-preserved c = let a = c.args in

@@ -10,11 +10,11 @@ use lib.Ieee.{le}
 use Rattle.math.specs.Vector.{zero32}
 use Rattle.nodes.specs.Owned.{end_among}
 use Rattle.nodes.proofs.Owning.{own_count, own_end}
-use Rattle.tree.proofs.Laws.{handed_on}
 use Rattle.hull.proofs.Descents.{unread, crosses, to_node, to_end}
 use Rattle.hull.proofs.Meets.{plane_same, not_seen, seen, meets_node, meets_end}
 use borrow.Author.Rules.{rules}
 use Rattle.hull.proofs.whole.Whole.go_down.Goals as goal
+use Rattle.format.proofs.Answers.{handed_on}
 
 pub loop-node-init : goal.loop-node-init
 loop-node-init c = (search rules, λ f t own. refl)
@@ -32,13 +32,13 @@ pub overflow_sub-left : goal.overflow_sub-left
 overflow_sub-left c = omega (arith, c.if-left-eq0.false)
 
 pub returns-then-a-b : goal.returns-then-a-b
-returns-then-a-b c = record { says = λ f t own. crosses _ _ _ _ _ _ c.if-left-eq0.false (omega (arith, own_count f t _ _ _ _ own, c.node_count.ensures, c.if-node_count-node.false)) _ _ _ (seen f t _ _ _ _ (c.segment_in.ensures.1 f t true own.read refl own.its_table) _ _ _ c.in_ok-w.was) _ c.one_more-visits.ensures c.if-a-b.true _ (plane_same f t _) ∙ c.loop-node.invariant.1 f t own; falls = omega (arith, c.if-left-eq0.false, c.loop-node.invariant.0) }
+returns-then-a-b c = record { says = λ f t own. crosses _ _ _ _ _ _ c.if-left-eq0.false (omega (arith, own_count f t _ _ _ _ own, c.node_count.ensures, c.if-node_count-node.false)) _ _ _ (seen f t _ _ _ _ (c.segment_in.ensures.1 f t true own.read refl own.its_table) _ _ _ c.in_ok-w.was) _ c.saturating_add-visits.ensures c.if-a-b.true _ (plane_same f t _) ∙ c.loop-node.invariant.1 f t own; falls = omega (arith, c.if-left-eq0.false, c.loop-node.invariant.0) }
 
 pub returns-then-word-ge32768 : goal.returns-then-word-ge32768
-returns-then-word-ge32768 c = record { says = λ f t own. c.leaf_of.ensures.0 f t _ _ ∙ to_end _ _ _ _ _ _ c.if-left-eq0.false (omega (arith, own_count f t _ _ _ _ own, c.node_count.ensures, c.if-node_count-node.false)) _ _ _ (seen f t _ _ _ _ (c.segment_in.ensures.1 f t true own.read refl own.its_table) _ _ _ c.in_ok-w.was) _ c.one_more-visits.ensures c.if-a-b.false (end_among c.args.self.now.sections.render c.args.self.now.leaves.now c.on-word.result) (meets_end f t c.in_ok-w.w (le zero32 c.in_ok-w.a) _ c.on-word.ensures c.if-word-ge32768.true _ (own_end f t _ _ _ _ own _)) ∙ c.loop-node.invariant.1 f t own; falls = omega (arith, c.leaf_of.ensures.1) }
+returns-then-word-ge32768 c = record { says = λ f t own. c.leaf_of.ensures.0 f t _ _ ∙ to_end _ _ _ _ _ _ c.if-left-eq0.false (omega (arith, own_count f t _ _ _ _ own, c.node_count.ensures, c.if-node_count-node.false)) _ _ _ (seen f t _ _ _ _ (c.segment_in.ensures.1 f t true own.read refl own.its_table) _ _ _ c.in_ok-w.was) _ c.saturating_add-visits.ensures c.if-a-b.false (end_among c.args.self.now.sections.render c.args.self.now.leaves.now c.on-word.result) (meets_end f t c.in_ok-w.w (le zero32 c.in_ok-w.a) _ c.on-word.ensures c.if-word-ge32768.true _ (own_end f t _ _ _ _ own _)) ∙ c.loop-node.invariant.1 f t own; falls = omega (arith, c.leaf_of.ensures.1) }
 
 pub loop-node-smaller : goal.loop-node-smaller
 loop-node-smaller c = omega (arith, c.if-left-eq0.false)
 
 pub loop-node-preserved : goal.loop-node-preserved
-loop-node-preserved c = (omega (arith, c.loop-node.invariant.0), λ f t own. sym (to_node _ _ _ _ _ _ c.if-left-eq0.false (omega (arith, own_count f t _ _ _ _ own, c.node_count.ensures, c.if-node_count-node.false)) _ _ _ (seen f t _ _ _ _ (c.segment_in.ensures.1 f t true own.read refl own.its_table) _ _ _ c.in_ok-w.was) _ c.one_more-visits.ensures c.if-a-b.false _ (meets_node f t c.in_ok-w.w (le zero32 c.in_ok-w.a) _ c.on-word.ensures c.if-word-ge32768.false)) ∙ c.loop-node.invariant.1 f t own)
+loop-node-preserved c = (omega (arith, c.loop-node.invariant.0), λ f t own. sym (to_node _ _ _ _ _ _ c.if-left-eq0.false (omega (arith, own_count f t _ _ _ _ own, c.node_count.ensures, c.if-node_count-node.false)) _ _ _ (seen f t _ _ _ _ (c.segment_in.ensures.1 f t true own.read refl own.its_table) _ _ _ c.in_ok-w.was) _ c.saturating_add-visits.ensures c.if-a-b.false _ (meets_node f t c.in_ok-w.w (le zero32 c.in_ok-w.a) _ c.on-word.ensures c.if-word-ge32768.false)) ∙ c.loop-node.invariant.1 f t own)

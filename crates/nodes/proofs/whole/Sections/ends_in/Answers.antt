@@ -1,17 +1,12 @@
--- `ends_in` meets its contract: the node of an index, if there is one.
+-- `ends_in` meets its contract: what is made of the node and its plane that were found.
 -- Assumes nothing.
-use Rattle.std.proofs.Common.{length, sym, ap, ◌∙◌}
-use Rattle.nodes.specs.Fast.{point_of}
-use Rattle.nodes.specs.Walks.{node_and_dists, segment_answer}
-use Rattle.nodes.proofs.Making.{room, own_table, whole_node, whole_none}
-use Rattle.nodes.proofs.Handed.{of_bytes, of_none}
+use Rattle.std.proofs.Common.{sym}
+use Rattle.nodes.specs.Fast.{node_of, plane_here, point_of}
+use Rattle.nodes.specs.Walks.{node_and_dists}
+use Rattle.nodes.proofs.Making.{with_dists}
+use Rattle.nodes.proofs.Handed.{one_found}
 use Rattle.nodes.proofs.whole.Sections.ends_in.Goals as goal
 
-pub ends_at-requires : goal.ends_at-requires
-ends_at-requires c = let a = c.args in room a.self.now.render a.index (length a.self.now.nodes.now) (sym c.has_node.ensures ∙ c.if-has_node.true)
-
-pub returns-then-has_node : goal.returns-then-has_node
-returns-then-has_node c = let a = c.args in let f = sym c.has_node.ensures ∙ c.if-has_node.true in (of_bytes (node_and_dists (point_of a.p.now) (point_of a.q.now)) a.self.now.render a.self.now.nodes.now a.self.now.planes.now a.index f _ c.ends_at.ensures, λ s t whole read on is-k. ap (λ x. segment_answer x c.ends_at.result) (sym (own_table s t a.self.now.nodes.now a.self.now.planes.now whole read on a.self.now.render is-k)) ∙ whole_node s t a.self.now.nodes.now a.self.now.planes.now whole read on a.self.now.render is-k a.index (node_and_dists (point_of a.p.now) (point_of a.q.now)) f _ c.ends_at.ensures)
-
 pub returns : goal.returns
-returns c = let a = c.args in let f = sym c.has_node.ensures ∙ c.if-has_node.false in (of_none (node_and_dists (point_of a.p.now) (point_of a.q.now)) a.self.now.render a.self.now.nodes.now a.self.now.planes.now a.index f, λ s t whole read on is-k. whole_none s t a.self.now.nodes.now a.self.now.planes.now whole read on a.self.now.render is-k a.index (node_and_dists (point_of a.p.now) (point_of a.q.now)) f)
+returns c = let a = c.args in let w = c.in_ok-words.words in
+    one_found (node_and_dists (point_of a.p.now) (point_of a.q.now)) a.self.now.render a.self.now.nodes.now a.self.now.planes.now a.index c.found_in.result c.found_in.ensures _ _ c.in_ok-words.was (λ t. (node_of t w, (c.ends_here-a.result.0, c.ends_here-a.result.1))) (λ t. with_dists (node_of t w) (point_of a.p.now) (point_of a.q.now) (plane_here c.in_ok-words.plane.now 0) _ _ (sym c.ends_here-a.ensures))

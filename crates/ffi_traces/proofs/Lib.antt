@@ -1,2 +1,0 @@
--- A law about the end of a trace.
-mod Ends

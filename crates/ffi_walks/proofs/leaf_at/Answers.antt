@@ -1,0 +1,12 @@
+-- `ffi_walks::leaf_at` meets its contract. Assumes nothing.
+use mathlib.Core.Path.{sym, ap, ◌∙◌}
+use Rattle.format.specs.Answer.{answer}
+use Rattle.ffi_walks.specs.Private.{leaf_at_once}
+use Rattle.ffi_walks.proofs.Found.{was_answered}
+use Rattle.ffi_walks.proofs.leaf_at.Goals as goal
+
+pub returns-in-Some : goal.returns-in-Some
+unfolding leaf_at_once
+returns-in-Some c =
+    let (a, e, z) = was_answered (λ a. a) _ _ _ (sym c.in-Some.is ∙ c.quick_leaf.ensures) in
+    ap answer z ∙ e
