@@ -113,6 +113,26 @@ say("4 functions that a derive or the library has", [f"{p} {n}" for p, n, _, _, 
 # 5. needs that stand at three functions or more, and parameters that travel together
 needs = collections.Counter(re.sub(r"^requires(?: \w+)? ", "", r.strip()) for _, _, _, clauses, _ in FUNCTIONS for r in re.findall(r"requires[^\n]*", clauses))
 say("5a needs that stand at three functions or more", [f"{n} times {t}" for t, n in needs.most_common() if n > 2])
+
+
+def facts(t):
+    """The facts that a need joins by ×, without brackets around them and without the moment of which they speak."""
+    t = t.strip()
+    while t[:1] in "({" and end_of(t, 0) == len(t) - 1:
+        t = t[1:-1].strip()
+    depth, start, parts = 0, 0, []
+    for i, c in enumerate(t):
+        depth += {"(": 1, ")": -1}.get(c, 0)
+        if c == "×" and depth == 0:
+            parts.append(t[start:i])
+            start = i + 1
+    if not parts:
+        return [re.sub(r"\.(?:old|now)\b", "", t)]
+    return [f for part in [*parts, t[start:]] for f in facts(part)]
+
+
+shared = collections.Counter(f for n in needs.elements() for f in set(facts(n)))
+say("5c facts within needs that stand at three functions or more", [f"{n} times {t}" for t, n in shared.most_common() if n > 2])
 together = collections.Counter()
 for _, _, params, _, _ in FUNCTIONS:
     for k in (3, 4, 5):

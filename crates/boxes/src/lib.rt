@@ -28,7 +28,8 @@ fn only(contents: BspLeafContents) -> u32
 }
 
 // A node with so many levels left, itself included: its index (30), too deep (32), its record (23), its plane's number (30), its plane (23),
-// then the side that the box falls on, or the front side and then the back side.
+// then the side that the box falls on, or the front side and then the back side. (`check_node` and `check_child` of `tree` go the same way, with
+// marks; one function for both would be told what is done with a node. The shared laws are those of a tree's shape.)
 #[cycle(box_child_box_node)]
 fn box_node(s: &[u8], t: Tables, lo: Vector3, hi: Vector3, node: usize, levels: u32) -> Answer<u32>
     requires { Box.is_box lo hi ≡ true }

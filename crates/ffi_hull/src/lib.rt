@@ -10,6 +10,8 @@ use words::{LIST_TOO_SHORT, give_words, map_of};
 
 pub mod layout;
 
+// (A call's lists and numbers stand one by one, as in C.)
+
 // The hull of a model. 22: a map of fewer than 31 words or a list of fewer than 11.
 #[tactic(auto, using(words::proofs::Giving::told_given), unfolding(crate::specs::Calls::bsp_hull))]
 pub fn hull_of_model(file: &[u8], map: &[u32], model: u64, index: u64, hull: &mut [u64]) -> u32

@@ -5,10 +5,11 @@ ghost use Rattle.std.specs.Prelude.{◌≡◌};
 ghost use Rattle.words.specs.Words.{left};
 ghost use Rattle.ffi_made.specs.Calls as Calls;
 
+use format::refusal::Refusal;
 use words::{LIST_TOO_SHORT, give_number};
 
 // The node count is outside 1 to 500. (As a constant, as those of `words`.)
-pub const NODE_COUNT_OUTSIDE: u32 = 29;
+pub const NODE_COUNT_OUTSIDE: u32 = Refusal::NodeCountOutside as u32;
 
 // The file of a made-up map at the front of `buffer`, and its length. 29: a node count outside 1 to 500; then 22: no word for the length
 // or a buffer that is too short.

@@ -6,15 +6,13 @@ use Rattle.std.specs.Float.Ieee.{to_bits}
 use Rattle.math.specs.Vector.{vector, zero32}
 use Rattle.math.specs.Plane.{axis_x, axis_y, axis_z, with_normal, normal_of}
 use Rattle.math.specs.declared.vector.Vector3.{Vector3}
-use Rattle.math.specs.declared.vector.Axis.TheVariants.{X, Y, Z}
-use Rattle.math.specs.declared.plane.Alignment.{Alignment}
-use Rattle.math.specs.declared.plane.Alignment.TheVariants.{Axis, Normal}
 use Rattle.math.specs.declared.plane.Hyperplane.{Hyperplane}
 use Rattle.math.specs.declared.plane.HyperplaneSide.{HyperplaneSide}
 use Rattle.math.specs.declared.plane.HyperplaneSide.TheVariants.{Positive, Negative}
 use Rattle.math.specs.declared.plane.PointIntersection.{PointIntersection as Crossing}
 use Rattle.math.specs.declared.plane.LinePlaneIntersect.{LinePlaneIntersect}
 use Rattle.math.specs.declared.plane.LinePlaneIntersect.TheVariants.{NoIntersection, PointIntersection}
+pub use Rattle.words.specs.Words.{kind_of}
 
 -- the coordinate number n, and 0 for an n above 2
 unfoldable pub coordinate_of : Vector3 → ℕ → Float
@@ -28,13 +26,6 @@ axis_plane n d = cond (eqb n 0) (axis_x d) (cond (eqb n 1) (axis_y d) (axis_z d)
 unfoldable pub plane_given : ℕ → Float → Float → Float → Float → Hyperplane
 plane_given kind x y z d =
     cond (eqb kind 0) (axis_x d) (cond (eqb kind 1) (axis_y d) (cond (eqb kind 2) (axis_z d) (with_normal (vector x y z) d)))
-
--- 0, 1, 2 for an axis, 3 for a normal
-abbrev pub kind_of : Alignment → ℕ
-kind_of (Axis X) = 0
-kind_of (Axis Y) = 1
-kind_of (Axis Z) = 2
-kind_of (Normal n) = 3
 
 abbrev pub bits : Float → ℕ
 bits x = to_bits binary32 x

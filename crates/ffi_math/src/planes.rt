@@ -6,9 +6,8 @@ ghost use Rattle.math.specs.Vector as Vec;
 ghost use Rattle.math.specs.Plane as Pl;
 ghost use Rattle.ffi_math.specs.FloatWords as Words;
 
-use math::{
-    Alignment, Axis, Hyperplane, HyperplaneSide, LinePlaneIntersect, PointIntersection, Vector3,
-};
+use math::{Alignment, Hyperplane, HyperplaneSide, LinePlaneIntersect, PointIntersection, Vector3};
+use words::kind_number;
 
 #[tactic(auto, unfolding(crate::specs::FloatWords::axis_plane))]
 fn axis_plane(axis: u32, dist: f32) -> Hyperplane
@@ -47,27 +46,10 @@ pub fn plane_given(kind: u32, nx: f32, ny: f32, nz: f32, dist: f32) -> Hyperplan
     }
 }
 
-fn kind_of(alignment: Alignment) -> u32
-    ensures { result ≡ Words.kind_of alignment }
-{
-    match alignment {
-        Alignment::Axis(a) => match a {
-            Axis::X => 0,
-            Axis::Y => 1,
-            Axis::Z => 2,
-        },
-        Alignment::Normal(_) => 3,
-    }
-}
-
-// By a match, as the other words: the number is the interface's and no discriminant.
 fn side_word(side: HyperplaneSide) -> u32
     ensures { result ≡ Words.side_word side }
 {
-    match side {
-        HyperplaneSide::Positive => 0,
-        HyperplaneSide::Negative => 1,
-    }
+    side as u32
 }
 
 // Word number `word` of a plane.
@@ -78,7 +60,7 @@ pub fn plane_word(plane: Hyperplane, word: u32) -> u32
     let alignment = plane.alignment;
     let normal = plane.normal();
     match word {
-        0 => kind_of(alignment),
+        0 => kind_number(alignment),
         1 => float::num::to_bits(normal.x),
         2 => float::num::to_bits(normal.y),
         3 => float::num::to_bits(normal.z),

@@ -121,7 +121,7 @@ fn end_word(end: TraceEnd, word: u32) -> u32
 fn flag_word(flag: bool) -> u32
     ensures { result ≡ flag_word flag }
 {
-    if flag { 1 } else { 0 }
+    u32::from(flag)
 }
 
 // Word number `word` of a trace.

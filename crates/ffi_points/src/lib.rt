@@ -12,14 +12,14 @@ ghost use Rattle.ffi_points.specs.Calls as Calls;
 
 use ffi_hull::layout;
 use ffi_walks::quick_contents;
-use format::refusal::Answer;
+use format::refusal::{Answer, Refusal};
 use format::section::BspData;
 use hull::collision::BspCollisionHull;
 use points::many::contents_at_points;
 use words::{LIST_TOO_SHORT, give_number};
 
 // More than 1,024 points, or coordinates not in threes. (As a constant, as those of `words`.)
-pub const NOT_POINTS: u32 = 24;
+pub const NOT_POINTS: u32 = Refusal::NotPoints as u32;
 
 // The codes at the points and the reads, as `contents_at_points` has them: those of one point at once, where that says something.
 #[inline(always)]

@@ -32,6 +32,7 @@ pub fn record(file: &[u8], map: &[u32], section: u32, index: u64, out: &mut [u64
     }
     let data = map_of(map);
     let at = index as usize;
+    // a section's number is C's, and each section has its own reader and words
     match section {
         1 => give_words(plane(file, data, at).map(plane_words), out),
         3 => give_words(vertex(file, data, at).map(vector_words), out),

@@ -18,18 +18,17 @@ use hull::collision::BspCollisionHull;
 use hull::tracing::{Went, plane_met, trace_way};
 use math::Vector3;
 use nodes::table::{Tables, tables_of};
-use walk_words::parts_words;
-use words::{float_word, give};
+use walk_words::{boundary_words, parts_words};
+use words::give;
 
 // The words of the end of a trace that is handed on by numbers: its plane is read by its number.
 fn met_words(file: &[u8], t: Tables, part: Went) -> [u64; 7]
     ensures { result ≡ Layout.kind_words (Traces.end_of file.now t part).kind }
 {
     if part.met {
-        let p = words::plane_words(plane_met(file, t, part.plane, part.front));
-        return [1, float_word(part.ratio), p[0], p[1], p[2], p[3], p[4]];
+        return boundary_words(part.ratio, plane_met(file, t, part.plane, part.front));
     }
-    [0, 0, 0, 0, 0, 0, 0]
+    [0; 7]
 }
 
 fn went_words(file: &[u8], t: Tables, from: Vector3, part: Went) -> [u64; 17]

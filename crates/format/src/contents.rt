@@ -6,18 +6,18 @@ ghost use Rattle.format.specs.Contents as Contents;
 // Collide (7, 8) are left out, as in the Rust.
 #[derive(Clone, Copy, Debug, PartialEq, Eq)]
 pub enum BspLeafContents {
-    Empty,
-    Solid,
-    Water,
-    Slime,
-    Lava,
-    Sky,
-    Current0,
-    Current90,
-    Current180,
-    Current270,
-    CurrentUp,
-    CurrentDown,
+    Empty = 1,
+    Solid = 2,
+    Water = 3,
+    Slime = 4,
+    Lava = 5,
+    Sky = 6,
+    Current0 = 9,
+    Current90 = 10,
+    Current180 = 11,
+    Current270 = 12,
+    CurrentUp = 13,
+    CurrentDown = 14,
 }
 
 impl BspLeafContents {
@@ -25,19 +25,6 @@ impl BspLeafContents {
     pub fn code(self) -> u32
         ensures { result ≡ Contents.code_of self }
     {
-        match self {
-            BspLeafContents::Empty => 1,
-            BspLeafContents::Solid => 2,
-            BspLeafContents::Water => 3,
-            BspLeafContents::Slime => 4,
-            BspLeafContents::Lava => 5,
-            BspLeafContents::Sky => 6,
-            BspLeafContents::Current0 => 9,
-            BspLeafContents::Current90 => 10,
-            BspLeafContents::Current180 => 11,
-            BspLeafContents::Current270 => 12,
-            BspLeafContents::CurrentUp => 13,
-            BspLeafContents::CurrentDown => 14,
-        }
+        self as u32
     }
 }

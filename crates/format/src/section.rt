@@ -80,7 +80,7 @@ impl BspFileSectionId {
         }
     }
 
-    // The size on disk of one element of a section.
+    // The size on disk of one element of a section. (By a match: two variants cannot have one number, and sizes come more than once.)
     pub fn element_size(self) -> u32
         ensures { result ≡ Sec.element_size self }
     {

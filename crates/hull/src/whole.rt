@@ -90,7 +90,8 @@ impl<'a> Whole<'a> {
     }
 
     // The trace below a node from p to q, with the calls left and the nodes entered before, and how many nodes were entered in all. The points
-    // are lent as lists: records would be copied at each call, and a copy waits for what was just written (docs/DECISIONS.md 105).
+    // are lent as lists: records would be copied at each call, and a copy waits for what was just written (docs/DECISIONS.md 105). For that it
+    // stands beside `recursive_trace` of `tracing`, which asks no bytes to be there; what they share is argued once, over any table.
     pub(crate) fn trace_whole(
         &self,
         node: usize,

@@ -29,6 +29,7 @@ fn look_any(s: &[u8], t: Tables, index: usize, point: Vector3) -> Answer<u16>
 
 impl<'a> Ground<'a> {
     // A node's words, and how far two points are from its plane, with so many calls left. 30: the node is outside its table; 32: no call is left.
+    // (A function for the two tests, here, in `look_at` and in each descent, would be a line and a `?`, with a contract as long as the tests.)
     #[tactic(auto, unfolding(crate::specs::Private::node_for))]
     pub fn node_at(
         &self,

@@ -149,6 +149,7 @@ impl<'a> Ground<'a> {
     // Down from a node, with so many calls left, its own included, as long as the part lies on one side of each plane.
     // `descend` of `tracing` goes down by any table, record by record, tells which refusal ends it, and reads the leaf. One function for both would
     // have to be told how a node is read and what becomes of a refusal and of an end, and would be no plainer.
+    // That the bytes are there is asked of this and the two below: a `Sections` would say it, and costs a line 1 to 3%.
     fn down(&self, top: usize, calls: u32, part: Stretch) -> Option<Reached>
         requires { self.now.whole ≡ true }
         ensures { Private.Reaches self.now.s.now self.now.t top calls part result }

@@ -22,7 +22,7 @@ fn next(last: u32) -> u32
     ((last as u64 * 1664525 + 1013904223) % 4294967296) as u32
 }
 
-// Writes a number as four bytes at a place, the lowest first.
+// Writes a number as four bytes at a place, the lowest first. (The room is a need: it is that of an index, which no struct would carry.)
 fn put_word(n: u32, buffer: &mut [u8], at: usize)
     requires { at + 4 ≤ length buffer.old }
     ensures { buffer.new ≡ put_at at (u32 n) buffer.old }
@@ -56,25 +56,12 @@ fn front_word(solid: u32, empty: u32, number: u32) -> u32
     if number >= 2147483648 { solid } else { empty }
 }
 
-// The back child's 16 bits.
-fn back_word(solid: u32, empty: u32, nodes: usize, i: usize) -> u32
-    requires { (i < nodes) × (nodes ≤ 500) }
-    ensures { result ≡ side_word solid empty (back_of nodes i) }
-{
-    if i + 1 == nodes {
-        empty
-    } else {
-        (i + 1) as u32
-    }
-}
-
-// Both children of node i as one number, the front one low.
-#[tactic(auto, using(crate::proofs::Words::front_small, crate::proofs::Words::back_small))]
-fn children(solid: u32, empty: u32, number: u32, nodes: usize, i: usize) -> u32
-    requires { (solid < 65536) × (empty < 65536) × (i < nodes) × (nodes ≤ 500) }
-    ensures { result ≡ side_word solid empty (front_of number) + side_word solid empty (back_of nodes i) * 65536 }
-{
-    front_word(solid, empty, number) + back_word(solid, empty, nodes, i) * 65536
+// What a made-up map is made of: a seed and so many nodes.
+#[derive(Clone, Copy)]
+struct MadeOf {
+    seed: u32,
+    nodes: usize,
+    ghost few: { nodes ≤ 500 },
 }
 
 // A section with a record for each node, and how many bytes a record has.
@@ -91,117 +78,134 @@ fn size_of(part: Part) -> usize
     part as usize
 }
 
-// Writes the record of node i at a place.
-#[tactic(auto, using(crate::proofs::Words::plane_words_lem, crate::proofs::Words::render_words, crate::proofs::Words::clip_words))]
-fn put_record(part: Part, number: u32, nodes: usize, i: usize, buffer: &mut [u8], at: usize)
-    requires { (i < nodes) × (nodes ≤ 500) × (at + size_of part ≤ length buffer.old) }
-    ensures { buffer.new ≡ put_at at (record_bytes part nodes i number) buffer.old }
-{
-    match part {
-        Part::Planes => put_words(&[0, 0, 0, distance_bits(number), number % 3], buffer, at),
-        Part::RenderNodes => put_words(
+impl MadeOf {
+    // The back child's 16 bits.
+    fn back_word(self, solid: u32, empty: u32, i: usize) -> u32
+        requires { i < self.nodes }
+        ensures { result ≡ side_word solid empty (back_of self.nodes i) }
+    {
+        if i + 1 == self.nodes {
+            empty
+        } else {
+            (i + 1) as u32
+        }
+    }
+
+    // Both children of node i as one number, the front one low.
+    #[tactic(auto, using(crate::proofs::Words::front_small, crate::proofs::Words::back_small))]
+    fn children(self, solid: u32, empty: u32, number: u32, i: usize) -> u32
+        requires { (solid < 65536) × (empty < 65536) × (i < self.nodes) }
+        ensures { result ≡ side_word solid empty (front_of number) + side_word solid empty (back_of self.nodes i) * 65536 }
+    {
+        front_word(solid, empty, number) + self.back_word(solid, empty, i) * 65536
+    }
+
+    // Writes the record of node i at a place.
+    #[tactic(auto, using(crate::proofs::Words::plane_words_lem, crate::proofs::Words::render_words, crate::proofs::Words::clip_words))]
+    fn put_record(self, part: Part, number: u32, i: usize, buffer: &mut [u8], at: usize)
+        requires { (i < self.nodes) × (at + size_of part ≤ length buffer.old) }
+        ensures { buffer.new ≡ put_at at (record_bytes part self.nodes i number) buffer.old }
+    {
+        match part {
+            Part::Planes => put_words(&[0, 0, 0, distance_bits(number), number % 3], buffer, at),
+            Part::RenderNodes => put_words(
+                &[i as u32, self.children(65535, 65534, number, i), 0, 0, 0, 0],
+                buffer,
+                at,
+            ),
+            Part::ClipNodes => put_words(
+                &[i as u32, self.children(65534, 65535, number, i)],
+                buffer,
+                at,
+            ),
+        }
+    }
+
+    // Writes a section with a record for each node at a place.
+    fn put_section(self, part: Part, buffer: &mut [u8], at: usize)
+        requires { at + self.nodes * size_of part ≤ length buffer.old }
+        ensures { buffer.new ≡ put_at at (row (record_of_node part self.seed self.nodes) self.nodes) buffer.old }
+    {
+        let size = size_of(part);
+        let mut last = self.seed;
+        for i in 0..self.nodes {
+            last = next(last);
+            self.put_record(part, last, i, buffer, at + i * size);
+        }
+    }
+
+    // Writes the header and the entity text's zero.
+    #[tactic(auto, using(crate::proofs::Whole::front_is))]
+    fn put_front(self, buffer: &mut [u8])
+        requires { 125 ≤ length buffer.old }
+        ensures { buffer.new ≡ put_at 0 (header (made_map self.nodes) ++ (0 ∷ [])) buffer.old }
+    {
+        let n = self.nodes as u32;
+        put_words(
             &[
-                i as u32,
-                children(65535, 65534, number, nodes, i),
+                29,
+                124,
+                1,
+                125,
+                n * 20,
+                125 + n * 20,
+                4,
+                0,
+                0,
+                0,
+                0,
+                129 + n * 20,
+                n * 24,
+            ],
+            buffer,
+            0,
+        );
+        put_words(
+            &[0, 0, 0, 0, 0, 0, 129 + n * 44, n * 8, 129 + n * 52, 56],
+            buffer,
+            52,
+        );
+        put_words(&[0, 0, 0, 0, 0, 0, 185 + n * 52, 64], buffer, 92);
+        buffer[124] = 0;
+    }
+
+    // Writes the file to the front of the buffer.
+    fn put_file(self, buffer: &mut [u8])
+        requires { 249 + self.nodes * 52 ≤ length buffer.old }
+        ensures { buffer.new ≡ put_at 0 (file_of self.seed self.nodes) buffer.old }
+    {
+        let nodes = self.nodes;
+        self.put_front(buffer);
+        self.put_section(Part::Planes, buffer, 125);
+        put_words(&[0], buffer, 125 + nodes * 20);
+        self.put_section(Part::RenderNodes, buffer, 129 + nodes * 20);
+        self.put_section(Part::ClipNodes, buffer, 129 + nodes * 44);
+        put_words(
+            &[
+                0xffff_fffe,
+                0xffff_ffff,
+                0,
+                0,
+                0,
+                0,
+                0,
+                0xffff_ffff,
+                0xffff_ffff,
+                0,
                 0,
                 0,
                 0,
                 0,
             ],
             buffer,
-            at,
-        ),
-        Part::ClipNodes => put_words(
-            &[i as u32, children(65534, 65535, number, nodes, i)],
+            129 + nodes * 52,
+        );
+        put_words(
+            &[0, 0, 0, 0, 0, 0, 0, 0, 0, 0, 0, 0, 0, 1, 0, 0],
             buffer,
-            at,
-        ),
+            185 + nodes * 52,
+        );
     }
-}
-
-// Writes a section with a record for each node at a place.
-fn put_section(part: Part, seed: u32, nodes: usize, buffer: &mut [u8], at: usize)
-    requires { (nodes ≤ 500) × (at + nodes * size_of part ≤ length buffer.old) }
-    ensures { buffer.new ≡ put_at at (row (record_of_node part seed nodes) nodes) buffer.old }
-{
-    let size = size_of(part);
-    let mut last = seed;
-    for i in 0..nodes {
-        last = next(last);
-        put_record(part, last, nodes, i, buffer, at + i * size);
-    }
-}
-
-// Writes the header and the entity text's zero.
-#[tactic(auto, using(crate::proofs::Whole::front_is))]
-fn put_front(nodes: usize, buffer: &mut [u8])
-    requires { (nodes ≤ 500) × (125 ≤ length buffer.old) }
-    ensures { buffer.new ≡ put_at 0 (header (made_map nodes) ++ (0 ∷ [])) buffer.old }
-{
-    let n = nodes as u32;
-    put_words(
-        &[
-            29,
-            124,
-            1,
-            125,
-            n * 20,
-            125 + n * 20,
-            4,
-            0,
-            0,
-            0,
-            0,
-            129 + n * 20,
-            n * 24,
-        ],
-        buffer,
-        0,
-    );
-    put_words(
-        &[0, 0, 0, 0, 0, 0, 129 + n * 44, n * 8, 129 + n * 52, 56],
-        buffer,
-        52,
-    );
-    put_words(&[0, 0, 0, 0, 0, 0, 185 + n * 52, 64], buffer, 92);
-    buffer[124] = 0;
-}
-
-// Writes the file to the front of the buffer.
-fn put_file(seed: u32, nodes: usize, buffer: &mut [u8])
-    requires { (nodes ≤ 500) × (249 + nodes * 52 ≤ length buffer.old) }
-    ensures { buffer.new ≡ put_at 0 (file_of seed nodes) buffer.old }
-{
-    put_front(nodes, buffer);
-    put_section(Part::Planes, seed, nodes, buffer, 125);
-    put_words(&[0], buffer, 125 + nodes * 20);
-    put_section(Part::RenderNodes, seed, nodes, buffer, 129 + nodes * 20);
-    put_section(Part::ClipNodes, seed, nodes, buffer, 129 + nodes * 44);
-    put_words(
-        &[
-            0xffff_fffe,
-            0xffff_ffff,
-            0,
-            0,
-            0,
-            0,
-            0,
-            0xffff_ffff,
-            0xffff_ffff,
-            0,
-            0,
-            0,
-            0,
-            0,
-        ],
-        buffer,
-        129 + nodes * 52,
-    );
-    put_words(
-        &[0, 0, 0, 0, 0, 0, 0, 0, 0, 0, 0, 0, 0, 1, 0, 0],
-        buffer,
-        185 + nodes * 52,
-    );
 }
 
 // Whether a made-up map may have so many nodes.
@@ -224,6 +228,6 @@ pub fn made_up(seed: u32, nodes: usize, buffer: &mut [u8]) -> Answer<usize>
     if buffer.len() < length {
         return Err(Refusal::ListTooShort);
     }
-    put_file(seed, nodes, buffer);
+    MadeOf { seed, nodes }.put_file(buffer);
     Ok(length)
 }

@@ -7,7 +7,7 @@ ghost use Rattle.math.specs.Box as Box;
 use crate::plane::{Alignment, Hyperplane, HyperplaneSide};
 use crate::vector::Vector3;
 
-// Where a box of points goes at a plane: to one side as a whole, or to both.
+// Where a box of points goes at a plane: to one side as a whole, or to both. (No Option: to both is not to none.)
 #[derive(Clone, Copy)]
 pub enum BoxSide {
     One(HyperplaneSide),

@@ -41,7 +41,8 @@ pub fn sides_in(planes: &[u8], number: u32, p: Vector3, q: Vector3) -> Answer<(b
     Ok(sides_here(plane_bytes_at(planes, index * 20), p, q))
 }
 
-// The contents at an end, by the bytes of the leaves, when it is met: 30, then 23; a word that is no contents is 23.
+// The contents at an end, by the bytes of the leaves, when it is met: 30, then 23; a word that is no contents is 23. (`end_contents` says the
+// same of any file and table, whether their bytes are there or not.)
 #[tactic(auto, unfolding(crate::specs::Owned::end_among, format::specs::Answers::answer_of))]
 pub fn end_in(leaves: &[u8], render: bool, word: u16) -> Answer<BspLeafContents>
     ensures { answer_of result ≡ Owned.end_among render leaves.now word }

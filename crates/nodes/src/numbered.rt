@@ -2,6 +2,7 @@
 // file's. One test of the number (30) and one of the bytes (23) a plane. `count` is how many planes the section has; `planes` are the bytes of
 // those that can be read, which may be fewer: so the count is no length, and stands beside the bytes in each reader, as in the callers' table.
 ghost use Rattle.std.specs.Prelude.{◌≡◌, ◌/◌, min, if◌then◌else◌};
+ghost use Rattle.format.specs.Answer.{mapped};
 ghost use Rattle.format.specs.Answers.{answer_of};
 ghost use Rattle.nodes.specs.Fast as Fast;
 ghost use Rattle.nodes.specs.Numbered as Numbered;
@@ -81,8 +82,23 @@ pub fn pick_by_number(
     Ok(back)
 }
 
-// How far two points are from the plane of a number.
+// The bytes of the plane of a number. 30: there is no such plane, then 23: its bytes cannot be read.
 #[tactic(auto, using(crate::proofs::Numbering::outside_30, crate::proofs::Numbering::unread_23, crate::proofs::Numbering::there))]
+#[inline(always)]
+fn plane_found(planes: &[u8], count: u32, number: u32) -> Answer<&[u8; 20]>
+    ensures { mapped (λ b. Fast.plane_here b.now 0) (answer_of result) ≡ Numbered.plane_numbered planes.now count number }
+{
+    if count <= number {
+        return Err(Refusal::IndexOutsideTable);
+    }
+    let at = (number as usize) * 20;
+    if planes.len() < at + 20 {
+        return Err(Refusal::Unreadable);
+    }
+    Ok(plane_bytes_at(planes, at))
+}
+
+// How far two points are from the plane of a number.
 pub fn dists_by_number(
     planes: &[u8],
     count: u32,
@@ -92,27 +108,12 @@ pub fn dists_by_number(
 ) -> Answer<(f32, f32)>
     ensures { answer_of result ≡ Fast.dists_from p q (Numbered.plane_numbered planes.now count number) }
 {
-    if count <= number {
-        return Err(Refusal::IndexOutsideTable);
-    }
-    let at = (number as usize) * 20;
-    if planes.len() < at + 20 {
-        return Err(Refusal::Unreadable);
-    }
-    Ok(dists_here(plane_bytes_at(planes, at), p, q))
+    Ok(dists_here(plane_found(planes, count, number)?, p, q))
 }
 
 // The plane of a number.
-#[tactic(auto, using(crate::proofs::Numbering::outside_30, crate::proofs::Numbering::unread_23, crate::proofs::Numbering::there))]
 pub fn plane_by_number(planes: &[u8], count: u32, number: u32) -> Answer<Hyperplane>
     ensures { answer_of result ≡ Numbered.plane_numbered planes.now count number }
 {
-    if count <= number {
-        return Err(Refusal::IndexOutsideTable);
-    }
-    let at = (number as usize) * 20;
-    if planes.len() < at + 20 {
-        return Err(Refusal::Unreadable);
-    }
-    Ok(plane_here(plane_bytes_at(planes, at)))
+    Ok(plane_here(plane_found(planes, count, number)?))
 }

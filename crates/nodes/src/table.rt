@@ -9,12 +9,13 @@ use format::refusal::{Answer, Refusal};
 use format::section::{BspData, BspFileSection};
 use math::Vector3;
 
-// Hull 0 goes by the render nodes and the leaves' contents, hulls 1 and 2 by the clip nodes. A box has six nodes of its own.
+// Hull 0 goes by the render nodes and the leaves' contents, hulls 1 and 2 by the clip nodes. A box has six nodes of its own. The numbers are those
+// that the calls for C give.
 #[derive(Clone, Copy)]
 pub enum HullTable {
-    Render,
-    Clip,
-    Box,
+    Render = 0,
+    Clip = 1,
+    Box = 2,
 }
 
 impl HullTable {

@@ -47,7 +47,7 @@ fn walk_by_records(s: &[u8], t: Tables, root: usize, point: Vector3) -> Answer<(
     }
 }
 
-// The end's word times 2^32 and the visits; 0 where the table is not whole or the walk is refused.
+// The end's word times 2^32 and the visits; 0 where the table is not whole or the walk is refused. (One number, as of `walk_quick`.)
 fn walk_in_whole(s: &[u8], t: Tables, root: usize, x: f32, y: f32, z: f32) -> u64
     ensures { 0 < result → Quick.end_and_visits t.table result ≡ with_visits (point_walk (Walks.ends (Fast.table s.now t)) root (Vec.vector x y z)) }
 {

@@ -32,7 +32,7 @@ pub struct TraceEndBoundary {
     pub plane: Hyperplane,
 }
 
-// An end within a leaf, or on the plane between two.
+// An end within a leaf, or on the plane between two. (The Rust's type and names, and no Option: an end within a leaf is not the lack of one.)
 #[derive(Clone, Copy)]
 pub enum TraceEndKind {
     Terminal,

@@ -1,4 +1,5 @@
 // A record of each kind: the position after it, or the refusal.
+// (The file, its map record and the position stand apart, since each definition takes them so.)
 ghost use Rattle.std.specs.Prelude.{◌≡◌};
 ghost use Rattle.format.specs.Answers.{step_of};
 ghost use Rattle.sections.specs.Answers.{position_step};

@@ -7,7 +7,7 @@ use math::{Alignment, Axis, Hyperplane, Vector3};
 use nodes::read::is_front;
 use words::float_at;
 
-// The point of a number: three coordinates from three times the number on.
+// The point of a number: three coordinates from three times the number on. (`point_at` of `ffi_hull` takes a place in a list that C lends.)
 pub fn point_at(coords: &[f32], id: u16) -> Vector3
     ensures { result ≡ Going.point_at coords.now id }
 {

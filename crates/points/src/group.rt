@@ -26,7 +26,7 @@ pub enum Down {
     Divided(Words, usize, u32, u64),
 }
 
-// The byte of an end: its contents code, or 0 where it has none.
+// The byte of an end: its contents code, or 0 where it has none. (A number, since it is kept in a list.)
 #[tactic(auto, unfolding(nodes::specs::Fast::contents_met, ways::specs::Groups::meets))]
 pub fn end_byte(s: &[u8], t: Tables, word: u16) -> u8
     ensures { Going.meeting_meets t.table (Meeting.Settled result) ≡ Going.met s.now t 0 (Onto.End word) }

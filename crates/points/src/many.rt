@@ -27,7 +27,7 @@ fn number(ids: &mut [u16])
     }
 }
 
-// The place of the first zero among the bytes; their number where there is none.
+// The place of the first zero among the bytes; their number where there is none, as the definition has it.
 fn first_zero(bytes: &[u8]) -> usize
     ensures { result ≡ Going.first_zero bytes.now }
 {

@@ -37,7 +37,7 @@ enough (suc k) (suc m) n h g =
     (λ s. one k n s ∙ sym (one m n s))
     (λ l. more k n l ∙ ap (λ (ds : List ℕ). ds ++ ((48 + n % 10) ∷ [])) (enough k m (n / 10) (omega arith) (omega arith)) ∙ sym (more m n l))
 
--- what `put_decimal` goes by
+-- the two ways of a number
 pub decimal_one : (n : ℕ) → n < 10 → decimal n ≡ (48 + n) ∷ []
 unfolding decimal
 decimal_one n h = one n n h

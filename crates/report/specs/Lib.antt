@@ -1,4 +1,3 @@
 -- What the contracts of `report` cite.
 pub mod Text
-pub mod Pieces
 pub mod Report

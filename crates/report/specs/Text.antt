@@ -1,8 +1,8 @@
--- Texts, numbers in decimal, and lines, as ASCII bytes; and a text in a lent buffer.
+-- Texts, numbers in decimal, and lines, as ASCII bytes.
 use Prim.Native.Char.{code}
 use Prim.Native.String as Str
 use Prim.Native.String.{String}
-use Rattle.std.specs.Prelude.{ℕ, zero, suc, ◌+◌, ◌-◌, ◌*◌, ◌/◌, ◌%◌, cond, List, [], ◌∷◌, ◌++◌, ltb, length, drop}
+use Rattle.std.specs.Prelude.{ℕ, zero, suc, ◌+◌, ◌-◌, ◌*◌, ◌/◌, ◌%◌, cond, List, [], ◌∷◌, ◌++◌, ltb, leb, length}
 
 -- the codes of a text's characters
 abbrev pub ascii : String → List ℕ
@@ -28,14 +28,6 @@ value before (d ∷ ds) = value (before * 10 + (d - 48)) ds
 unfoldable pub line : List ℕ → ℕ → List ℕ
 line name n = name ++ (decimal n ++ (10 ∷ []))
 
--- what a call that puts text into a lent buffer leaves: the place after the text, and the buffer
-pub record Printed : Type 0 where
-  pub next : ℕ
-  pub list : List ℕ
-
-abbrev pub printed : ℕ → List ℕ → Printed
-printed n l = record { next = n; list = l }
-
--- the text at the front of the buffer, whose other bytes are kept
-unfoldable pub front : List ℕ → List ℕ → Printed
-front text out = printed (length text) (text ++ drop (length text) out)
+-- a text of at most 129 bytes with a piece after it, or as it was where the piece has no room
+unfoldable pub pushed : List ℕ → List ℕ → List ℕ
+pushed text piece = cond (leb (length text + length piece) 129) (text ++ piece) text

@@ -1,15 +1,13 @@
 // The report program: it reads a map from standard input, at most 65,536 bytes, loads it, and prints how many records it has.
 #![tactic(auto)]
 
-ghost use Rattle.std.specs.Prelude.{◌≡◌, ◌+◌, length};
-ghost use Rattle.report.specs.Text.{printed, front};
-ghost use Rattle.report.specs.Pieces.{Puts};
+ghost use Rattle.std.specs.Prelude.{◌≡◌, ◌+◌, ◌≤◌, length};
+ghost use Rattle.report.specs.Text.{line, pushed};
 ghost use Rattle.report.specs.Report.{count_line, count_lines, report_text};
 
-mod text;
-
-use crate::text::{put_line, put_text};
+use arrayvec::ArrayString;
 use format::section::{BspData, BspFileSectionId};
+use itoa::Buffer;
 use load::load;
 use std::io;
 use std::io::{Read, Write};
@@ -17,38 +15,69 @@ use std::io::{Read, Write};
 // No longer input is loaded.
 const MOST_BYTES: usize = 65536;
 
+// A text in a value of a fixed size. No report is longer: seven names of 52 bytes together, and after each at most ten digits and a newline.
+type Text = ArrayString<129>;
+
+// Puts a line after the text, where it has room: a name and a number. (`itoa` writes the number, since `write!` answers a `Result` that no
+// contract says is `Ok`.)
+#[tactic(auto, using(crate::proofs::Lines::line_length))]
+pub fn put_line(text: &mut Text, name: &str, number: u32)
+    ensures put { text.new.bytes ≡ pushed text.old.bytes (line name.now number) }
+    ensures short { length (line name.now number) ≤ length name.now + 11 }
+{
+    let mut buffer = Buffer::new();
+    let digits = buffer.format(number);
+    if name.len() + digits.len() < text.remaining_capacity() {
+        text.push_str(name);
+        text.push_str(digits);
+        text.push('\n');
+    }
+}
+
 // Puts the line of a section: a name and how many records it has.
-fn put_count(name: &[u8], map: BspData, id: BspFileSectionId, at: usize, out: &mut [u8]) -> usize
-    ensures { Puts (count_line name.now id map) (length name.now + 11) (printed at out.old) (printed result out.new) }
+#[tactic(auto, unfolding(crate::specs::Report::count_line))]
+fn put_count(text: &mut Text, name: &str, map: BspData, id: BspFileSectionId)
+    ensures put { text.new.bytes ≡ pushed text.old.bytes (count_line name.now id map) }
+    ensures short { length (count_line name.now id map) ≤ length name.now + 11 }
 {
-    put_line(name, map.section(id).record_count(id), at, out)
+    put_line(text, name, map.section(id).record_count(id));
 }
 
-// Puts document 01's seven lines.
-fn put_counts(map: BspData, out: &mut [u8]) -> usize
-    ensures { Puts (count_lines map) 129 (printed 0 out.old) (printed result out.new) }
+// A text of document 01's seven lines, each of which has room.
+fn put_counts(map: BspData) -> Text
+    ensures { result.bytes ≡ count_lines map }
 {
-    let a = put_count(b"planes ", map, BspFileSectionId::Planes, 0, out);
-    let b = put_count(b"nodes ", map, BspFileSectionId::RenderNodes, a, out);
-    let c = put_count(b"clipnodes ", map, BspFileSectionId::CollisionNodes, b, out);
-    let d = put_count(b"leaves ", map, BspFileSectionId::Leaves, c, out);
-    let e = put_count(b"faces ", map, BspFileSectionId::Faces, d, out);
-    let f = put_count(b"models ", map, BspFileSectionId::Models, e, out);
-    put_count(b"entities ", map, BspFileSectionId::Entities, f, out)
+    let mut text = Text::new();
+    put_count(&mut text, "planes ", map, BspFileSectionId::Planes);
+    put_count(&mut text, "nodes ", map, BspFileSectionId::RenderNodes);
+    put_count(
+        &mut text,
+        "clipnodes ",
+        map,
+        BspFileSectionId::CollisionNodes,
+    );
+    put_count(&mut text, "leaves ", map, BspFileSectionId::Leaves);
+    put_count(&mut text, "faces ", map, BspFileSectionId::Faces);
+    put_count(&mut text, "models ", map, BspFileSectionId::Models);
+    put_count(&mut text, "entities ", map, BspFileSectionId::Entities);
+    text
 }
 
-// Puts the report on what was read at the front of the buffer, and answers its length. No report is longer than the buffer.
-#[tactic(auto, using(crate::proofs::Counting::too_long, crate::proofs::Counting::refuses, crate::proofs::Counting::counts))]
-pub fn report(input: &[u8], out: &mut [u8; 129]) -> usize
-    ensures { printed result out.new ≡ front (report_text input.now) out.old }
+// The report on what was read.
+#[tactic(auto, using(crate::proofs::Lines::alone), unfolding(crate::specs::Report::report_text, crate::specs::Report::told))]
+pub fn report(input: &[u8]) -> Text
+    ensures { result.bytes ≡ report_text input.now }
 {
+    let mut text = Text::new();
     if MOST_BYTES < input.len() {
-        return put_text(b"too long\n", 0, out);
+        text.push_str("too long\n");
+        return text;
     }
     match load(input) {
-        Err(refusal) => put_line(b"refused ", refusal.number(), 0, out),
-        Ok(map) => put_counts(map, out),
+        Err(refusal) => put_line(&mut text, "refused ", refusal.number()),
+        Ok(map) => text = put_counts(map),
     }
+    text
 }
 
 // One byte more than a map may have is read, so that an input which is too long is seen to be.
@@ -57,7 +86,5 @@ fn main(rt: HostRuntime) -> io::Result<()> {
     rt.stdin()
         .take(MOST_BYTES as u64 + 1)
         .read_to_end(&mut input)?;
-    let mut text = [0u8; 129];
-    let end = report(&input, &mut text);
-    rt.stdout().write_all(&text[..end])
+    rt.stdout().write_all(report(&input).as_bytes())
 }

@@ -5,12 +5,13 @@ use mathlib.Core.Path.{◌≡◌, refl, sym, ap, ◌∙◌}
 use mathlib.Core.Bool.{Bool, true, false, not, ◌&&◌}
 use mathlib.Core.List.{List}
 use native.Mathlib.Omega.{arith}
-use borrow.Author.Tests.{ltb-true, ltb-false}
-use lib.Dec.{eqb, ltb}
+use lib.Dec.{eqb}
 use lib.ListN.{get_or}
-use Rattle.std.specs.Prelude.{Option, Some, None}
-use Rattle.std.specs.Option.{MatchOption, unwrap_or}
-use Rattle.format.specs.Answer.{Answer}
+use Rattle.std.specs.Prelude.{Option, Some, None, Result}
+use Rattle.std.specs.Option.{MatchOption, ok_or, unwrap_or}
+use Rattle.format.specs.Answers.{answer_of}
+use Rattle.format.specs.declared.refusal.Refusal.{Refusal}
+use Rattle.format.specs.declared.refusal.Refusal.TheVariants.{NoSuchRecord}
 use Rattle.texture_list.specs.Name.{is_animated}
 use Rattle.textures.specs.Count.{count, lowest, nth}
 use Rattle.textures.specs.Group.{alike, is_static, is_first, within, numbered_by, static_by}
@@ -21,7 +22,7 @@ use Rattle.texture_list.specs.declared.kind.Kind.TheVariants.{Animated}
 use Rattle.texture_list.specs.declared.kind.Key.{Key}
 use Rattle.texture_list.proofs.Keys.{kind_is, same_is}
 use Rattle.textures.proofs.Marks.{any_same, any_none}
-use Rattle.textures.proofs.Firsts.{count_same, count_below, lowest_at, lowest_none, part_counted, reached_nth}
+use Rattle.textures.proofs.Firsts.{count_same, count_below, lowest_at, lowest_none, reached_within}
 
 pub both : {a b c d : Bool} → a ≡ b → c ≡ d → (a && c) ≡ (b && d)
 both e f = rw (e, f) refl
@@ -65,16 +66,17 @@ module _ (s : List ℕ) (bytes : (i : ℕ) → get_or s i 0 < 256) (base : ℕ) 
     number_static st e f = rw (is_animated_lem, e) (f ∙ sym (statics_are i))
 
     module _ (first : ℕ) (is_first_lem : first ≡ lowest (λ j. passing s base Animated j && (eqb key.stem.start (starts s base j) && eqb key.stem.end (ends s base j))) n)
-        (low : first ≤ n) (few : n ≤ 2097152) (at seen : ℕ) (reached : Reached (is_earliest (passing s base Animated) (starts s base) (ends s base)) 4294967295 first at seen) where
-      pub seen_low : seen ≤ 2097152
-      seen_low = omega (arith, reached.counted, reached.inside, low, few, count_below (is_earliest (passing s base Animated) (starts s base) (ends s base)) at)
-
-      to_the_end : first ≤ at
-      to_the_end = by (ltb at first) refl
+        (low : first ≤ n) (few : n ≤ 2097152) (at : Option ℕ) (seen : ℕ) (reached : Reached (is_earliest (passing s base Animated) (starts s base) (ends s base)) 4294967295 first at seen) where
+      -- there are not so many
+      to_the_end : seen ≡ count (is_earliest (passing s base Animated) (starts s base) (ends s base)) first
+      to_the_end = by at reached
         where
-          by : (t : Bool) → ltb at first ≡ t → first ≤ at
-          by true e = let h = reached.here (ltb-true at first e) in absurd (omega (arith, h.1, seen_low))
-          by false e = ltb-false at first e
+          by : (r : Option ℕ) → Reached (is_earliest (passing s base Animated) (starts s base) (ends s base)) 4294967295 first r seen → seen ≡ count (is_earliest (passing s base Animated) (starts s base) (ends s base)) first
+          by None h = h.0
+          by (Some i) h = absurd (omega (arith, h.0, h.2, h.3, low, few, count_below (is_earliest (passing s base Animated) (starts s base) (ends s base)) i))
+
+      pub seen_low : seen ≤ 2097152
+      seen_low = omega (arith, to_the_end, low, few, count_below (is_earliest (passing s base Animated) (starts s base) (ends s base)) first)
 
       first_is : lowest (alike is_animated (names_of s base) i) n ≡ first
       first_is = lowest_same _ _ n (λ j. like_is i j ∙ ap (λ (k : Key). passing s base Animated j && (eqb k.stem.start (starts s base j) && eqb k.stem.end (ends s base j))) (sym is_key)) ∙ sym is_first_lem
@@ -82,16 +84,13 @@ module _ (s : List ℕ) (bytes : (i : ℕ) → get_or s i 0 < 256) (base : ℕ) 
       pub number_animated : (st : ℕ) → x ≡ true → st ≡ count (λ i. not (passing s base Animated i)) n → st + seen ≡ numbered_by (names_of s base) n i
       unfolding numbered_by
       number_animated st e f =
-          rw (is_animated_lem, e) (rw (first_is, statics_are n, firsts_are first, ← part_counted _ 4294967295 first at seen reached to_the_end, ← f) refl)
+          rw (is_animated_lem, e) (rw (first_is, statics_are n, firsts_are first, ← to_the_end, ← f) refl)
 
 pub nth_same : (p q : ℕ → Bool) (k n : ℕ) → ((i : ℕ) → p i ≡ q i) → nth p k n ≡ nth q k n
 nth_same p q k n h = lowest_same _ _ n (λ i. both (h i) (ap (λ (c : ℕ). eqb c k) (count_same p q i h)))
 
 -- the ways through `static_texture`
-module _ (s : List ℕ) (base n k at seen : ℕ) (reached : Reached (λ i. not (passing s base Animated i)) k n at seen) where
-  nth_static_is : nth (is_static (names_of s base)) k n ≡ at
-  nth_static_is = nth_same _ _ k n (λ i. ap not (animated_is s base i)) ∙ reached_nth _ k n at seen reached
-
-  pub static_within : (r : Answer ℕ) → r ≡ within n at → r ≡ static_by (names_of s base) n k
+module _ (s : List ℕ) (base n k : ℕ) (at : Option ℕ) (seen : ℕ) (reached : Reached (λ i. not (passing s base Animated i)) k n at seen) where
+  pub static_within : (r : Result ℕ Refusal) → r ≡ ok_or at NoSuchRecord → answer_of r ≡ static_by (names_of s base) n k
   unfolding static_by
-  static_within r e = rw nth_static_is e
+  static_within r e = ap answer_of e ∙ reached_within _ k n at seen reached ∙ ap (λ (i : ℕ). within n i) (sym (nth_same _ _ k n (λ i. ap not (animated_is s base i))))

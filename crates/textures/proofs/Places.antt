@@ -9,7 +9,8 @@ use native.Mathlib.Omega.{arith}
 use borrow.Author.Tests.{eqb-true, eq-eqb, lt-ltb, le-ltb, leb-true, le-leb}
 use lib.Dec.{eqb, ltb, leb}
 use lib.ListN.{get_or}
-use Rattle.format.specs.Answer.{Answer, refused}
+use Rattle.std.specs.Option.{unwrap_or}
+use Rattle.format.specs.Answer.{Answer, answer, refused}
 use Rattle.format.specs.Step.{Step, ok}
 use Rattle.records.specs.Number.{offset_at}
 use Rattle.texture_list.specs.Name.{chars, stem_of, same, less}
@@ -101,6 +102,13 @@ is_lettered : (lo : ℕ) (s : List ℕ) (base i : ℕ) → lettered lo (names_of
 unfolding names_of key_of
 is_lettered lo s base i = name_lettered lo s base (offset_at s (base + 4 + 4 * i))
 
+-- a number below n, and one that is not
+inside : (n i : ℕ) → i < n → answer i ≡ within n i
+inside n i h = rw (lt-ltb i n h) refl
+
+outside : (n i : ℕ) → n ≤ i → refused 20 ≡ within n i
+outside n i h = rw (le-ltb i n h) refl
+
 -- two names with one first byte and one stem
 precedes_by : (names : ℕ → List ℕ) (j l a f g : ℕ) (stem : List ℕ) → names j ≡ (a ∷ g ∷ stem) → names l ≡ (a ∷ f ∷ stem) → precedes names j l ≡ (ltb f g || (eqb f g && ltb l j))
 precedes_by names j l a f g stem e h = rw (e, h, less_frames a f g stem, same_frames a f g stem) refl
@@ -162,23 +170,23 @@ module _ (lo : ℕ) (s : List ℕ) (base : ℕ) where
 
     -- the ways through `at_place`
     module _ (n place letter left : ℕ) (from : lo ≤ letter) (sum : count (λ l. group l && ltb (frames s base l) letter) n + left ≡ place) where
-      pub at_end : lo + 10 ≤ letter → n ≡ lowest (λ j. group j && eqb (ranked group (frames s base) n j) place) n
-      at_end h = no_place group (frames s base) n letter place (λ l e. omega (arith, h, letter_to l e)) (omega (arith, sum))
+      pub at_end : lo + 10 ≤ letter → refused 20 ≡ within n (lowest (λ j. group j && eqb (ranked group (frames s base) n j) place) n)
+      at_end h = outside n n (omega arith) ∙ ap (λ (i : ℕ). within n i) (no_place group (frames s base) n letter place (λ l e. omega (arith, h, letter_to l e)) (omega (arith, sum)))
 
-      module _ (to : letter ≤ lo + 9) (at seen : ℕ) (reached : Reached (framed s base a b letter) left n at seen) where
+      module _ (to : letter ≤ lo + 9) (at : Option ℕ) (seen : ℕ) (reached : Reached (framed s base a b letter) left n at seen) where
         level_count : (m : ℕ) → count (λ l. group l && eqb (frames s base l) letter) m ≡ count (framed s base a b letter) m
         level_count m = count_same _ _ m (λ l. letter_is letter l from to)
 
-        pub at_found : at < n → at ≡ lowest (λ j. group j && eqb (ranked group (frames s base) n j) place) n
-        at_found h =
-            let e : (group at && eqb (frames s base at) letter) ≡ true = letter_is letter at from to ∙ (reached.here h).0 in
-            is_place group (frames s base) n letter left place at (and_left _ _ e) (eqb-true _ _ (and_right (group at) _ e)) h (level_count at ∙ (sym reached.counted ∙ (reached.here h).1)) sum
+        pub at_found : (i : ℕ) → at ≡ Some i → answer i ≡ within n (lowest (λ j. group j && eqb (ranked group (frames s base) n j) place) n)
+        at_found i is =
+            let r = subst (λ (o : Option ℕ). Reached (framed s base a b letter) left n o seen) is reached in
+            let e : (group i && eqb (frames s base i) letter) ≡ true = letter_is letter i from to ∙ r.1 in
+            inside n i r.0 ∙ ap (λ (j : ℕ). within n j) (is_place group (frames s base) n letter left place i (and_left _ _ e) (eqb-true _ _ (and_right (group i) _ e)) r.0 (level_count i ∙ (sym r.2 ∙ r.3)) sum)
 
-        pub at_further : n ≤ at → count (λ l. group l && ltb (frames s base l) (letter + 1)) n + (left - seen) ≡ place
-        at_further h =
-            let q : at ≡ n = omega (arith, h, reached.inside) in
-            let c : seen ≡ count (framed s base a b letter) n = reached.counted ∙ ap (count (framed s base a b letter)) q in
-            omega (arith, next_letter group (frames s base) letter n, level_count n, c, sum, reached.few)
+        pub at_further : at ≡ None → count (λ l. group l && ltb (frames s base l) (letter + 1)) n + (left - seen) ≡ place
+        at_further is =
+            let r = subst (λ (o : Option ℕ). Reached (framed s base a b letter) left n o seen) is reached in
+            omega (arith, next_letter group (frames s base) letter n, level_count n, r.0, sum, r.1)
 
     none_lower : (n : ℕ) → count (λ l. group l && ltb (frames s base l) lo) n ≡ 0
     none_lower n = count_alike _ (λ l. false) n (λ l h. one l) ∙ never n
@@ -241,19 +249,24 @@ module _ (lo : ℕ) (s : List ℕ) (bytes : (i : ℕ) → get_or s i 0 < 256) (b
     unfolding frame_by
     frame_of_static h = rw static_count (simp (lt-ltb number st h))
 
-    module _ (above : st ≤ number) (at seen : ℕ) (reached : Reached (is_earliest (passing s base Animated) (starts s base) (ends s base)) (number - st) n at seen) where
-      first_at : nth (is_first (names_of s base)) (number - st) n ≡ at
+    module _ (above : st ≤ number) (at : Option ℕ) (seen : ℕ) (reached : Reached (is_earliest (passing s base Animated) (starts s base) (ends s base)) (number - st) n at seen) where
+      first_at : nth (is_first (names_of s base)) (number - st) n ≡ unwrap_or at n
       first_at = nth_same _ _ (number - st) n (first_is_earliest s bytes base) ∙ reached_nth _ (number - st) n at seen reached
 
-      pub frame_of_none : n ≤ at → refused 20 ≡ frame_by (lettered lo) (names_of s base) n number place
+      pub frame_of_none : at ≡ None → refused 20 ≡ frame_by (lettered lo) (names_of s base) n number place
       unfolding frame_by
-      frame_of_none h = rw (static_count, first_at) (simp (le-ltb number st above, le-ltb at n h))
+      frame_of_none is =
+          let f : nth (is_first (names_of s base)) (number - st) n ≡ n = first_at ∙ ap (λ (o : Option ℕ). unwrap_or o n) is in
+          rw (static_count, f) (simp (le-ltb number st above, le-ltb n n (omega arith)))
 
-      module _ (inside : at < n) (key : Key) (is_key : key ≡ key_of s base at) (j : ℕ)
+      module _ (first : ℕ) (is-first : at ≡ Some first) (key : Key) (is_key : key ≡ key_of s base first) (j : ℕ)
           (is-j : j ≡ lowest (λ j. grouped lo s base key.stem.start key.stem.end j && eqb (ranked (grouped lo s base key.stem.start key.stem.end) (frames s base) n j) place) n) where
-        found_is : lowest (λ j. alike (lettered lo) (names_of s base) at j && eqb (place_of (lettered lo) (names_of s base) n j) place) n ≡ j
-        found_is = lowest_is at n place ∙ sym (subst (λ (k : Key). j ≡ lowest (λ j. grouped lo s base k.stem.start k.stem.end j && eqb (ranked (grouped lo s base k.stem.start k.stem.end) (frames s base) n j) place) n) is_key is-j)
+        found_is : lowest (λ j. alike (lettered lo) (names_of s base) first j && eqb (place_of (lettered lo) (names_of s base) n j) place) n ≡ j
+        found_is = lowest_is first n place ∙ sym (subst (λ (k : Key). j ≡ lowest (λ j. grouped lo s base k.stem.start k.stem.end j && eqb (ranked (grouped lo s base k.stem.start k.stem.end) (frames s base) n j) place) n) is_key is-j)
 
         pub frame_within : (r : Answer ℕ) → r ≡ within n j → r ≡ frame_by (lettered lo) (names_of s base) n number place
         unfolding frame_by
-        frame_within r e = rw (static_count, first_at) (simp (le-ltb number st above, lt-ltb at n inside) (rw found_is e))
+        frame_within r e =
+            let f : nth (is_first (names_of s base)) (number - st) n ≡ first = first_at ∙ ap (λ (o : Option ℕ). unwrap_or o n) is-first in
+            let h = subst (λ (o : Option ℕ). Reached (is_earliest (passing s base Animated) (starts s base) (ends s base)) (number - st) n o seen) is-first reached in
+            rw (static_count, f) (simp (le-ltb number st above, lt-ltb first n h.0) (rw found_is e))

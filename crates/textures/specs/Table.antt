@@ -125,13 +125,11 @@ KnownTo p ka kb n from to j list = (i : ℕ) → i < n → get_or list i 0 ≡ k
 abbrev pub Heads : (ℕ → Bool) → (ℕ → ℕ) → (ℕ → ℕ) → List ℕ → ℕ → ℕ → List ℕ → ℕ → Type 0
 Heads p ka kb t w from heads j = (v : ℕ) → 0 < v → v < w → any (hits p ka kb t v) from ≡ false → get_or heads v 0 ≡ earliest_of (hits p ka kb t v) j
 
--- Where a search for the number with k others before it, of those below n that pass a test, has come to: `seen` of them are before `at`,
--- which is that number unless it is n.
-pub record Reached (p : ℕ → Bool) (k n at seen : ℕ) : Type 0 where
-  pub counted : seen ≡ count p at
-  pub few : seen ≤ k
-  pub inside : at ≤ n
-  pub here : at < n → (p at ≡ true) × (seen ≡ k)
+-- What a search for the number with k others before it, of those below n that pass a test, has come to: that number, which `seen` of them are
+-- before; or none, and `seen` of them are below n, which are k at most.
+abbrev pub Reached : (ℕ → Bool) → ℕ → ℕ → Option ℕ → ℕ → Type 0
+Reached p k n None seen = (seen ≡ count p n) × (seen ≤ k)
+Reached p k n (Some i) seen = (i < n) × (p i ≡ true) × (seen ≡ count p i) × (seen ≡ k)
 
 -- how many that pass a test come before j, by letter and then by number
 unfoldable pub ranked : (ℕ → Bool) → (ℕ → ℕ) → ℕ → ℕ → ℕ

@@ -3,10 +3,11 @@ ghost use Rattle.std.specs.Prelude.{◌≡◌, ◌≤◌};
 ghost use Rattle.format.specs.Answers.{answer_of};
 ghost use Rattle.textures.specs.Access as Access;
 ghost use Rattle.textures.specs.Group.{frame_by};
+ghost use Rattle.textures.specs.Private.{first_letter};
 ghost use Rattle.texture_list.specs.Kind.{lettered};
 ghost use Rattle.texture_list.specs.List.{names_of};
 
-use crate::frame::{find_frame, find_static};
+use crate::frame::{Group, find_frame, find_static};
 use crate::number::texture_number;
 use crate::sound::is_sound;
 use format::refusal::{Answer, Refusal};
@@ -25,15 +26,23 @@ pub fn static_texture(file: &[u8], map: BspData, number: u64) -> Answer<u32>
     find_static(file, map.textures.offset, map.texture_count, number)
 }
 
-// The frame at a place of a group of a section that reads; its letters start at `lo`.
+// The frame at a place of a group of a section that reads. (How many textures there may be is asked here and in `texture_number`: the count is
+// the map record's, and a struct of it with a ghost field would be made for one call. `earliest` asks it of the length of its list.)
 #[tactic(auto, using(crate::proofs::Accesses::number_past, crate::proofs::Accesses::place_past))]
-fn group_frame(s: &[u8], base: u32, count: u32, lo: u8, number: u64, place: u64) -> Answer<u32>
-    requires { (lo ≤ 97) × (count ≤ 2097152) }
-    ensures { answer_of result ≡ frame_by (lettered lo) (names_of s.now base) count number place }
+fn group_frame(
+    s: &[u8],
+    base: u32,
+    count: u32,
+    group: Group,
+    number: u64,
+    place: u64,
+) -> Answer<u32>
+    requires { count ≤ 2097152 }
+    ensures { answer_of result ≡ frame_by (lettered (first_letter group)) (names_of s.now base) count number place }
 {
     let number = u32::try_from(number).map_err(|_| Refusal::NoSuchRecord)?;
     let place = u32::try_from(place).map_err(|_| Refusal::NoSuchRecord)?;
-    find_frame(s, base, count, lo, number, place)
+    find_frame(s, base, count, group, number, place)
 }
 
 // The frame at a place of a group, 0 the primary and 1 the alternate one, of the texture of a new number.
@@ -46,8 +55,8 @@ pub fn frame_texture(file: &[u8], map: BspData, number: u64, group: u32, place: 
     }
     let (base, count) = (map.textures.offset, map.texture_count);
     match group {
-        0 => group_frame(file, base, count, b'0', number, place),
-        1 => group_frame(file, base, count, b'a', number, place),
+        0 => group_frame(file, base, count, Group::Primary, number, place),
+        1 => group_frame(file, base, count, Group::Alternate, number, place),
         _ => Err(Refusal::NoSuchRecord),
     }
 }

@@ -19,7 +19,7 @@ use format::refusal::{Answer, Refusal};
 use format::section::BspData;
 use texture_list::kind::{Kind, is_kind, key_of};
 
-// No texture: the first one with its stem, said of a static texture.
+// Said of a static texture in the place of the first one with its stem: no texture.
 pub const NONE: u32 = u32::MAX;
 
 // The textures whose stems a table has.
@@ -61,22 +61,21 @@ fn look_up(
     index
 }
 
-// The same for all textures from the part on.
+// The same for all textures from the part on: the list has an entry for each texture.
 fn look_up_all(
     s: &[u8],
     base: u32,
-    count: u32,
     part: Part,
     t: &[u64],
     sieve: &[u8],
     heads: &mut [u32],
     list: &mut [u32],
 )
-    requires { Stems.Filled s.now base Of.Animated part.from part.to t.now (length heads.old) × ((part.from ≤ part.to) × ((part.to ≤ count) × ((count ≤ 2097152) × ((length list.old ≡ count) × (Stems.Known s.now base Of.Animated count part.from list.old × Sieved t.now (length heads.old) sieve.now))))) }
-    ensures { Stems.Known s.now base Of.Animated count part.to list.new }
+    requires { Stems.Filled s.now base Of.Animated part.from part.to t.now (length heads.old) × ((part.from ≤ part.to) × ((part.to ≤ length list.old) × ((length list.old ≤ 2097152) × (Stems.Known s.now base Of.Animated (length list.old) part.from list.old × Sieved t.now (length heads.old) sieve.now)))) }
+    ensures { Stems.Known s.now base Of.Animated (length list.old) part.to list.new }
 {
     heads.fill(NONE);
-    for i in part.from..count {
+    for i in part.from..list.len() as u32 {
         let known = list[i as usize];
         list[i as usize] = look_up(s, base, part, i, known, t, sieve, heads);
     }
@@ -86,14 +85,14 @@ fn look_up_all(
 fn look_up_parts(
     s: &[u8],
     base: u32,
-    count: u32,
     table: &mut StemTable<u32>,
     sieve: &mut [u8],
     list: &mut [u32],
 )
-    requires { (count ≤ 2097152) × ((length list.old ≡ count) × Stems.Known s.now base Of.Animated count 0 list.old) }
-    ensures { Stems.Known s.now base Of.Animated count count list.new }
+    requires { (length list.old ≤ 2097152) × Stems.Known s.now base Of.Animated (length list.old) 0 list.old }
+    ensures { Stems.Known s.now base Of.Animated (length list.old) (length list.old) list.new }
 {
+    let count = list.len() as u32;
     let (words, heads) = (&mut *table.words, &mut *table.marks);
     let mut from = 0;
     // not by `for`: a part ends where its table is full
@@ -105,26 +104,19 @@ fn look_up_parts(
             from,
             to: filling.to,
         };
-        look_up_all(s, base, count, part, words, sieve, heads, list);
+        look_up_all(s, base, part, words, sieve, heads, list);
         from = filling.to;
     }
 }
 
-// The first texture with the stem of each texture of a section of so many.
+// The first texture with the stem of each texture of a section, which has as many as the list has entries.
 #[tactic(auto, using(crate::proofs::Leads::all_found))]
-fn find_each(
-    s: &[u8],
-    base: u32,
-    count: u32,
-    table: &mut StemTable<u32>,
-    sieve: &mut [u8],
-    list: &mut [u32],
-)
-    requires { (count ≤ 2097152) × (length list.old ≡ count) }
-    ensures { list.new ≡ values_below (earliest_by (names_of s.now base) count) count }
+fn find_each(s: &[u8], base: u32, table: &mut StemTable<u32>, sieve: &mut [u8], list: &mut [u32])
+    requires { length list.old ≤ 2097152 }
+    ensures { list.new ≡ values_below (earliest_by (names_of s.now base) (length list.old)) (length list.old) }
 {
     list.fill(NONE);
-    look_up_parts(s, base, count, table, sieve, list);
+    look_up_parts(s, base, table, sieve, list);
 }
 
 // For each texture of the map, by its number in the file, the first one with its stem, and 2^32 - 1 for a static one, which has none: at the
@@ -160,24 +152,32 @@ fn list_earliest(
         words: t,
         marks: heads,
     };
-    find_each(file, base, count, &mut table, sieve, &mut list[..end]);
+    find_each(file, base, &mut table, sieve, &mut list[..end]);
     Ok(count)
 }
 
-// With a table of N nodes and so many words, and a sieve of so many bytes.
-fn list_sized<const WORDS: usize, const N: usize, const SIEVE: usize>(
+// With a table of N nodes and a sieve of so many bytes.
+fn list_sized<const N: usize, const SIEVE: usize>(
     file: &[u8],
     map: BspData,
     list: &mut [u32],
 ) -> Answer<u32>
-    requires { (8 ≤ WORDS) × (WORDS ≡ 4 * N) × (WORDS ≤ 90112) × (SIEVE ≤ 131072) }
+    requires { (2 ≤ N) × (N ≤ 22528) × (SIEVE ≤ 131072) }
     ensures { listed (answer_of result) list.new ≡ into (earliest_textures file.now map) list.old }
 {
-    let mut t = [0; WORDS];
+    let mut nodes = [[0; 4]; N];
     let mut marks = [0; N];
     let mut sieve = [0; SIEVE];
     let mut heads = [0; N];
-    list_earliest(file, map, &mut t, &mut marks, &mut sieve, &mut heads, list)
+    list_earliest(
+        file,
+        map,
+        nodes.as_flattened_mut(),
+        &mut marks,
+        &mut sieve,
+        &mut heads,
+        list,
+    )
 }
 
 // The same, with tables of its own: small ones, of 1,024 nodes, or large ones, of 22,528 nodes, which stay below 1 MiB together.
@@ -185,7 +185,7 @@ pub fn earliest_textures(file: &[u8], map: BspData, list: &mut [u32]) -> Answer<
     ensures { listed (answer_of result) list.new ≡ into (earliest_textures file.now map) list.old }
 {
     if map.texture_count < 1024 {
-        return list_sized::<4096, 1024, 1024>(file, map, list);
+        return list_sized::<1024, 1024>(file, map, list);
     }
-    list_sized::<90112, 22528, 131072>(file, map, list)
+    list_sized::<22528, 131072>(file, map, list)
 }

@@ -2,7 +2,7 @@
 // textures at a time, and all textures are held to it, so that the time grows with the textures and the parts.
 ghost use Rattle.std.specs.Prelude.{◌≡◌, ◌≤◌, ◌<◌, ◌+◌, ◌*◌, length, true};
 ghost use Rattle.textures.specs.Count.{any};
-ghost use Rattle.sections.specs.Answers.{position_step};
+ghost use Rattle.sections.specs.Answers.{checked_step};
 ghost use Rattle.textures.specs.Group.{sequenced};
 ghost use Rattle.texture_list.specs.Kind.{passing, starts, ends, key_of, is_wrong_key};
 ghost use Rattle.texture_list.specs.List.{names_of};
@@ -18,7 +18,8 @@ use format::refusal::{Answer, Refusal};
 use texture_list::kind::{Kind, Stem, is_kind, key_of};
 
 // A stem in the table of the nodes below `nodes`, which become one more if it is new. `None` says that there is no room. A slice of the nodes
-// would not do: a new one goes behind them.
+// would not do: a new one goes behind them. The words alone, here and in the two below, so that two nodes are asked of each: with a `StemTable`
+// they would be generic in its marks, which they leave alone. The table grows from call to call, so that it is one of so many nodes is asked too.
 #[tactic(auto, using(crate::proofs::Steps::ins_at, crate::proofs::Steps::ins_deep, crate::proofs::Steps::ins_full, crate::proofs::Steps::ins_new))]
 fn insert(t: &mut [u64], nodes: usize, stem: Stem) -> Option<usize>
     requires { Tab.Table t.old nodes × (8 ≤ length t.old) }
@@ -77,7 +78,8 @@ pub fn fill(s: &[u8], base: u32, kind: Kind, from: u32, count: u32, t: &mut [u64
     Filling { to: count, nodes }
 }
 
-// Marks the node with the stem of a texture, if the texture is of a kind.
+// Marks the node with the stem of a texture, if the texture is of a kind. That the table has a node for each mark is asked here, in `mark` and in
+// `is_first`: the marks are a part, lent anew for each part of the textures, and a struct with a ghost field would be made for one call.
 #[tactic(auto, using(crate::proofs::Sieves::sought_sifted, crate::proofs::Sieves::sifted_at, crate::proofs::Steps::is_of))]
 #[inline(always)]
 fn mark_one(s: &[u8], base: u32, kind: Kind, index: u32, t: &[u64], sieve: &[u8], marks: &mut [u8])
@@ -148,8 +150,8 @@ fn has_wrong(s: &[u8], base: u32, count: u32) -> bool
 
 // The frame letters of all textures, and then the alternate groups without a primary one.
 #[tactic(auto, using(crate::proofs::Sequence::finds_wrong, crate::proofs::Sequence::finds_lone, crate::proofs::Sequence::finds_none))]
-pub fn check_groups_in(s: &[u8], base: u32, count: u32, table: &mut StemTable<u8>) -> Answer<usize>
-    ensures { position_step result ≡ sequenced (names_of s.now base) count }
+pub fn check_groups_in(s: &[u8], base: u32, count: u32, table: &mut StemTable<u8>) -> Answer<()>
+    ensures { checked_step result ≡ sequenced (names_of s.now base) count }
 {
     if has_wrong(s, base, count) {
         return Err(Refusal::InvalidFrame);
@@ -157,29 +159,29 @@ pub fn check_groups_in(s: &[u8], base: u32, count: u32, table: &mut StemTable<u8
     if has_lone(s, base, count, table) {
         return Err(Refusal::NoPrimaryFrames);
     }
-    Ok(0)
+    Ok(())
 }
 
-// With a table of N nodes and so many words.
-fn check_sized<const WORDS: usize, const N: usize>(s: &[u8], base: u32, count: u32) -> Answer<usize>
-    requires { (8 ≤ WORDS) × (WORDS ≡ 4 * N) × (WORDS ≤ 65536) }
-    ensures { position_step result ≡ sequenced (names_of s.now base) count }
+// With a table of N nodes. (How many there may be is asked here and of two functions more: a const parameter's type has no bounds.)
+fn check_sized<const N: usize>(s: &[u8], base: u32, count: u32) -> Answer<()>
+    requires { (2 ≤ N) × (N ≤ 16384) }
+    ensures { checked_step result ≡ sequenced (names_of s.now base) count }
 {
-    let mut t = [0; WORDS];
+    let mut nodes = [[0; 4]; N];
     let mut marks = [0; N];
     let mut table = StemTable {
-        words: &mut t,
+        words: nodes.as_flattened_mut(),
         marks: &mut marks,
     };
     check_groups_in(s, base, count, &mut table)
 }
 
 // With a table of its own: a small one, of 1,024 nodes, or a large one, of 16,384 nodes.
-pub fn check_groups(s: &[u8], base: u32, count: u32) -> Answer<usize>
-    ensures { position_step result ≡ sequenced (names_of s.now base) count }
+pub fn check_groups(s: &[u8], base: u32, count: u32) -> Answer<()>
+    ensures { checked_step result ≡ sequenced (names_of s.now base) count }
 {
     if count < 1024 {
-        return check_sized::<4096, 1024>(s, base, count);
+        return check_sized::<1024>(s, base, count);
     }
-    check_sized::<65536, 16384>(s, base, count)
+    check_sized::<16384>(s, base, count)
 }

@@ -46,14 +46,14 @@ fn is_first(s: &[u8], base: u32, index: u32, t: &[u64], marks: &mut [u8]) -> boo
     old == 0
 }
 
-// A texture, and how many stems have their earliest texture before it.
+// The texture that is sought, if it is there, and how many of its kind are before it; how many there are, if it is not.
 #[derive(Clone, Copy)]
 pub struct Firsts {
-    pub at: u32,
+    pub at: Option<u32>,
     pub seen: u32,
 }
 
-// The earliest texture of the stem with k stems before it, in the part of the textures whose stems the table has; the part's end if it is not there.
+// The earliest texture of the stem with k stems before it, in the part of the textures whose stems the table has.
 #[tactic(auto, using(crate::proofs::Firsts::counting))]
 fn scan(
     s: &[u8],
@@ -75,15 +75,15 @@ fn scan(
             continue;
         }
         if seen == k {
-            return Firsts { at: i, seen };
+            return Firsts { at: Some(i), seen };
         }
         seen += 1;
     }
-    Firsts { at: to, seen }
+    Firsts { at: None, seen }
 }
 
-// The earliest texture of the stem with k stems before it, of the first textures; their end if there is none.
-#[tactic(auto, using(crate::proofs::Firsts::starts_at))]
+// The earliest texture of the stem with k stems before it, of the first textures.
+#[tactic(auto, using(crate::proofs::Firsts::starts_at, crate::proofs::Firsts::further, crate::proofs::Firsts::past_counted, crate::proofs::Firsts::past_few, crate::proofs::Firsts::ended))]
 fn find_first(
     s: &[u8],
     base: u32,
@@ -104,13 +104,13 @@ fn find_first(
         sift_all(words, filling.nodes, sieve);
         mark(s, base, Kind::Animated, from, words, sieve, marks);
         let part = scan(s, base, from, filling.to, k, seen, words, marks);
-        if part.at < filling.to {
+        if part.at.is_some() {
             return part;
         }
         from = filling.to;
         seen = part.seen;
     }
-    Firsts { at: from, seen }
+    Firsts { at: None, seen }
 }
 
 // Whether a texture is animated and has a stem.
@@ -122,7 +122,8 @@ fn is_like(s: &[u8], base: u32, index: u32, stem: Stem) -> bool
     is_kind(Kind::Animated, key) && stem == key.stem
 }
 
-// The earliest animated texture with a stem, or `upto` if none of the first textures has it.
+// The earliest animated texture with a stem, or `upto` if none of the first textures has it: a number, and no `Option`, since it is the bound of
+// the search that follows.
 fn earliest_like(s: &[u8], base: u32, upto: u32, stem: Stem) -> u32
     ensures { (result ≡ lowest (λ i. passing s.now base Of.Animated i && (eqb stem.start (starts s.now base i) && eqb stem.end (ends s.now base i))) upto) × (result ≤ upto) }
 {
@@ -131,21 +132,21 @@ fn earliest_like(s: &[u8], base: u32, upto: u32, stem: Stem) -> u32
         .unwrap_or(upto)
 }
 
-// `find_first` with a table of N nodes and so many words, and a sieve of so many bytes.
-fn find_first_sized<const WORDS: usize, const N: usize, const SIEVE: usize>(
+// `find_first` with a table of N nodes and a sieve of so many bytes.
+fn find_first_sized<const N: usize, const SIEVE: usize>(
     s: &[u8],
     base: u32,
     upto: u32,
     k: u32,
 ) -> Firsts
-    requires { (8 ≤ WORDS) × (WORDS ≡ 4 * N) × (WORDS ≤ 40960) × (SIEVE ≤ 131072) }
+    requires { (2 ≤ N) × (N ≤ 10240) × (SIEVE ≤ 131072) }
     ensures { Tab.Reached (Stems.is_earliest s.now base Of.Animated) k upto result.at result.seen }
 {
-    let mut t = [0; WORDS];
+    let mut nodes = [[0; 4]; N];
     let mut sieve = [0; SIEVE];
     let mut marks = [0; N];
     let mut table = StemTable {
-        words: &mut t,
+        words: nodes.as_flattened_mut(),
         marks: &mut marks,
     };
     find_first(s, base, upto, k, &mut table, &mut sieve)
@@ -157,9 +158,9 @@ pub fn first_of(s: &[u8], base: u32, upto: u32, k: u32) -> Firsts
     ensures { Tab.Reached (Stems.is_earliest s.now base Of.Animated) k upto result.at result.seen }
 {
     if upto < 1024 {
-        return find_first_sized::<4096, 1024, 1024>(s, base, upto, k);
+        return find_first_sized::<1024, 1024>(s, base, upto, k);
     }
-    find_first_sized::<40960, 10240, 131072>(s, base, upto, k)
+    find_first_sized::<10240, 131072>(s, base, upto, k)
 }
 
 // The new number of a texture of the file.
@@ -177,7 +178,7 @@ pub fn texture_number(s: &[u8], base: u32, count: u32, index: u32) -> u32
     count_static(s, base, index)
 }
 
-// The lowest number with k others before it, of those below `count` that pass a test; `count` if there is none.
+// The lowest number with k others before it, of those below `count` that pass a test.
 #[tactic(auto, using(crate::proofs::Firsts::counting))]
 pub fn nth_such<F: Fn(u32) -> bool>(count: u32, k: u32, passes: F) -> Firsts
     requires { F.IsAlwaysCallable passes }
@@ -189,14 +190,14 @@ pub fn nth_such<F: Fn(u32) -> bool>(count: u32, k: u32, passes: F) -> Firsts
             continue;
         }
         if seen == k {
-            return Firsts { at: i, seen };
+            return Firsts { at: Some(i), seen };
         }
         seen += 1;
     }
-    Firsts { at: count, seen }
+    Firsts { at: None, seen }
 }
 
-// The static texture with k static ones before it: its number in the file, or `count` if there is none.
+// The static texture with k static ones before it: its number in the file.
 pub fn nth_static(s: &[u8], base: u32, count: u32, k: u32) -> Firsts
     ensures { Tab.Reached (λ i. not (passing s.now base Of.Animated i)) k count result.at result.seen }
 {

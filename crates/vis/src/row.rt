@@ -27,7 +27,9 @@ const MOST_FIRST: u32 = 4294967287;
 
 // Lists the set bits of a byte, of which the lowest is that of the leaf `first`, past the `count` leaves that the list has, and answers how
 // many it has then. Each number is written before it is known whether its bit is set, and the next one takes its place if it is not: so the
-// entry after them may be written over too. Later ones are kept.
+// entry after them may be written over too. Later ones are kept. (The list with the count, here and in the two below, and not the rest of the
+// list from the count on: with that a row takes 6 to 70% more time. What is asked of the first leaf is no ghost field: a struct of it would be
+// made anew for each byte.)
 #[inline(always)]
 fn put_eight(byte: u8, first: u32, count: usize, list: &mut [u32]) -> usize
     requires { (count + 8 ≤ length list.old) × (first ≤ 4294967287) }
@@ -76,8 +78,8 @@ fn put_bits(byte: u8, left: usize, first: u32, count: usize, list: &mut [u32]) -
 }
 
 // Lists the leaves of a byte at the front of any list, as many as there is room for, and answers how many. The entry after them may be
-// written over, and nothing is said of it; later ones are kept. A first leaf above `MOST_FIRST` counts as that one. A call: in line in `team` it makes a pool of many
-// leaves slower.
+// written over, and nothing is said of it; later ones are kept. A first leaf above `MOST_FIRST` counts as that one. A call: in line in
+// `team` it makes a pool of many leaves slower.
 #[inline(never)]
 pub fn put_leaves(byte: u8, first: u32, list: &mut [u32]) -> usize
     ensures { (result ≡ min (length list.old) (length (byte_leaves (min first 4294967287) byte))) × (take result list.new ≡ take (length list.old) (byte_leaves (min first 4294967287) byte)) × (drop (result + 1) list.new ≡ drop (result + 1) list.old) }
@@ -93,7 +95,8 @@ pub fn put_leaves(byte: u8, first: u32, list: &mut [u32]) -> usize
 }
 
 // How many leaves the row at the offset lists, by the table of the numbers of set bits. (No `for`, here and in `put_row`: the position moves
-// by one byte or by two, and the leaf by as many as the bytes say, so no range goes with either.)
+// by one byte or by two, and the leaf by as many as the bytes say, so no range goes with either. How long the data may be is asked here and of
+// eight functions more, also of `team` and `accept`: of a struct with a ghost field each clause would name the bytes, two to four times.)
 #[tactic(auto, using(crate::proofs::Passes::count_ended, crate::proofs::Passes::count_cut, crate::proofs::Passes::count_zeros, crate::proofs::Passes::count_done))]
 fn row_length(
     table: &[u8; 256],

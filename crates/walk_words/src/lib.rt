@@ -5,8 +5,8 @@ ghost use Rattle.std.specs.Prelude.{◌≡◌};
 ghost use Rattle.walk_words.specs.Layout as Layout;
 
 use format::contents::BspLeafContents;
-use math::Vector3;
-use phys::{Trace, TraceEndBoundary, TraceEndKind};
+use math::{Hyperplane, Vector3};
+use phys::{Trace, TraceEndKind};
 use words::{flag_word, float_word};
 
 // The code of the contents, and then the visits.
@@ -17,12 +17,13 @@ pub fn contents_words(found: (BspLeafContents, u64)) -> [u64; 2]
     [contents.code() as u64, visits]
 }
 
-// 1, the ratio and the plane.
-fn boundary_words(boundary: TraceEndBoundary) -> [u64; 7]
-    ensures { result ≡ Layout.boundary_words boundary }
+// 1, the ratio and the plane: the words of a boundary, by its parts.
+#[inline(always)]
+pub fn boundary_words(ratio: f32, plane: Hyperplane) -> [u64; 7]
+    ensures { result ≡ Layout.boundary_words (record { ratio = ratio; plane = plane }) }
 {
-    let p = words::plane_words(boundary.plane);
-    [1, float_word(boundary.ratio), p[0], p[1], p[2], p[3], p[4]]
+    let p = words::plane_words(plane);
+    [1, float_word(ratio), p[0], p[1], p[2], p[3], p[4]]
 }
 
 // 0 and zeros for an end within a leaf.
@@ -30,8 +31,8 @@ fn kind_words(kind: TraceEndKind) -> [u64; 7]
     ensures { result ≡ Layout.kind_words kind }
 {
     match kind {
-        TraceEndKind::Terminal => [0, 0, 0, 0, 0, 0, 0],
-        TraceEndKind::Boundary(boundary) => boundary_words(boundary),
+        TraceEndKind::Terminal => [0; 7],
+        TraceEndKind::Boundary(boundary) => boundary_words(boundary.ratio, boundary.plane),
     }
 }
 

@@ -8,15 +8,15 @@ ghost use Rattle.format.specs.Answer.{mapped};
 ghost use Rattle.format.specs.Answers.{answer_of};
 ghost use Rattle.words.specs.Words as Words;
 
-use format::refusal::Answer;
+use format::refusal::{Answer, Refusal};
 use format::section::{BspData, BspFileSection};
-use math::{Alignment, Axis, Hyperplane};
+use math::{Alignment, Hyperplane};
 
 // The numbers of the refusals that a call for C gives by itself, as `Refusal::number` has them: as constants, since a call gives them before
 // anything is read.
-pub const LIST_TOO_SHORT: u32 = 22;
+pub const LIST_TOO_SHORT: u32 = Refusal::ListTooShort as u32;
 
-pub const NO_SUCH_RECORD: u32 = 20;
+pub const NO_SUCH_RECORD: u32 = Refusal::NoSuchRecord as u32;
 
 // Writes the items to the front of the list, if they fit in it, and says whether they do. What lies past them is kept.
 fn put_front<T: Copy>(items: &[T], out: &mut [T]) -> bool
@@ -133,13 +133,12 @@ pub fn flag_word(flag: bool) -> u64
     u64::from(flag)
 }
 
-fn kind_word(alignment: Alignment) -> u64
+// The number of a plane's kind: that of its axis, or 3 for a normal.
+pub fn kind_number(alignment: Alignment) -> u32
     ensures { result ≡ Words.kind_of alignment }
 {
     match alignment {
-        Alignment::Axis(Axis::X) => 0,
-        Alignment::Axis(Axis::Y) => 1,
-        Alignment::Axis(Axis::Z) => 2,
+        Alignment::Axis(axis) => axis as u32,
         Alignment::Normal(_) => 3,
     }
 }
@@ -151,7 +150,7 @@ pub fn plane_words(plane: Hyperplane) -> [u64; 5]
     let alignment = plane.alignment;
     let normal = plane.normal();
     [
-        kind_word(alignment),
+        u64::from(kind_number(alignment)),
         float_word(normal.x),
         float_word(normal.y),
         float_word(normal.z),

@@ -14,9 +14,6 @@ use Rattle.format.proofs.code.contents_of_negated_i16.Goals as goal
 wider : (x : ℤ) → SFits w16 x → SFits w32 x
 wider x f = record { sfits = omega (arith, f.sfits) }
 
-pub overflow_cast-x : goal.overflow_cast-x
-overflow_cast-x c = rw (to_z-of_z {w = w16} c.ranges.x) (wider _ c.ranges.x)
-
 pub returns : goal.returns
 returns c = let f = c.ranges.x in
     rw (c.contents_of_negated_i32.ensures, to_z-of_z {w = w16} f) (simp (to_z-of_z {w = w32} (wider _ f)) (widths w32 w16 (lit< tt) (lit< tt) _ (wider _ f) f (lt_z c.args.x (pos 0)) refl))

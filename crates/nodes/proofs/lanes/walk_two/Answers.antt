@@ -39,23 +39,11 @@ returns-then-c-ge65536 c = stops_first _ c.args.t _ _ _ _ (all_there (goal.at.re
 pub returns-then-d-ge65536 : goal.returns-then-d-ge65536
 returns-then-d-ge65536 c = stops_second _ c.args.t _ _ _ _ (all_there (goal.at.returns-then-d-ge65536 c).At-loop-sections) _ _ _ _ c.loop-sections.invariant _ _ (c.step-c.ensures _ c.args.t _ c.sections_of-sections.ensures.0 c.if-not-whole.false c.sections_of-sections.ensures.1 refl) (c.step-d.ensures _ c.args.t _ c.sections_of-sections.ensures.0 c.if-not-whole.false c.sections_of-sections.ensures.1 refl) c.if-d-ge65536.true
 
-pub counted-m-requires : goal.counted-m-requires
-counted-m-requires c = λ h. let m = (c.step-c.ensures _ c.args.t _ c.sections_of-sections.ensures.0 c.if-not-whole.false c.sections_of-sections.ensures.1 refl).may c.if-c-ge65536.false h in omega (arith, m.0, m.1)
-
-pub counted-n-requires : goal.counted-n-requires
-counted-n-requires c = λ h. let m = (c.step-d.ensures _ c.args.t _ c.sections_of-sections.ensures.0 c.if-not-whole.false c.sections_of-sections.ensures.1 refl).may c.if-d-ge65536.false h in omega (arith, m.0, m.1)
-
 pub loop-sections-smaller : goal.loop-sections-smaller
 loop-sections-smaller c = rw (c.counted-n.ensures, c.counted-m.ensures) (beside_less _ c.args.t _ _ _ _ (all_there (goal.at.loop-sections-smaller c).At-loop-sections) _ _ _ _ c.loop-sections.invariant _ _ (c.step-c.ensures _ c.args.t _ c.sections_of-sections.ensures.0 c.if-not-whole.false c.sections_of-sections.ensures.1 refl) (c.step-d.ensures _ c.args.t _ c.sections_of-sections.ensures.0 c.if-not-whole.false c.sections_of-sections.ensures.1 refl) c.if-c-ge65536.false c.if-d-ge65536.false (sym c.ended.ensures ∙ c.loop-sections-test.true))
 
 pub loop-sections-preserved : goal.loop-sections-preserved
 loop-sections-preserved c = rw (c.counted-n.ensures, c.counted-m.ensures) (beside_on _ c.args.t _ _ _ _ (all_there (goal.at.loop-sections-preserved c).At-loop-sections) _ _ _ _ c.loop-sections.invariant _ _ (c.step-c.ensures _ c.args.t _ c.sections_of-sections.ensures.0 c.if-not-whole.false c.sections_of-sections.ensures.1 refl) (c.step-d.ensures _ c.args.t _ c.sections_of-sections.ensures.0 c.if-not-whole.false c.sections_of-sections.ensures.1 refl) c.if-c-ge65536.false c.if-d-ge65536.false)
-
-pub lane_at-requires : goal.lane_at-requires
-lane_at-requires c = c.loop-sections.invariant.one
-
-pub lane_at-requires-2 : goal.lane_at-requires-2
-lane_at-requires-2 c = c.loop-sections.invariant.other
 
 pub returns : goal.returns
 returns c = let e = both_ended _ _ (sym c.ended.ensures ∙ c.loop-sections-test.false) in rw (c.lane_at.ensures, c.lane_at-2.ensures) (beside_ends _ c.args.t _ _ _ _ (all_there (goal.at.returns c).At-loop-sections) _ _ _ _ c.loop-sections.invariant e.0 e.1)

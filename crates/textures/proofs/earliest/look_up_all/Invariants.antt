@@ -8,6 +8,6 @@ use Rattle.textures.proofs.earliest.look_up_all.Given as goal
 
 abbrev pub invariant-loop-i : goal.invariant-loop-i
 invariant-loop-i l = record {
-  known : KnownTo (passing l.s l.base Animated) (starts l.s l.base) (ends l.s l.base) l.count l.part.from l.part.to l.i l.list;
+  known : KnownTo (passing l.s l.base Animated) (starts l.s l.base) (ends l.s l.base) (length l.fn.list) l.part.from l.part.to l.i l.list;
   heads : Heads (passing l.s l.base Animated) (starts l.s l.base) (ends l.s l.base) l.t (length l.fn.heads) l.part.from l.heads l.i;
 }

@@ -122,18 +122,9 @@ check_node-returns-then-planes-words t c =
     let a = c.args in
     no_plane a.self.now.file.now a.self.now.tables a.node a.levels a.marks.now c.if-nodes-node.false c.if-mark-ne0.false c.if-levels-eq0.false _ c.in_ok-words.ensures c.if-planes-words.true
 
-pub check_node-check_child-requires : goal.check_node-check_child-requires
-check_node-check_child-requires t c = (fewer _ t c.decreases c.if-levels-eq0.false, simp length-set c.requires)
-
 pub check_node-returns-in_err-front : goal.check_node-returns-in_err-front
 check_node-returns-in_err-front t c =
     rw (handed_on c.from_residual-in_err-front.ensures.1) (front_done t (goal.at.check_node-returns-in_err-front t c).After-check_child _ c.in_err-front.ensures)
-
-pub check_node-check_child-requires-2 : goal.check_node-check_child-requires-2
-check_node-check_child-requires-2 t c = (
-  fewer _ t c.decreases c.if-levels-eq0.false,
-  omega (arith, c.requires, kept_front t (goal.at.check_node-check_child-requires-2 t c).After-check_child),
-)
 
 pub check_node-returns-in_err-back : goal.check_node-returns-in_err-back
 check_node-returns-in_err-back t c =

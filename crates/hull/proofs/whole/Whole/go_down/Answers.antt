@@ -16,9 +16,6 @@ use borrow.Author.Rules.{rules}
 use Rattle.hull.proofs.whole.Whole.go_down.Goals as goal
 use Rattle.format.proofs.Answers.{handed_on}
 
-pub loop-node-init : goal.loop-node-init
-loop-node-init c = (search rules, λ f t own. refl)
-
 pub returns-then-node_count-node : goal.returns-then-node_count-node
 returns-then-node_count-node c = record { says = λ f t own. sym (ap (after _) (trace_outside _ _ _ _ _ (omega (arith, own_count f t _ _ _ _ own, c.node_count.ensures, c.if-node_count-node.true)))) ∙ c.loop-node.invariant.1 f t own; falls = search rules }
 
@@ -28,17 +25,11 @@ returns-then-left-eq0 c = record { says = λ f t own. sym (ap (after _) (trace_s
 pub returns-in_err-w : goal.returns-in_err-w
 returns-in_err-w c = rw (handed_on c.from_residual.ensures.1) (record { says = λ f t own. unread _ _ _ _ _ _ c.if-left-eq0.false (omega (arith, own_count f t _ _ _ _ own, c.node_count.ensures, c.if-node_count-node.false)) _ (not_seen f t _ _ _ _ (c.segment_in.ensures.1 f t true own.read refl own.its_table) _ c.in_err-w.was) ∙ c.loop-node.invariant.1 f t own; falls = search rules })
 
-pub overflow_sub-left : goal.overflow_sub-left
-overflow_sub-left c = omega (arith, c.if-left-eq0.false)
-
 pub returns-then-a-b : goal.returns-then-a-b
 returns-then-a-b c = record { says = λ f t own. crosses _ _ _ _ _ _ c.if-left-eq0.false (omega (arith, own_count f t _ _ _ _ own, c.node_count.ensures, c.if-node_count-node.false)) _ _ _ (seen f t _ _ _ _ (c.segment_in.ensures.1 f t true own.read refl own.its_table) _ _ _ c.in_ok-w.was) _ c.saturating_add-visits.ensures c.if-a-b.true _ (plane_same f t _) ∙ c.loop-node.invariant.1 f t own; falls = omega (arith, c.if-left-eq0.false, c.loop-node.invariant.0) }
 
 pub returns-then-word-ge32768 : goal.returns-then-word-ge32768
 returns-then-word-ge32768 c = record { says = λ f t own. c.leaf_of.ensures.0 f t _ _ ∙ to_end _ _ _ _ _ _ c.if-left-eq0.false (omega (arith, own_count f t _ _ _ _ own, c.node_count.ensures, c.if-node_count-node.false)) _ _ _ (seen f t _ _ _ _ (c.segment_in.ensures.1 f t true own.read refl own.its_table) _ _ _ c.in_ok-w.was) _ c.saturating_add-visits.ensures c.if-a-b.false (end_among c.args.self.now.sections.render c.args.self.now.leaves.now c.on-word.result) (meets_end f t c.in_ok-w.w (le zero32 c.in_ok-w.a) _ c.on-word.ensures c.if-word-ge32768.true _ (own_end f t _ _ _ _ own _)) ∙ c.loop-node.invariant.1 f t own; falls = omega (arith, c.leaf_of.ensures.1) }
-
-pub loop-node-smaller : goal.loop-node-smaller
-loop-node-smaller c = omega (arith, c.if-left-eq0.false)
 
 pub loop-node-preserved : goal.loop-node-preserved
 loop-node-preserved c = (omega (arith, c.loop-node.invariant.0), λ f t own. sym (to_node _ _ _ _ _ _ c.if-left-eq0.false (omega (arith, own_count f t _ _ _ _ own, c.node_count.ensures, c.if-node_count-node.false)) _ _ _ (seen f t _ _ _ _ (c.segment_in.ensures.1 f t true own.read refl own.its_table) _ _ _ c.in_ok-w.was) _ c.saturating_add-visits.ensures c.if-a-b.false _ (meets_node f t c.in_ok-w.w (le zero32 c.in_ok-w.a) _ c.on-word.ensures c.if-word-ge32768.false)) ∙ c.loop-node.invariant.1 f t own)

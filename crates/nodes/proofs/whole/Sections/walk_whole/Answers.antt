@@ -1,34 +1,18 @@
 -- `walk_whole` meets its contract. The loop's invariant: the walk from the root on is the walk from the present node, which may enter as many
 -- nodes as are left.
 -- Assumes nothing.
-use Rattle.std.proofs.Common.{length, arith, lt-ltb}
-use Rattle.nodes.proofs.Making.{room}
-use Rattle.nodes.proofs.Quicks.{first, no_root, spent, refused_here, on_to, stops}
+use Rattle.std.proofs.Common.{arith}
+use Rattle.nodes.proofs.Quicks.{no_root, spent, refused_here, on_to, stops}
 use Rattle.nodes.proofs.whole.Sections.walk_whole.Goals as goal
 
 pub returns-then-count-root : goal.returns-then-count-root
 returns-then-count-root c = let a = c.args in record { said = no_root a.self.now.nodes.now a.self.now.planes.now a.self.now.render a.root a.point (omega (arith, c.if-count-root.true, c.node_count-count.ensures)); bounded = omega arith }
 
-pub loop-visits-init : goal.loop-visits-init
-loop-visits-init c = let a = c.args in (omega (arith, c.if-count-root.false, c.node_count-count.ensures), omega arith, first a.self.now.nodes.now a.self.now.planes.now a.self.now.render a.root a.point)
-
-pub found_at-requires : goal.found_at-requires
-found_at-requires c = let a = c.args in room a.self.now.render c.loop-visits.node (length a.self.now.nodes.now) (lt-ltb _ _ c.loop-visits.invariant.0)
-
 pub returns-in_default : goal.returns-in_default
 returns-in_default c = let a = c.args in record { said = refused_here a.self.now.nodes.now a.self.now.planes.now a.self.now.render a.root a.point c.loop-visits.node c.loop-visits.visits c.loop-visits.invariant.2 c.loop-visits.invariant.0 (omega (arith, c.node_count-count.ensures)) c.found_at.result c.found_at.ensures _ c.in_default.is; bounded = omega arith }
 
-pub overflow_add-visits : goal.overflow_add-visits
-overflow_add-visits c = omega (arith, c.requires, c.node_count-count.ensures)
-
-pub stopped-requires : goal.stopped-requires
-stopped-requires c = omega (arith, c.requires, c.node_count-count.ensures)
-
 pub returns-then-count-word : goal.returns-then-count-word
 returns-then-count-word c = let a = c.args in record { said = stops a.self.now.nodes.now a.self.now.planes.now a.self.now.render a.root a.point c.loop-visits.node c.loop-visits.visits c.loop-visits.invariant.2 c.loop-visits.invariant.0 (omega (arith, c.node_count-count.ensures)) c.found_at.result c.found_at.ensures _ _ c.in-Ok.is _ c.word_ahead-word.ensures (omega (arith, c.requires, c.node_count-count.ensures)) (omega (arith, c.if-count-word.true, c.node_count-count.ensures)) _ c.stopped.ensures.said; bounded = c.stopped.ensures.bounded }
-
-pub loop-visits-smaller : goal.loop-visits-smaller
-loop-visits-smaller c = omega (arith, c.node_count-count.ensures)
 
 pub loop-visits-preserved : goal.loop-visits-preserved
 loop-visits-preserved c = let a = c.args in (omega (arith, c.if-count-word.false, c.node_count-count.ensures), omega (arith, c.node_count-count.ensures), on_to a.self.now.nodes.now a.self.now.planes.now a.self.now.render a.root a.point c.loop-visits.node c.loop-visits.visits c.loop-visits.invariant.2 c.loop-visits.invariant.0 (omega (arith, c.node_count-count.ensures)) c.found_at.result c.found_at.ensures _ _ c.in-Ok.is _ c.word_ahead-word.ensures (omega (arith, c.if-count-word.false, c.requires, c.node_count-count.ensures)))

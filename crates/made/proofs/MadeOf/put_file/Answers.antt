@@ -1,9 +1,9 @@
--- `made::put_file` meets its contract. Assumes nothing.
+-- `put_file` meets its contract. Assumes nothing.
 use Rattle.made.proofs.Whole.{file_is}
-use Rattle.made.proofs.put_file.Goals as goal
+use Rattle.made.proofs.MadeOf.put_file.Goals as goal
 
 pub returns : goal.returns
-returns c = file_is c.args.seed c.args.nodes c.args.buffer.now _ _ _ _ _ _ _ c.requires.1
+returns c = file_is c.args.self.seed c.args.self.nodes c.args.buffer.now _ _ _ _ _ _ _ c.requires
     c.put_front.ensures
     c.put_section.ensures
     c.put_words.ensures

@@ -1,5 +1,0 @@
--- The number is the measure of `put_decimal`. Assumes nothing.
-use Rattle.report.proofs.text.+put_decimal.Given as goal
-
-abbrev pub decreases-put_decimal : goal.decreases-put_decimal
-decreases-put_decimal l = l.n
