@@ -21,7 +21,8 @@ use nodes::table::{Tables, tables_of};
 use walk_words::{boundary_words, parts_words};
 use words::give;
 
-// The words of the end of a trace that is handed on by numbers: its plane is read by its number.
+// The words of the end of a trace that is handed on by numbers: its plane is read by its number. (`kind_words` of `walk_words` takes the end as a
+// record; here none is made.)
 fn met_words(file: &[u8], t: Tables, part: Went) -> [u64; 7]
     ensures { result ≡ Layout.kind_words (Traces.end_of file.now t part).kind }
 {

@@ -5,6 +5,7 @@
 ghost use Rattle.std.specs.Prelude.{◌≡◌};
 ghost use Rattle.words.specs.Words.{written};
 ghost use Rattle.format.specs.Answers.{answer_of};
+ghost use Rattle.ffi_hull.specs.Layout as Layout;
 ghost use Rattle.ffi_walks.specs.Calls as Calls;
 ghost use Rattle.ffi_walks.specs.Private as Private;
 ghost use Rattle.ffi_walks.specs.Quick as Quick;
@@ -83,18 +84,34 @@ fn leaf_words(found: (usize, u64)) -> [u64; 2]
     [leaf as u64, visits]
 }
 
-// The leaf and the visits: at once, or by `find_leaf_from`, whatever the file.
-#[inline(always)]
-fn leaf_at(file: &[u8], map: BspData, root: usize, point: Vector3) -> Answer<(usize, u64)>
-    ensures { answer_of result ≡ Private.leaf_asked file.now map root point }
+// The leaf by `find_leaf_from`, whatever the file. (A call, as `any_contents`.)
+#[inline(never)]
+fn any_leaf(file: &[u8], map: &[u32], root: usize, point: &[f32]) -> Answer<(usize, u64)>
+    ensures { answer_of result ≡ Private.leaf_asked file.now (Layout.walked_map map.now) root (Layout.point_at point.now 0) }
 {
-    if let Some(found) = quick_leaf(file, map, root, point) {
-        return Ok(found);
-    }
-    find_leaf_from(file, map, root, point)
+    find_leaf_from(
+        file,
+        layout::walked_map(map),
+        root,
+        layout::first_point(point),
+    )
 }
 
-// The contents by `contents_at_point`: whatever the file and the hull.
+// The leaf and the visits: at once, or whatever the file.
+#[inline(always)]
+fn leaf_at(file: &[u8], map: &[u32], root: usize, point: &[f32]) -> Answer<(usize, u64)>
+    ensures { answer_of result ≡ Private.leaf_asked file.now (Layout.walked_map map.now) root (Layout.point_at point.now 0) }
+{
+    let m = layout::walked_map(map);
+    if let Some(found) = quick_leaf(file, m, root, layout::first_point(point)) {
+        return Ok(found);
+    }
+    any_leaf(file, map, root, point)
+}
+
+// The contents by `contents_at_point`: whatever the file and the hull. (A call: in line it keeps the records of the map and the hull for the case
+// that nothing is said at once, and these are put aside before the walk.)
+#[inline(never)]
 fn any_contents(file: &[u8], map: &[u32], hull: &[u64], point: &[f32], out: &mut [u64]) -> u32
     ensures { written result out.new ≡ Calls.bsp_contents file.now map.now hull.now point.now out.old }
 {
@@ -130,7 +147,8 @@ pub fn find_leaf(file: &[u8], map: &[u32], root: u64, point: &[f32], out: &mut [
     if map.len() < 31 || point.len() < 3 || out.len() < 2 {
         return LIST_TOO_SHORT;
     }
-    let m = layout::walked_map(map);
-    let p = layout::first_point(point);
-    give_words(leaf_at(file, m, root as usize, p).map(leaf_words), out)
+    give_words(
+        leaf_at(file, map, root as usize, point).map(leaf_words),
+        out,
+    )
 }

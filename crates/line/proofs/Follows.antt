@@ -42,7 +42,7 @@ use Rattle.nodes.specs.declared.table.Tables.{Tables}
 use Rattle.nodes.specs.declared.read.Words.{Words as WordsT}
 use Rattle.nodes.proofs.Entering.{child_is}
 use Rattle.line.specs.Line.{fraction_at, plane_from, with_plane, Went, onward, stopped, refused, stretch, unset, near_part, far_part, point_at, crossing, into, tenth, contents_on, contents_at, contents_from, backed_off, back_off, into_leaf, on_child, blocked, beyond, past, line_from}
-use Rattle.line.specs.Private.{Cut, Keeps, Kept, from_front, Stops, ended, Crossed, Resumes, Blocks, Follows, word_went, word_look, past_waiting, near_side, beyond_it, beyond_next, stand_went, Turned, Arrives, all_went}
+use Rattle.line.specs.Private.{Cut, Keeps, Kept, from_front, Stops, ended, Crossed, Resumes, Blocks, Follows, word_went, word_look, past_waiting, near_side, beyond_it, beyond_next, stand_went, Ended, Turned, Arrives, all_went, seen_line}
 use Rattle.line.specs.declared.ground.Ground.{Ground}
 use Rattle.line.specs.declared.state.Stretch.{Stretch}
 use Rattle.line.specs.declared.state.LineTrace.{LineTrace}
@@ -349,47 +349,60 @@ next_in x whole [] (suc n) = refl
 next_in x whole (y ∷ ys) zero = refl
 next_in x whole (y ∷ ys) (suc n) = next_in x whole ys n
 
-module _ {f : List ℕ} {t : Tables} {root : ℕ} {whole : Stretch} {at : Stand} {l : LineTrace} {y : Waiting} {looked : Bool} {all : Went} where
-  -- one turn came to an end
-  pub to_an_end : {ys : List Waiting} → Standing f t root whole ys at l y looked all → {w : ℕ} {r : Turn} → Turned f t at l looked (Some r) → r ≡ U.End w
-      → Standing f t root whole ys (record { word = w; left = at.left; part = at.part }) l y looked all
-  to_an_end S {w} T e =
-      let E : Turned f t at l looked (Some (U.End w)) = rw e at T in
-      record {
-        xs = S.xs;
-        its_planes = S.its_planes;
-        chain = S.chain;
-        to_is = S.to_is;
-        end_is = S.end_is;
-        x = S.x;
-        passed = S.passed;
-        follows = reach_end f t root S.xs at.left at.part at.word l S.x looked all S.follows E.0 w E.1;
-      }
+module _ {f : List ℕ} {t : Tables} {root : ℕ} {whole : Stretch} {at : Stand} {l : LineTrace} {y : Waiting} {looked : Bool} {all : Went} {ys : List Waiting} where
+  -- where the line stands once it has come to an end
+  at_end : Standing f t root whole ys at l y looked all → {w : ℕ} → Ended f t at w
+      → (32768 ≤ w) × Standing f t root whole ys (record { word = w; left = at.left; part = at.part }) l y looked all
+  at_end S {w} (inl e) = (rw e.1 e.0, subst (λ (v : ℕ). Standing f t root whole ys (record { word = v; left = at.left; part = at.part }) l y looked all) (sym e.1) S)
+  at_end S {w} (inr e) = (
+    e.1.0,
+    record {
+      xs = S.xs;
+      its_planes = S.its_planes;
+      chain = S.chain;
+      to_is = S.to_is;
+      end_is = S.end_is;
+      x = S.x;
+      passed = S.passed;
+      follows = reach_end f t root S.xs at.left at.part at.word l S.x looked all S.follows e.0 w e.1;
+    },
+  )
 
+pub few_met : (f : List ℕ) (t : Tables) (at : Stand) (seen : ℕ) (looked : Bool) {m : ℕ} {r : Turn} → Turned f t at seen looked (Some r) → r ≡ U.Into m → m < 8
+few_met f t at seen looked {m} K e = let I : Turned f t at seen looked (Some (U.Into m)) = rw e at K in I.1.1.0
+
+module _ {f : List ℕ} {t : Tables} {root : ℕ} {whole : Stretch} {at : Stand} (q : Vector3) (seen : ℕ) {y : Waiting} {looked : Bool} {all : Went} where
   -- the line is blocked
-  pub is_stopped : {ys : List Waiting} → Standing f t root whole ys at l y looked all → {r : Turn} → Turned f t at l looked (Some r) → r ≡ U.Blocked
-      → (x : Cut) × (Kept x y × Blocks f t root x l all)
-  is_stopped S T e =
-      let B : Turned f t at l looked (Some U.Blocked) = rw e at T in
-      (S.x, (S.passed (looked_at looked _ B.1.1.1), end_blocks f t root S.xs at.left at.part at.word l S.x looked all S.follows B.0 B.1.0 B.1.1.0 B.1.1.1))
+  pub is_stopped : {ys : List Waiting} → Standing f t root whole ys at (seen_line q seen) y looked all → {r : Turn} → Turned f t at seen looked (Some r) → r ≡ U.Blocked
+      → (x : Cut) × (Kept x y × Blocks f t root x (seen_line q seen) all)
+  is_stopped S K e =
+      let B : Turned f t at seen looked (Some U.Blocked) = rw e at K in
+      let E = at_end S B.1.0 in
+      let M = B.1.1 in
+      let Z = E.1 in
+      (Z.x, (Z.passed (looked_at looked _ M.1.1), end_blocks f t root Z.xs at.left at.part B.0 (seen_line q seen) Z.x looked all Z.follows E.0 M.0 M.1.0 M.1.1))
 
   -- a leaf is traced into
-  goes_into : {ys : List Waiting} (S : Standing f t root whole ys at l y looked all) {m : LineTrace} {r : Turn} → Turned f t at l looked (Some r) → r ≡ U.Into m → Resumes f t root S.xs (onward m) all
-  goes_into S {m} T e =
-      let I : Turned f t at l looked (Some (U.Into m)) = rw e at T in
-      end_goes f t root S.xs at.left at.part at.word l S.x looked all S.follows I.0 I.1.0 I.1.1.0 I.1.1.1 m I.1.1.2
+  goes_into : {ys : List Waiting} → Standing f t root whole ys at (seen_line q seen) y looked all → {m : ℕ} {r : Turn} → Turned f t at seen looked (Some r) → r ≡ U.Into m
+      → (xs : List Cut) × (KeptAll xs ys × Chain whole xs × Resumes f t root xs (onward (seen_line q m)) all)
+  goes_into S {m} K e =
+      let I : Turned f t at seen looked (Some (U.Into m)) = rw e at K in
+      let E = at_end S I.1.0 in
+      let M = I.1.1.1 in
+      let Z = E.1 in
+      (Z.xs, (Z.its_planes, Z.chain, end_goes f t root Z.xs at.left at.part I.0 (seen_line q seen) Z.x looked all Z.follows E.0 M.0 M.1.0 M.1.1 (seen_line q m) (M.1.2 q)))
 
-  module _ (stack : List Waiting) (n : ℕ) (S : Standing f t root whole (drop n stack) at l y looked all) {r : Turn} (T : Turned f t at l looked (Some r)) where
+  module _ (stack : List Waiting) (n : ℕ) (S : Standing f t root whole (drop n stack) at (seen_line q seen) y looked all) {r : Turn} (K₀ : Turned f t at seen looked (Some r)) where
     -- a plane that is crossed: fewer calls are left below it; it is put before the others, and the line goes on before it
     module _ {w : WordsT} {front : Bool} {left : ℕ} {near : Stretch} (e : r ≡ U.Crossing w front left near) (most : at.left ≤ 512) where
-      crossing_lem : Turned f t at l looked (Some (U.Crossing w front left near))
-      crossing_lem = rw e at T
+      crossing_lem : Turned f t at seen looked (Some (U.Crossing w front left near))
+      crossing_lem = rw e at K₀
 
       pub fewer_left : left ≤ 512
       fewer_left = omega (arith, crossing_lem.1.1.1.2.0.falls, most)
 
       pub push : 0 < n → n ≤ length stack → {z : Waiting} → Keeps w front left near z → {next : Stand} → next ≡ near_side w front left near
-          → (next.left ≤ 512) × Standing f t root whole (drop (n - 1) (set stack (n - 1) z)) next l y looked all
+          → (next.left ≤ 512) × Standing f t root whole (drop (n - 1) (set stack (n - 1) z)) next (seen_line q seen) y looked all
       push more room {z} Z {next} is-next =
           let C = crossing_lem in
           let a = C.1.0 in
@@ -409,27 +422,27 @@ module _ {f : List ℕ} {t : Tables} {root : ℕ} {whole : Stretch} {at : Stand}
               x = S.x;
               passed = S.passed;
               follows =
-                  subst (λ (s : Stand). Follows f t root (cut ∷ S.xs) s.left s.part s.word l S.x looked all) (sym is-next)
-                  (reach_plane f t root S.xs at.left at.part at.word l S.x looked all S.follows C.0 most w a b left C.1.1.1.2 k refl cut refl near is_near (word_on w front) (ap (word_on w) in_front_lem));
+                  subst (λ (s : Stand). Follows f t root (cut ∷ S.xs) s.left s.part s.word (seen_line q seen) S.x looked all) (sym is-next)
+                  (reach_plane f t root S.xs at.left at.part at.word (seen_line q seen) S.x looked all S.follows C.0 most w a b left C.1.1.1.2 k refl cut refl near is_near (word_on w front) (ap (word_on w) in_front_lem));
             },
           )
 
     -- a leaf is traced into
-    module _ {m : LineTrace} (e : r ≡ U.Into m) where
+    module _ {m : ℕ} (e : r ≡ U.Into m) where
       -- none waits
-      pub last : length stack ≤ n → onward m ≡ all
-      last h = by S.xs (subst (KeptAll S.xs) (none_waits stack n h) S.its_planes) (goes_into S T e)
+      pub last : length stack ≤ n → onward (seen_line q m) ≡ all
+      last h = let X = goes_into S K₀ e in by X.0 (subst (KeptAll X.0) (none_waits stack n h) X.1.0) X.1.2
         where
-          by : (xs : List Cut) → KeptAll xs [] → Resumes f t root xs (onward m) all → onward m ≡ all
+          by : (xs : List Cut) → KeptAll xs [] → Resumes f t root xs (onward (seen_line q m)) all → onward (seen_line q m) ≡ all
           by [] k r = r
           by (x ∷ xs) k r = absurd k
 
       -- the first is taken, and the line goes on beyond it
-      past_it : (rest : List Waiting) (z : Waiting) (xs : List Cut) → KeptAll xs (z ∷ rest) → Chain whole xs → Resumes f t root xs (onward m) all
-          → (next : Stand) → next ≡ beyond_it z rest whole → (next.left ≤ 512) × Standing f t root whole rest next m z true all
+      past_it : (rest : List Waiting) (z : Waiting) (xs : List Cut) → KeptAll xs (z ∷ rest) → Chain whole xs → Resumes f t root xs (onward (seen_line q m)) all
+          → (next : Stand) → next ≡ beyond_it z rest whole → (next.left ≤ 512) × Standing f t root whole rest next (seen_line q m) z true all
       past_it rest z [] k c r next is-next = absurd k
       past_it rest z (x ∷ xs) k c r next is-next =
-          subst (λ (s : Stand). (s.left ≤ 512) × Standing f t root whole rest s m z true all) (sym (is-next ∙ far_is whole x z k.0 xs rest k.1 c.0 c.1)) (
+          subst (λ (s : Stand). (s.left ≤ 512) × Standing f t root whole rest s (seen_line q m) z true all) (sym (is-next ∙ far_is whole x z k.0 xs rest k.1 c.0 c.1)) (
             r.0,
             record {
               xs = xs;
@@ -439,20 +452,22 @@ module _ {f : List ℕ} {t : Tables} {root : ℕ} {whole : Stretch} {at : Stand}
               end_is = c.1;
               x = x;
               passed = λ e. k.0;
-              follows = resumes f t root x xs m all r _ refl _ refl;
+              follows = resumes f t root x xs (seen_line q m) all r _ refl _ refl;
             },
           )
 
       -- the next one that waits is looked up by `get` and `copied`
-      pub pop : n < length stack → (d : Waiting) {q : Option Waiting} (i : Option (Bor Waiting)) {next : Stand} → next ≡ beyond_next (get_or stack n d) q whole → q ≡ option_copied i → IsItemAt stack (n + 1) i
-          → (next.left ≤ 512) × Standing f t root whole (drop (n + 1) stack) next m (get_or stack n d) true all
-      pop h d {q} i {next} is-next is_q is_i =
-          past_it (drop (n + 1) stack) (get_or stack n d) S.xs (subst (KeptAll S.xs) (popped stack n d h) S.its_planes) S.chain (goes_into S T e) next
-          (is-next ∙ ap (λ (y : Option Waiting). beyond_next (get_or stack n d) y whole) (is_q ∙ got stack (n + 1) i is_i) ∙ next_in (get_or stack n d) whole stack (n + 1))
+      pub pop : n < length stack → (d : Waiting) {look : Option Waiting} (i : Option (Bor Waiting)) {next : Stand} → next ≡ beyond_next (get_or stack n d) look whole → look ≡ option_copied i → IsItemAt stack (n + 1) i
+          → (next.left ≤ 512) × Standing f t root whole (drop (n + 1) stack) next (seen_line q m) (get_or stack n d) true all
+      pop h d {look} i {next} is-next is_look is_i =
+          let X = goes_into S K₀ e in
+          past_it (drop (n + 1) stack) (get_or stack n d) X.0 (subst (KeptAll X.0) (popped stack n d h) X.1.0) X.1.1 X.1.2 next
+          (is-next ∙ ap (λ (y : Option Waiting). beyond_next (get_or stack n d) y whole) (is_look ∙ got stack (n + 1) i is_i) ∙ next_in (get_or stack n d) whole stack (n + 1))
 
 -- before anything is met
-pub starts : (f : List ℕ) (t : Tables) (root : ℕ) (at : Stand) (l : LineTrace) (y : Waiting) → Standing f t root at.part [] at l y false (word_went f t root at.left at.word at.part l)
-starts f t root at l y =
+pub starts : (f : List ℕ) (t : Tables) (root : ℕ) (at : Stand) (y : Waiting)
+    → Standing f t root at.part [] at (seen_line at.part.end 0) y false (word_went f t root at.left at.word at.part (unset at.part.end))
+starts f t root at y =
     record {
       xs = [];
       its_planes = tt;
@@ -469,18 +484,22 @@ from_root : (g : Ground) (s : Stretch) (l : LineTrace) → g.root < 32768 → wo
 from_root g s l h = ap (λ (y : Child End). on_child (Fast.table g.s.now g.t) (λ n s l. line_from (Fast.table g.s.now g.t) g.root 512 n s l) y s l) (word_node g.t.table g.root h)
 
 -- where the whole line comes to
-module _ (g : Ground) (p q : Vector3) {l : LineTrace} (is_l : l ≡ unset q) (h : g.root < 32768) where
-  whole_line_lem : stand_went g (record { word = g.root; left = 512; part = stretch zero32 one32 p q }) l ≡ all_went g p q
-  whole_line_lem = from_root g (stretch zero32 one32 p q) l h ∙ ap (line_from (Fast.table g.s.now g.t) g.root 512 g.root (stretch zero32 one32 p q)) is_l
+module _ (g : Ground) (p q : Vector3) (h : g.root < 32768) where
+  abbrev first : Stand
+  first = record { word = g.root; left = 512; part = stretch zero32 one32 p q }
 
-  module _ {r : Came} (is-r : Arrives g (record { word = g.root; left = 512; part = stretch zero32 one32 p q }) l (Some r)) where
-    pub came_through : {m : LineTrace} → r ≡ C.Through m → onward m ≡ all_went g p q
-    came_through e = rw e at is-r ∙ whole_line_lem
+  whole_line_lem : stand_went g first ≡ all_went g p q
+  whole_line_lem = from_root g (stretch zero32 one32 p q) (unset q) h
 
-    pub came_blocked : {y : Waiting} {m : LineTrace} → r ≡ C.Blocked y m → {u : Option LineTrace} → Stops g y m u → {n : LineTrace} → u ≡ Some n → stopped n ≡ all_went g p q
-    came_blocked {y} {m} e U {n} is_n =
-        let b : (x : Cut) × (Kept x y × Blocks g.s.now g.t g.root x m (stand_went g (record { word = g.root; left = 512; part = stretch zero32 one32 p q }) l)) = rw e at is-r in
-        subst (Stops g y m) is_n U b.0 b.1.0 b.1.1.0 b.1.1.1.0 ∙ b.1.1.1.1 ∙ whole_line_lem
+  module _ {r : Came} (is-r : Arrives g first (Some r)) where
+    pub came_through : {m : ℕ} → r ≡ C.Through m → {l : LineTrace} → l ≡ seen_line q m → onward l ≡ all_went g p q
+    came_through e is_l = ap onward is_l ∙ rw e at is-r ∙ whole_line_lem
+
+    pub came_blocked : {y : Waiting} {m : ℕ} → r ≡ C.Blocked y m → {l : LineTrace} → l ≡ seen_line q m → {u : Option LineTrace} → Stops g y l u → {n : LineTrace} → u ≡ Some n → stopped n ≡ all_went g p q
+    came_blocked {y} {m} e is_l {u} U {n} is_n =
+        let b : (x : Cut) × (Kept x y × Blocks g.s.now g.t g.root x (seen_line q m) (stand_went g first)) = rw e at is-r in
+        let V : Stops g y (seen_line q m) u = subst (λ (l : LineTrace). Stops g y l u) is_l U in
+        subst (Stops g y (seen_line q m)) is_n V b.0 b.1.0 b.1.1.0 b.1.1.1.0 ∙ b.1.1.1.1 ∙ whole_line_lem
 
 -- ---- where a line that is blocked stops
 

@@ -56,6 +56,24 @@ differ_is true false e = refl
 differ_is false true e = refl
 differ_is false false e = cc
 
+same_bits : (z x y : Bool) → x ≡ z → y ≡ z → not (beq x y) ≡ false
+same_bits true x y p q = rw (p, q) refl
+same_bits false x y p q = rw (p, q) refl
+
+other_bits : (z x y : Bool) → x ≡ z → y ≡ not z → not (beq x y) ≡ true
+other_bits true x y p q = rw (p, q) refl
+other_bits false x y p q = rw (p, q) refl
+
+-- as tests one after the other tell it: both ends on one side, and the child's word there; or the ends on two sides
+abbrev pub OnOne : Float → Float → WordsT → ℕ → Type 0
+OnOne a b w word = (not (beq (Ieee.le zero32 a) (Ieee.le zero32 b)) ≡ false) × (word ≡ word_on w (Ieee.le zero32 a))
+
+pub on_one : (a b : Float) (w : WordsT) (x : Bool) → Ieee.le zero32 a ≡ x → Ieee.le zero32 b ≡ x → {word r : ℕ} → r ≡ word_on w x → word ≡ r → OnOne a b w word
+on_one a b w x p q e f = (same_bits x (Ieee.le zero32 a) (Ieee.le zero32 b) p q, f ∙ e ∙ ap (word_on w) (sym p))
+
+pub on_two : (a b : Float) (x : Bool) → Ieee.le zero32 a ≡ x → Ieee.le zero32 b ≡ not x → not (beq (Ieee.le zero32 a) (Ieee.le zero32 b)) ≡ true
+on_two a b x p q = other_bits x (Ieee.le zero32 a) (Ieee.le zero32 b) p q
+
 pub other_side : (x : Bool) → Pl.side_if (not x) ≡ Pl.negated_side (Pl.side_if x)
 other_side true = refl
 other_side false = refl

@@ -1,7 +1,8 @@
 -- For the contracts of functions that no other crate can name; a reader of the calls may leave this file out.
 -- What the parts of the whole-line trace answer, in the terms of Line.antt.
-use Rattle.std.specs.Prelude.{Result, Ok, Err, Option, Some, None, ℕ, suc, ◌/◌, ◌%◌, ◌<◌, ◌≤◌, ◌≡◌, cond, true, false, Bool, not, ◌&&◌, List, [], ◌∷◌, ltb, eqb, Float}
+use Rattle.std.specs.Prelude.{Result, Ok, Err, Option, Some, None, ℕ, suc, ◌/◌, ◌%◌, ◌<◌, ◌≤◌, ◌≡◌, cond, true, false, Bool, not, ◌&&◌, List, [], ◌∷◌, ltb, leb, eqb, ◌⊎◌, Float}
 use Rattle.std.specs.Float.Ieee as Ieee
+use Rattle.math.specs.Vector as Vec
 use Rattle.math.specs.Vector.{zero32, one32}
 use Rattle.math.specs.Plane as Pl
 use Rattle.math.specs.declared.plane.Hyperplane.{Hyperplane}
@@ -11,6 +12,7 @@ use Rattle.format.specs.declared.refusal.Refusal.{Refusal}
 use Rattle.format.specs.Answer as Ans
 use Rattle.format.specs.Answer.{Answer, answer}
 use Rattle.format.specs.Contents as Contents
+use Rattle.format.specs.Contents.{code_of}
 use Rattle.format.specs.declared.contents.BspLeafContents.{BspLeafContents}
 use Rattle.format.specs.declared.contents.BspLeafContents.TheVariants.{Solid}
 use Rattle.walk.specs.Walk.{Entered}
@@ -21,7 +23,7 @@ use Rattle.nodes.specs.Fast as Fast
 use Rattle.nodes.specs.Fast.{word_on}
 use Rattle.nodes.specs.declared.table.Tables.{Tables}
 use Rattle.nodes.specs.declared.read.Words.{Words}
-use Rattle.line.specs.Line.{line_trace, Went, onward, stopped, refused, stretch, unset, line_from, across, into, into_leaf, contents_on, contents_from, contents_below, on_child, point_at, crossing, near_part, far_part, beyond, blocked, past}
+use Rattle.line.specs.Line.{line_trace, line_plane, Went, onward, stopped, refused, stretch, unset, line_from, across, into, into_leaf, contents_on, contents_from, contents_below, on_child, point_at, crossing, near_part, far_part, beyond, blocked, past}
 use Rattle.line.specs.declared.tracing.Going.{Going}
 use Rattle.line.specs.declared.tracing.Going.TheVariants as G
 use Rattle.line.specs.declared.ground.Ground.{Ground}
@@ -124,13 +126,13 @@ pub record Cut : Type 0 where
 
 -- whether the line comes from the front of a plane that waits
 abbrev pub from_front : Waiting → Bool
-from_front y = eqb (y.far / 65536 % 2) 1
+from_front y = leb 67108864 y.far
 
 -- y keeps the plane of a node that is crossed where the part `near` ends
 pub record Keeps (w : Words) (front : Bool) (left : ℕ) (near : Stretch) (y : Waiting) : Type 0 where
   pub plane_is : y.plane ≡ w.plane
-  pub word_is : y.far % 65536 ≡ word_on w (not front)
-  pub left_is : y.far / 131072 ≡ left
+  pub word_is : y.far / 1024 % 65536 ≡ word_on w (not front)
+  pub left_is : y.far % 1024 ≡ left
   pub side_is : from_front y ≡ front
   pub at_is : y.at ≡ near.to
   pub point_is : y.point ≡ near.end
@@ -167,7 +169,7 @@ abbrev pub near_side : Words → Bool → ℕ → Stretch → Stand
 near_side w front left near = record { word = word_on w front; left = left; part = near }
 
 abbrev pub far_side : Waiting → Float → Vector3 → Stand
-far_side y to end = record { word = y.far % 65536; left = y.far / 131072; part = stretch y.at to y.point end }
+far_side y to end = record { word = y.far / 1024 % 65536; left = y.far % 1024; part = stretch y.at to y.point end }
 
 -- beyond a plane, as far as the first plane that waits, or to the end of the whole line
 abbrev pub beyond_it : Waiting → List Waiting → Stretch → Stand
@@ -179,27 +181,44 @@ abbrev pub beyond_next : Waiting → Option Waiting → Stretch → Stand
 beyond_next x (Some y) whole = far_side x y.at y.point
 beyond_next x None whole = far_side x whole.to whole.end
 
--- one turn of the line: on to an end, to a plane that it crosses, into a leaf, or it is blocked
-abbrev pub Turned : List ℕ → Tables → Stand → LineTrace → Bool → Option Turn → Type 0
-Turned f t at l looked (Some (U.End w)) = (at.word < 32768) × Reaches f t at.word at.left at.part (Some (N.End w))
-Turned f t at l looked (Some (U.Crossing w front left near)) =
+-- what is set in a line to the point q, by what it has met as one number: 1 stands for Solid, 2 for Empty, 4 for any other contents
+abbrev pub seen_line : Vector3 → ℕ → LineTrace
+seen_line q n = line_trace one32 q (line_plane (Vec.vector zero32 zero32 zero32) zero32) (ltb n 2) (eqb (n % 2) 1) (eqb (n / 2 % 2) 1) (leb 4 n)
+
+-- m is what was met, n, and the contents of a code
+abbrev pub Meets : ℕ → ℕ → ℕ → Type 0
+Meets n code m = (q : Vector3) (c : BspLeafContents) → code ≡ code_of c → seen_line q m ≡ into c (seen_line q n)
+
+-- what comes of an end, by its word, with n met before: a leaf is traced into, with m met then; or the line is blocked
+abbrev pub Met : List ℕ → Tables → ℕ → ℕ → Bool → Option Turn → Type 0
+Met f t w n looked (Some (U.Into m)) =
+    (m < 8)
+    × ((c : BspLeafContents) × ((answer c ≡ Fast.contents_met f t w) × (looked && Contents.equal c Solid ≡ false) × ((q : Vector3) → seen_line q m ≡ into c (seen_line q n))))
+Met f t w n looked (Some U.Blocked) = (c : BspLeafContents) × ((answer c ≡ Fast.contents_met f t w) × (looked && Contents.equal c Solid ≡ true))
+Met f t w n looked (Some (U.Crossing x front left near)) = ⊥
+Met f t w n looked None = Unit {0}
+
+-- the end that the line comes to from where it stands: it stands at it, or its way down comes to it
+abbrev pub Ended : List ℕ → Tables → Stand → ℕ → Type 0
+Ended f t at w = ((32768 ≤ at.word) × (w ≡ at.word)) ⊎ ((at.word < 32768) × Reaches f t at.word at.left at.part (Some (N.End w)))
+
+-- one turn of the line: on to a plane that it crosses; into the leaf of the end that it comes to, or it is blocked there
+abbrev pub Turned : List ℕ → Tables → Stand → ℕ → Bool → Option Turn → Type 0
+Turned f t at n looked (Some (U.Crossing w front left near)) =
     (at.word < 32768)
     × ((a : Float) × ((b : Float) × ((front ≡ Ieee.le zero32 a) × (near ≡ near_part at.part (crossing a b)) × Reaches f t at.word at.left at.part (Some (N.Crossing w a b left)))))
-Turned f t at l looked (Some (U.Into m)) =
-    (32768 ≤ at.word)
-    × ((c : BspLeafContents) × ((answer c ≡ Fast.contents_met f t at.word) × (looked && Contents.equal c Solid ≡ false) × (m ≡ into c l)))
-Turned f t at l looked (Some U.Blocked) =
-    (32768 ≤ at.word) × ((c : BspLeafContents) × ((answer c ≡ Fast.contents_met f t at.word) × (looked && Contents.equal c Solid ≡ true)))
-Turned f t at l looked None = Unit {0}
+Turned f t at n looked (Some (U.Into m)) = (w : ℕ) × (Ended f t at w × Met f t w n looked (Some (U.Into m)))
+Turned f t at n looked (Some U.Blocked) = (w : ℕ) × (Ended f t at w × Met f t w n looked (Some U.Blocked))
+Turned f t at n looked None = Unit {0}
 
 -- what becomes of the line from where it stands, and where it comes to
-abbrev pub stand_went : Ground → Stand → LineTrace → Went
-stand_went g at l = word_went g.s.now g.t g.root at.left at.word at.part l
+abbrev pub stand_went : Ground → Stand → Went
+stand_went g at = word_went g.s.now g.t g.root at.left at.word at.part (unset at.part.end)
 
-abbrev pub Arrives : Ground → Stand → LineTrace → Option Came → Type 0
-Arrives g at l (Some (C.Through m)) = onward m ≡ stand_went g at l
-Arrives g at l (Some (C.Blocked y m)) = (x : Cut) × (Kept x y × Blocks g.s.now g.t g.root x m (stand_went g at l))
-Arrives g at l None = Unit {0}
+abbrev pub Arrives : Ground → Stand → Option Came → Type 0
+Arrives g at (Some (C.Through m)) = onward (seen_line at.part.end m) ≡ stand_went g at
+Arrives g at (Some (C.Blocked y m)) = (x : Cut) × (Kept x y × Blocks g.s.now g.t g.root x (seen_line at.part.end m) (stand_went g at))
+Arrives g at None = Unit {0}
 
 -- with a fraction and an end
 abbrev pub ended : Float → Vector3 → LineTrace → LineTrace

@@ -12,7 +12,7 @@ ghost use Rattle.line.specs.Private as Private;
 
 use crate::ground::Ground;
 use crate::state::{LineTrace, Stretch, crossing, plane_from};
-use crate::through::{Came, Stand, Waiting};
+use crate::through::{Came, Stand, Waiting, seen_line};
 use format::contents::BspLeafContents;
 use format::refusal::Answer;
 use format::section::BspData;
@@ -232,11 +232,11 @@ impl<'a> Ground<'a> {
                     end,
                 },
             };
-            match self.follow(first, LineTrace::unset(end)) {
+            match self.follow(first) {
                 None => {}
-                Some(Came::Through(line)) => return Ok(Going::On(line)),
-                Some(Came::Blocked(x, line)) => {
-                    if let Some(stopped) = self.stop_at(x, line) {
+                Some(Came::Through(seen)) => return Ok(Going::On(seen_line(end, seen))),
+                Some(Came::Blocked(x, seen)) => {
+                    if let Some(stopped) = self.stop_at(x, seen_line(end, seen)) {
                         return Ok(Going::Stopped(stopped));
                     }
                 }

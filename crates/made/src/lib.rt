@@ -19,7 +19,7 @@ use format::refusal::{Answer, Refusal};
 fn next(last: u32) -> u32
     ensures { result ≡ Map.next last }
 {
-    ((last as u64 * 1664525 + 1013904223) % 4294967296) as u32
+    last.wrapping_mul(1664525).wrapping_add(1013904223)
 }
 
 // Writes a number as four bytes at a place, the lowest first. (The room is a need: it is that of an index, which no struct would carry.)
@@ -30,7 +30,7 @@ fn put_word(n: u32, buffer: &mut [u8], at: usize)
     buffer[at..at + 4].copy_from_slice(&n.to_le_bytes());
 }
 
-// Writes numbers at a place, four bytes each, so that `copy_from_slice` does not take them as they are.
+// Writes numbers at a place, four bytes each. (They are no bytes, so `copy_from_slice` cannot take them.)
 #[tactic(auto, using(crate::proofs::Writing::put_next))]
 fn put_words(words: &[u32], buffer: &mut [u8], at: usize)
     requires { at + length words.now * 4 ≤ length buffer.old }

@@ -2,7 +2,7 @@
 -- Assumes nothing.
 use Rattle.std.specs.Prelude.{Option, Some, None}
 use Rattle.format.specs.declared.contents.BspLeafContents.{BspLeafContents}
-use Rattle.std.proofs.Common.{◌≡◌, ℕ, zero, suc, ◌+◌, ◌-◌, ◌/◌, ◌%◌, ◌<◌, ◌≤◌, Bool, true, false, cond, ltb, List, length, sym, refl, ap, ◌∙◌, subst, arith, w16, ltb-false, ltb-true, le-ltb, lt-ltb, ne_eqb}
+use Rattle.std.proofs.Common.{◌≡◌, ℕ, zero, suc, ◌+◌, ◌-◌, ◌*◌, ◌/◌, ◌%◌, ◌<◌, ◌≤◌, Bool, true, false, cond, ltb, List, length, sym, refl, ap, ◌∙◌, subst, arith, w16, ltb-false, ltb-true, le-ltb, lt-ltb, ne_eqb}
 use Rattle.format.specs.Answer as Ans
 use Rattle.format.specs.Answer.{answer}
 use Rattle.format.specs.Step.{ok, refused}
@@ -70,20 +70,24 @@ module _ (w : ℕ) where
   pub first_contents : 65530 ≤ w → w < 65536 → false ≡ invalid w
   first_contents a b = by_code (omega arith) false (few (65536 - w) (omega arith) (omega arith))
 
-  -- the words in the order of 14 more than each
-  module _ (fits : w < 65536) (x : ℕ) (is_x : x ≡ (w + 14) % 65536) where
-    pub turned_high : 32781 < x → true ≡ invalid w
-    turned_high h = too_high (omega arith) (omega arith)
+  -- the words with the bit of 8 taken away
+  module _ (fits : w < 65536) (x : ℕ) (is_x : x ≡ w - w % 16 / 8 * 8) where
+    by_run : 65522 ≤ x → (c : Bool) → ltb w 65528 ≡ c → false ≡ invalid w
+    by_run h true r = let m = ltb-true w 65528 r in a_current (omega arith) m
+    by_run h false r = let l = ltb-false w 65528 r in first_contents (omega arith) fits
 
-    module _ (h : x ≤ 32781) (y : ℕ) (is_y : (y + 6) % 65536 ≡ x) (fits-y : y < 65536) where
-      by_half : 2 ≤ y → (b : Bool) → ltb w 32768 ≡ b → (c : Bool) → ltb w 65528 ≡ c → false ≡ invalid w
-      by_half g true q c r = is_node (ltb-true w 32768 q)
-      by_half g false q true r = let l = ltb-false w 32768 q in let m = ltb-true w 65528 r in a_current (omega arith) m
-      by_half g false q false r = let l = ltb-false w 65528 r in first_contents (omega arith) fits
+    by_none : 32768 ≤ x → x < 65522 → (c : Bool) → ltb w 65522 ≡ c → true ≡ invalid w
+    by_none g h true r = let m = ltb-true w 65522 r in too_high (omega arith) m
+    by_none g h false r = let l = ltb-false w 65522 r in no_contents (omega arith) (omega arith)
 
-      pub turned_low : (b : Bool) → ltb y 2 ≡ b → b ≡ invalid w
-      turned_low true q = let g = ltb-true y 2 q in no_contents (omega arith) (omega arith)
-      turned_low false q = by_half (ltb-false y 2 q) (ltb w 32768) refl (ltb w 65528) refl
+    by_half : 32754 ≤ (x + 32768) % 65536 → (c : Bool) → ltb x 32768 ≡ c → false ≡ invalid w
+    by_half h true r = let m = ltb-true x 32768 r in is_node (omega arith)
+    by_half h false r = let l = ltb-false x 32768 r in by_run (omega arith) (ltb w 65528) refl
+
+    -- and 32768 less
+    pub lowered : (y : ℕ) → (y + 32768) % 65536 ≡ x → y < 65536 → (b : Bool) → ltb y 32754 ≡ b → b ≡ invalid w
+    lowered y q f true r = let m = ltb-true y 32754 r in by_none (omega arith) (omega arith) (ltb w 65522) refl
+    lowered y q f false r = let l = ltb-false y 32754 r in by_half (omega arith) (ltb x 32768) refl
 
 -- a child's word w
 module _ (s : List ℕ) (at w : ℕ) (e : w ≡ u16 s at) (fits : w < 65536) (h : at + 2 ≤ length s) where
@@ -127,6 +131,14 @@ module _ (n s : List ℕ) (a at p f b : ℕ) (w : Within n s a) (h : at + 8 ≤ 
   pub bad_plane : 2147483648 ≤ p → Ans.refused 23 ≡ clip_node_here s (a + at)
   unfolding clip_node_here collision_node_at
   bad_plane l = rw (index_not s (a + at) 10 (omega (arith, room)) (rw plane at l))
+
+  -- refused for its plane's number, or for what is read besides
+  pub unless_plane : (p < 2147483648 → Ans.refused 23 ≡ clip_node_here s (a + at)) → Ans.refused 23 ≡ clip_node_here s (a + at)
+  unless_plane k = by_sign (ltb p 2147483648) refl
+    where
+      by_sign : (c : Bool) → ltb p 2147483648 ≡ c → Ans.refused 23 ≡ clip_node_here s (a + at)
+      by_sign true q = k (ltb-true p 2147483648 q)
+      by_sign false q = bad_plane (ltb-false p 2147483648 q)
 
   module _ (l : p < 2147483648) (is_f : f ≡ u16 n (at + 4)) (fits-f : f < 65536) where
     front : f ≡ u16 s (a + at + 4)

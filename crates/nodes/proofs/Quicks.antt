@@ -2,12 +2,15 @@
 -- Assumes nothing.
 use Rattle.std.specs.Prelude.{Option, Some, None, Result, Ok, Err}
 use Rattle.std.specs.Borrow.{Bor}
-use Rattle.std.proofs.Common.{◌≡◌, ℕ, ◌+◌, ◌-◌, ◌*◌, ◌/◌, ◌%◌, ◌<◌, ◌≤◌, Bool, true, false, cond, ltb, List, length, sym, refl, ap, ◌∙◌, arith, ltb-false, ltb-true, ne_eqb}
+use Rattle.std.proofs.Common.{◌≡◌, ℕ, zero, suc, ◌+◌, ◌-◌, ◌*◌, ◌/◌, ◌%◌, ◌<◌, ◌≤◌, Bool, true, false, cond, ltb, List, length, get_or, sym, refl, ap, ◌∙◌, subst, arith, ltb-false, ltb-true, ne_eqb}
 use Rattle.format.specs.Answers.{answer_of}
 use Rattle.format.specs.Answer as Ans
 use Rattle.format.specs.Answer.{Answer, answer, then_answer}
 use Rattle.format.specs.Code.{contents_of}
+use Rattle.format.specs.Contents.{code_of}
 use Rattle.format.specs.declared.contents.BspLeafContents.{BspLeafContents}
+use Rattle.format.specs.declared.contents.BspLeafContents.TheVariants.{Empty, Solid, Water, Slime, Lava, Sky, Current0, Current90, Current180, Current270, CurrentUp, CurrentDown}
+use Rattle.format.proofs.Codes.{high}
 use Rattle.format.specs.declared.refusal.Refusal.{Refusal}
 use Rattle.math.specs.Plane as Pl
 use Rattle.math.specs.declared.vector.Vector3.{Vector3}
@@ -15,13 +18,14 @@ use Rattle.walk.specs.Walk.{with_visits, meet, walk}
 use Rattle.walk.specs.Private.{after}
 use Rattle.walk.proofs.Steps.{walk_outside, walk_spent}
 use Rattle.nodes.specs.Tables.{file_table}
-use Rattle.nodes.specs.Fast.{coded, end_of, is_render, leaf_contents_here, node_size, place_in, plane_here, table, contents_met}
+use Rattle.nodes.specs.Fast.{u32, coded, end_of, is_render, leaf_contents_here, node_size, place_in, plane_here, table, contents_met}
 use Rattle.nodes.specs.Walks.{are_whole, ends, child_toward, found_answer, made_from, MadeIn, node_bytes, onward_answer, plane_bytes, word_at}
 use Rattle.nodes.specs.Quick.{code_or, end_code, leaves_by, or_nothing, part_with, quick_answer, quick_in, QuickIn, quick_walk, said, tables_by, Whole, word_contents}
 use Rattle.nodes.specs.declared.read.Words.{Words}
 use Rattle.nodes.specs.declared.table.HullTable.{HullTable}
 use Rattle.nodes.specs.declared.table.Tables.{Tables}
 use Rattle.nodes.proofs.Making.{nodes_counted, none_of, made_toward, whole_answer}
+use Rattle.nodes.proofs.Leaves.{low_code, bad_code, bad_vis, no_vis, vis}
 use Rattle.nodes.proofs.Places.{none}
 use Rattle.nodes.proofs.Wholes.{whole_is, all_whole}
 use Rattle.nodes.proofs.Stepping.{at_first, step_refused, step_node, step_end}
@@ -135,7 +139,76 @@ module _ (s : List ℕ) (k : Bool) (a c b d : ℕ) (t : Tables) (is-t : t ≡ ta
     unfolding quick_walk
     by_table root p r q = ap (λ (x : Tables). quick_answer x.table r) (sym is-t) ∙ q ∙ sym (ap (λ (x : Bool). cond x (quick_in s t root p) (Ans.refused 0)) (sym is_whole ∙ on)) ∙ ap (λ (x : Tables). quick_walk s x root p) is-t
 
+    -- by the loop of the kind of nodes that k says
+    pub few_of : (j : Bool) → k ≡ j → length n / node_size j < 32768
+    few_of j q = subst (λ (x : Bool). length n / node_size x < 32768) q few
+
+    pub by_kind : (j : Bool) → k ≡ j → (root : ℕ) (p : Vector3) (r : ℕ) → QuickIn n m j root p r → quick_answer (file_table k) r ≡ quick_walk s (tables_by k a c b d) root p
+    by_kind j q root p r u = by_table root p r (subst (λ (x : Bool). QuickIn n m x root p r) (sym q) u s t of_table)
+
 -- ---- the code of an end
+
+-- contents have the number that they stand for
+pub code_is : (n : ℕ) (c : BspLeafContents) → contents_of n ≡ Some c → n ≡ code_of c
+unfolding contents_of
+code_is zero c e = let z : ◌≡◌ {A = ℕ} 0 1 = cc in absurd (omega arith)
+code_is (suc zero) c e = let q : Empty ≡ c = cc in ap code_of q
+code_is (suc (suc zero)) c e = let q : Solid ≡ c = cc in ap code_of q
+code_is (suc (suc (suc zero))) c e = let q : Water ≡ c = cc in ap code_of q
+code_is (suc (suc (suc (suc zero)))) c e = let q : Slime ≡ c = cc in ap code_of q
+code_is (suc (suc (suc (suc (suc zero))))) c e = let q : Lava ≡ c = cc in ap code_of q
+code_is (suc (suc (suc (suc (suc (suc zero)))))) c e = let q : Sky ≡ c = cc in ap code_of q
+code_is (suc (suc (suc (suc (suc (suc (suc zero))))))) c e = let z : ◌≡◌ {A = ℕ} 0 1 = cc in absurd (omega arith)
+code_is (suc (suc (suc (suc (suc (suc (suc (suc zero)))))))) c e = let z : ◌≡◌ {A = ℕ} 0 1 = cc in absurd (omega arith)
+code_is (suc (suc (suc (suc (suc (suc (suc (suc (suc zero))))))))) c e = let q : Current0 ≡ c = cc in ap code_of q
+code_is (suc (suc (suc (suc (suc (suc (suc (suc (suc (suc zero)))))))))) c e = let q : Current90 ≡ c = cc in ap code_of q
+code_is (suc (suc (suc (suc (suc (suc (suc (suc (suc (suc (suc zero))))))))))) c e = let q : Current180 ≡ c = cc in ap code_of q
+code_is (suc (suc (suc (suc (suc (suc (suc (suc (suc (suc (suc (suc zero)))))))))))) c e = let q : Current270 ≡ c = cc in ap code_of q
+code_is (suc (suc (suc (suc (suc (suc (suc (suc (suc (suc (suc (suc (suc zero))))))))))))) c e = let q : CurrentUp ≡ c = cc in ap code_of q
+code_is (suc (suc (suc (suc (suc (suc (suc (suc (suc (suc (suc (suc (suc (suc zero)))))))))))))) c e = let q : CurrentDown ≡ c = cc in ap code_of q
+code_is (suc (suc (suc (suc (suc (suc (suc (suc (suc (suc (suc (suc (suc (suc (suc n))))))))))))))) c e = let q : None ≡ Some c = sym (high (suc (suc (suc (suc (suc (suc (suc (suc (suc (suc (suc (suc (suc (suc (suc n))))))))))))))) (omega arith)) ∙ e in let z : ◌≡◌ {A = ℕ} 0 1 = cc in absurd (omega arith)
+
+-- the number where it stands for contents
+pub known : (n : ℕ) (x : Option BspLeafContents) → contents_of n ≡ x → (c : BspLeafContents) → x ≡ Some c → n ≡ code_or (said (contents_of n))
+known n x e c q = code_is n c (e ∙ q) ∙ ap (λ (y : Option BspLeafContents). code_or (said y)) (sym (e ∙ q))
+
+pub unknown : (n : ℕ) (x : Option BspLeafContents) → contents_of n ≡ x → x ≡ None → 0 ≡ code_or (said (contents_of n))
+unknown n x e q = ap (λ (y : Option BspLeafContents). code_or (said y)) (sym (e ∙ q))
+
+u32_small : (s : List ℕ) (at : ℕ) → ((i : ℕ) → get_or s i 0 < 256) → u32 s at < 4294967296
+unfolding u32
+u32_small s at f = omega (arith, f at, f (at + 1), f (at + 2), f (at + 3))
+
+-- the number of a leaf's contents is the file's, negated
+module _ (s : List ℕ) (at : ℕ) (h : at + 28 ≤ length s) (fits : (i : ℕ) → get_or s i 0 < 256) (c : BspLeafContents) (e : answer c ≡ leaf_contents_here s at) where
+  abbrev m : ℕ
+  m = 4294967295 - u32 s at + 1
+
+  not_refused : {A : Type 0} → Ans.refused 23 ≡ leaf_contents_here s at → A
+  not_refused q = let k : Ans.refused 23 ≡ answer c = q ∙ sym e in let z : ◌≡◌ {A = ℕ} 0 1 = cc in absurd (omega arith)
+
+  same_number : (d : BspLeafContents) → contents_of m ≡ Some d → answer d ≡ leaf_contents_here s at → m ≡ code_of c
+  same_number d q k = let u : answer d ≡ answer c = k ∙ sym e in let w : d ≡ c = cc in code_is m d q ∙ ap code_of w
+
+  module _ (l : 2147483648 ≤ u32 s at) where
+    by_offset : (d : BspLeafContents) → contents_of m ≡ Some d → (b : Bool) → ltb (u32 s (at + 4)) 2147483648 ≡ b → (k : Bool) → ltb (u32 s (at + 4)) 4294967295 ≡ k → m ≡ code_of c
+    by_offset d q true r k t = same_number d q (vis s at (u32 s at) (u32 s (at + 4)) h refl l (u32_small s at fits) m refl d q refl (ltb-true (u32 s (at + 4)) 2147483648 r))
+    by_offset d q false r true t = not_refused (bad_vis s at (u32 s at) (u32 s (at + 4)) h refl l (u32_small s at fits) m refl d q refl (ltb-false (u32 s (at + 4)) 2147483648 r) (ltb-true (u32 s (at + 4)) 4294967295 t))
+    by_offset d q false r false t = same_number d q (no_vis s at (u32 s at) (u32 s (at + 4)) h refl l (u32_small s at fits) m refl d q refl (ltb-false (u32 s (at + 4)) 4294967295 t) (u32_small s (at + 4) fits))
+
+    by_number : (x : Option BspLeafContents) → contents_of m ≡ x → m ≡ code_of c
+    by_number None q = not_refused (bad_code s at (u32 s at) 0 h refl l (u32_small s at fits) m refl q)
+    by_number (Some d) q = by_offset d q (ltb (u32 s (at + 4)) 2147483648) refl (ltb (u32 s (at + 4)) 4294967295) refl
+
+  by_sign : (b : Bool) → ltb (u32 s at) 2147483648 ≡ b → (r : ℕ) → (r + u32 s at) % 4294967296 ≡ 0 → r < 4294967296 → r ≡ code_of c
+  by_sign true q r f g = not_refused (low_code s at (u32 s at) 0 h refl (ltb-true (u32 s at) 2147483648 q))
+  by_sign false q r f g =
+      let l = ltb-false (u32 s at) 2147483648 q in
+      let k : r ≡ m = omega (arith, l, f, g, u32_small s at fits) in
+      k ∙ by_number l (contents_of m) refl
+
+  pub leaf_number : (x : ℕ) → x ≡ u32 s at → (r : ℕ) → (r + x) % 4294967296 ≡ 0 → r < 4294967296 → r ≡ code_or (leaf_contents_here s at)
+  leaf_number x is_x r f g = by_sign (ltb (u32 s at) 2147483648) refl r (rw is_x at f) g ∙ ap code_or e
 
 module _ (s : List ℕ) (a n w : ℕ) where
   abbrev leaf_there : Answer BspLeafContents

@@ -93,6 +93,14 @@ module _ (n s : List ℕ) (a at p : ℕ) (w : Within n s a) (h : at + 24 ≤ len
   unfolding render_node_here render_node_at
   bad_plane l = rw (index_not s (a + at) 10 (omega (arith, room)) (rw plane at l))
 
+  -- refused for its plane's number, or for what is read besides
+  pub unless_plane : (p < 2147483648 → Ans.refused 23 ≡ render_node_here s (a + at)) → Ans.refused 23 ≡ render_node_here s (a + at)
+  unless_plane k = by_sign (ltb p 2147483648) refl
+    where
+      by_sign : (c : Bool) → ltb p 2147483648 ≡ c → Ans.refused 23 ≡ render_node_here s (a + at)
+      by_sign true q = k (ltb-true p 2147483648 q)
+      by_sign false q = bad_plane (ltb-false p 2147483648 q)
+
   module _ (l : p < 2147483648) (v : ℕ) (is-v : v ≡ u16 n (at + 20)) where
     back_place : a + at + 4 + 2 ≡ a + at + 6
     back_place = omega arith

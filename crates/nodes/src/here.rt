@@ -11,39 +11,33 @@ use format::contents::BspLeafContents;
 use format::refusal::{Answer, Refusal};
 use math::{Hyperplane, Vector3};
 
-// Whether the word of a clip node's child is neither a node nor contents: the codes are 65536 less it, 1 to 6 and 9 to 14. With 14 added
-// to them, the words of these contents are 0 to 5 and 8 to 13, and the nodes 14 to 32781.
-#[tactic(auto, using(crate::proofs::Clips::turned_high, crate::proofs::Clips::turned_low))]
+// Whether the word of a clip node's child is neither a node nor contents: the codes are 65536 less it, 1 to 6 and 9 to 14. With the bit of 8
+// taken away both runs of codes are the words 65522 to 65527, and the words 32768 to 65521 are neither: one test, and so one branch.
 pub fn is_invalid(word: u16) -> bool
     ensures { result ≡ Fast.invalid word }
 {
-    let x = std::num::wrapping_add_u16(word, 14);
-    if 32781 < x {
-        return true;
-    }
-    let y = std::num::wrapping_sub_u16(x, 6);
-    y < 2
+    let lowered = word - word % 16 / 8 * 8;
+    lowered.wrapping_sub(32768) < 32754
 }
 
-// The words of a clip node, of a file that has the bytes at some place.
+// The words of a clip node, of a file that has the bytes at some place. (Here and below both numbers are read before any test, and the plane's
+// sign is tested last: where the number of planes is tested next, as in a walk, one test does for both.)
 pub fn clip_words(s: &[u8], at: usize) -> Answer<Words>
     requires { at + 8 ≤ length s.now }
     ensures { Fast.ReadsNode false s.now at result }
 {
     let plane = u32_at(s, at);
+    let both = u32_at(s, at + 4);
+    if is_invalid((both % 65536) as u16) {
+        return Err(Refusal::Unreadable);
+    }
+    if is_invalid((both / 65536) as u16) {
+        return Err(Refusal::Unreadable);
+    }
     if 2147483648 <= plane {
         return Err(Refusal::Unreadable);
     }
-    if is_invalid(u16_at(s, at + 4)) {
-        return Err(Refusal::Unreadable);
-    }
-    if is_invalid(u16_at(s, at + 6)) {
-        return Err(Refusal::Unreadable);
-    }
-    Ok(Words {
-        plane,
-        both: u32_at(s, at + 4),
-    })
+    Ok(Words { plane, both })
 }
 
 // The words of a render node, of a file that has the bytes at some place.
@@ -52,16 +46,14 @@ pub fn render_words(s: &[u8], at: usize) -> Answer<Words>
     ensures { Fast.ReadsNode true s.now at result }
 {
     let plane = u32_at(s, at);
-    if 2147483648 <= plane {
-        return Err(Refusal::Unreadable);
-    }
+    let both = u32_at(s, at + 4);
     if 32768 <= u16_at(s, at + 20) {
         return Err(Refusal::Unreadable);
     }
-    Ok(Words {
-        plane,
-        both: u32_at(s, at + 4),
-    })
+    if 2147483648 <= plane {
+        return Err(Refusal::Unreadable);
+    }
+    Ok(Words { plane, both })
 }
 
 // The coordinate along the axis 0, 1 or 2.
@@ -136,7 +128,7 @@ pub fn leaf_contents(s: &[u8], at: usize) -> Answer<BspLeafContents>
     if code < 2147483648 {
         return Err(Refusal::Unreadable);
     }
-    let contents = contents_of(4294967295 - code + 1).ok_or(Refusal::Unreadable)?;
+    let contents = contents_of(code.wrapping_neg()).ok_or(Refusal::Unreadable)?;
     if 2147483648 <= offset && offset < 4294967295 {
         return Err(Refusal::Unreadable);
     }

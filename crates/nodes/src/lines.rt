@@ -35,15 +35,37 @@ fn word_by_distance(bytes: &[u8; 20], words: Words, point: &[f32; 3]) -> u16
     words.on(Hyperplane::new(normal_of(bytes), dist).point_dist(point_of(point)) >= 0.0)
 }
 
+// How far two points are from a slanted plane: a call, so that what a way down goes by stays in registers.
+#[inline(never)]
+fn ends_slanted(bytes: &[u8; 20], p: &[f32; 3], q: &[f32; 3]) -> (f32, f32)
+    ensures { result ≡ Fast.two_dists (Fast.point_of p.now) (Fast.point_of q.now) (Fast.plane_here bytes.now 0) }
+{
+    ends_here(bytes, p, q)
+}
+
+// How far two points are from a plane.
+#[inline(always)]
+fn ends_apart(bytes: &[u8; 20], p: &[f32; 3], q: &[f32; 3]) -> (f32, f32)
+    ensures { result ≡ Fast.two_dists (Fast.point_of p.now) (Fast.point_of q.now) (Fast.plane_here bytes.now 0) }
+{
+    let dist = f32_at(bytes, 12);
+    let kind = u32_at(bytes, 16);
+    if kind < 3 {
+        return (p[kind as usize] - dist, q[kind as usize] - dist);
+    }
+    ends_slanted(bytes, p, q)
+}
+
 impl<'a> Sections<'a> {
     // What `segment_in` says, of points that are lists of three, so that a coordinate is found by its number and not by a branch
     // (docs/DECISIONS.md 102). The points of `segment_in` stay in registers, so there are two.
     #[tactic(auto, using(crate::proofs::Handed::none_found))]
+    #[inline(always)]
     pub fn ends_in(&self, index: usize, p: &[f32; 3], q: &[f32; 3]) -> Answer<(Words, f32, f32)>
         ensures { Walks.MadeOf (Walks.node_and_dists (Fast.point_of p.now) (Fast.point_of q.now)) self.now.render self.now.nodes.now self.now.planes.now index (λ t. Walks.segment_answer t result) }
     {
         let (words, plane) = self.found_in(index)?;
-        let (a, b) = ends_here(plane, p, q);
+        let (a, b) = ends_apart(plane, p, q);
         Ok((words, a, b))
     }
 

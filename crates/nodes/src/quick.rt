@@ -16,27 +16,34 @@ use crate::whole::{Sections, are_whole, node_bytes, plane_bytes};
 use format::code::contents_of;
 use math::{Hyperplane, Vector3};
 
-// The child's word on the point's side of a plane. The side is a branch, and another one for each axis: where the points move little from call
-// to call, as a game's do, a processor predicts it. (The readers of a plane here, in `here`, `lanes`, `lines`, `crossing` and `numbered` differ in
-// how they come by a coordinate, which is where their time goes: one reader for all would take that as a parameter, and be no plainer.)
-fn word_ahead(bytes: &[u8; 20], words: Words, point: Vector3) -> u16
-    ensures { result ≡ Walks.word_at words (Pl.point_side (Fast.plane_here bytes.now 0) point) }
+// Whether a point is in front of a slanted plane, or of one whose type is none. (A call: in line it takes the registers of the walk. And numbers go
+// in: from a list two coordinates are loaded at once, which waits for the two stores that made them.)
+#[inline(never)]
+fn is_ahead(bytes: &[u8; 20], x: f32, y: f32, z: f32) -> bool
+    ensures { Pl.side_if result ≡ Pl.point_side (Pl.new_plane (Fast.normal bytes.now 0) (Fast.f32 bytes.now 12)) (Vec.vector x y z) }
 {
-    let dist = f32_at(bytes, 12);
-    let kind = u32_at(bytes, 16);
-    if kind == 0 {
-        return words.on(point.x >= dist);
-    }
-    if kind == 1 {
-        return words.on(point.y >= dist);
-    }
-    if kind == 2 {
-        return words.on(point.z >= dist);
-    }
-    words.on(is_front(Hyperplane::new(normal_of(bytes), dist).point_side(point)))
+    let plane = Hyperplane::new(normal_of(bytes), f32_at(bytes, 12));
+    is_front(plane.point_side(Vector3 { x, y, z }))
 }
 
-// Where a walk of so many visits stops that does not go on to a node: at the end of a word, or refused.
+// The child's word on the point's side of a plane. The side is a branch: where the points move little from call to call, as a game's do, a
+// processor predicts it. The coordinate comes from a list and not by a branch for each axis: fewer branches a node, of which fewer are foreseen
+// wrongly. (The readers of a plane here, in `here`, `lanes`, `lines`, `crossing` and `numbered` differ in how they come by a coordinate, which is
+// where their time goes: one reader for all would take that as a parameter, and be no plainer.)
+#[inline(always)]
+fn word_ahead(bytes: &[u8; 20], words: Words, point: &[f32; 3]) -> u16
+    ensures { result ≡ Walks.word_at words (Pl.point_side (Fast.plane_here bytes.now 0) (Fast.point_of point.now)) }
+{
+    let kind = u32_at(bytes, 16);
+    if kind < 3 {
+        let dist = f32_at(bytes, 12);
+        return words.on(point[kind as usize] >= dist);
+    }
+    words.on(is_ahead(bytes, point[0], point[1], point[2]))
+}
+
+// Where a walk of so many visits stops that does not go on to a node: at the end of a word, or 0 where it is refused. (One number, as of
+// `walk_quick`.)
 fn stopped(word: u16, visits: u64) -> u64
     requires { visits < 4294967296 }
     ensures said { result ≡ (if nat_lt word 32768 then 0 else word * 4294967296 + visits) }
@@ -49,10 +56,12 @@ fn stopped(word: u16, visits: u64) -> u64
 }
 
 impl<'a> Sections<'a> {
-    // The walk by the bytes of the two sections. As a `for` over the visits it takes three instructions more a node, and some 4% more time.
-    fn walk_whole(&self, root: usize, point: Vector3) -> u64
+    // The walk by the bytes of the two sections, one number as of `walk_quick`. As a `for` over the visits it takes three instructions more a node, and
+    // some 4% more time.
+    #[inline(always)]
+    fn walk_whole(&self, root: usize, point: &[f32; 3]) -> u64
         requires { length self.now.nodes.now / Fast.node_size self.now.render < 32768 }
-        ensures said { Quick.QuickIn self.now.nodes.now self.now.planes.now self.now.render root point result }
+        ensures said { Quick.QuickIn self.now.nodes.now self.now.planes.now self.now.render root (Fast.point_of point.now) result }
         ensures bounded { result < 281474976710656 }
     {
         let count = self.node_count();
@@ -93,7 +102,9 @@ fn tables_by(render: bool, at: u32, count: u32, planes_at: u32, planes_count: u3
 // The walk of the point (x, y, z) down the render nodes or the clip nodes of a file, which lie from `at` on and are so many, and so the
 // planes: the end's word times 2^32 and the visits, or 0 where the file does not have all of them or the walk is refused. (The places, the counts
 // and the coordinates travel as numbers: lent as structs they are written to memory and read again before the walk begins. And one number is
-// answered, not an Option of two: an end's word is 32768 or more, so 0 is no answer.)
+// answered, not an Option of two: an end's word is 32768 or more, so 0 is no answer. A call: in line what its caller has at hand takes the
+// registers of the loops.)
+#[inline(never)]
 pub fn walk_quick(
     s: &[u8],
     at: u32,
@@ -114,37 +125,53 @@ pub fn walk_quick(
     if !whole {
         return 0;
     }
+    let nodes = node_bytes(s, t, whole);
+    let planes = plane_bytes(s, t, whole);
+    let point = [x, y, z];
+    // a loop for each kind of nodes: in one for both the kind is a branch more at each node
+    if render {
+        let sections = Sections {
+            nodes,
+            planes,
+            render: true,
+        };
+        return sections.walk_whole(root, &point);
+    }
     let sections = Sections {
-        nodes: node_bytes(s, t, whole),
-        planes: plane_bytes(s, t, whole),
-        render,
+        nodes,
+        planes,
+        render: false,
     };
-    sections.walk_whole(root, Vector3 { x, y, z })
+    sections.walk_whole(root, &point)
 }
 
-// The code of the leaf at a place, 0 where it is refused: no code is 0. (One number, as of the walk.)
+// The code of the leaf at a place, 0 where it is refused: no code is 0. (One number, as of the walk; that of the file, negated: nothing is looked
+// up.)
+#[inline(always)]
 fn leaf_code(s: &[u8], at: usize) -> u32
     requires { at + 28 ≤ length s.now }
     ensures { result ≡ Quick.code_or (Fast.leaf_contents_here s.now at) }
 {
     match leaf_contents(s, at) {
         Err(_) => 0,
-        Ok(contents) => contents.code(),
+        Ok(_) => u32_at(s, at).wrapping_neg(),
     }
 }
 
-// The code that stands in a clip node, 0 where the word is none: no code is 0.
+// The code that stands in a clip node, 0 where the word is none: no code is 0. (The number itself.)
 fn word_code(word: u16) -> u32
     ensures { result ≡ Quick.code_or (Quick.word_contents word) }
 {
-    match contents_of(65536 - (word as u32)) {
+    let code = 65536 - (word as u32);
+    match contents_of(code) {
         None => 0,
-        Some(contents) => contents.code(),
+        Some(_) => code,
     }
 }
 
 // The code of the contents of the end that a word stands for, with so many leaves from `at` on; 0 where it is refused. (No code is 0,
 // so one number is answered, as of the walk.)
+#[inline(always)]
 #[tactic(auto, using(crate::proofs::Quicks::code_leaf, crate::proofs::Quicks::code_word, crate::proofs::Places::within))]
 pub fn end_code(s: &[u8], at: u32, count: u32, render: bool, word: u16) -> u32
     ensures { result ≡ Quick.end_code s.now render at count word }

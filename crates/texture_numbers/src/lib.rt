@@ -12,7 +12,8 @@ use format::refusal::Answer;
 use format::section::BspData;
 use textures::earliest::{NONE, earliest_textures};
 
-// How many textures are static.
+// How many textures are static. (How long the list may be is asked here and below: it is the caller's, and a struct of it would be made for one
+// call.)
 fn count_static(list: &[u32]) -> u32
     requires { length list.now ≤ 2097152 }
     ensures { result ≡ count (has_none list.now) (length list.now) }

@@ -19,7 +19,7 @@ use format::refusal::{Answer, Refusal};
 use format::section::BspData;
 use texture_list::kind::{Kind, is_kind, key_of};
 
-// Said of a static texture in the place of the first one with its stem: no texture.
+// Said of a static texture in the place of the first one with its stem: no texture. (A number, since a list has one for each texture.)
 pub const NONE: u32 = u32::MAX;
 
 // The textures whose stems a table has.

@@ -43,23 +43,21 @@ fn nth_frame(s: &[u8], base: u32, count: u32, stem: Stem, letter: u8, k: u32) ->
     nth_such(count, k, |i| is_framed(s, base, i, stem, letter))
 }
 
-// A group of the frames of a stem. (No `Kind` of `texture_list`, which has all animated textures too: they have no ten letters.)
+// A group of the frames of a stem, with the first of its ten letters, '0' or 'a'. (No `Kind` of `texture_list`, which has all animated textures too:
+// they have no ten letters.)
 #[derive(Clone, Copy)]
 pub enum Group {
-    Primary,
-    Alternate,
+    Primary = 48,
+    Alternate = 97,
 }
 
 impl Group {
-    // The first of its ten letters.
+    // The first of its letters.
     #[tactic(auto, unfolding(crate::specs::Private::first_letter))]
     fn first_letter(self) -> u8
         ensures { (result ≡ first_letter self) × (result ≤ 97) }
     {
-        match self {
-            Self::Primary => b'0',
-            Self::Alternate => b'a',
-        }
+        self as u8
     }
 }
 

@@ -172,6 +172,7 @@ pub fn texture_number(s: &[u8], base: u32, count: u32, index: u32) -> u32
     let key = key_of(s, base, index);
     if is_kind(Kind::Animated, key) {
         let first = earliest_like(s, base, count, key.stem);
+        // no stem has so many before it, so all are counted
         let firsts = first_of(s, base, first, 4294967295);
         return count_static(s, base, count) + firsts.seen;
     }

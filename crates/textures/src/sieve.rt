@@ -50,7 +50,8 @@ fn may_have(sieve: &[u8], stem: Stem) -> bool
     sieve.len() <= place || sieve[place] != 0
 }
 
-// The node with a stem, if there is one; the table is searched only where it may have the stem.
+// The node with a stem, if there is one; the table is searched only where it may have the stem. (That it is a table of so many nodes is asked, as
+// of `insert`.)
 pub fn seek_sifted(t: &[u64], sieve: &[u8], stem: Stem) -> Option<usize>
     requires { (nodes : ℕ) × Tab.Table t.now nodes × Sieved t.now nodes sieve.now }
     ensures { SameNode result (Tab.seek t.now stem.start stem.end 145 0 0) }

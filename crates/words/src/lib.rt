@@ -133,7 +133,7 @@ pub fn flag_word(flag: bool) -> u64
     u64::from(flag)
 }
 
-// The number of a plane's kind: that of its axis, or 3 for a normal.
+// The number of a plane's kind: that of its axis, or 3 for a normal. (By a match: a variant with a value has no discriminant.)
 pub fn kind_number(alignment: Alignment) -> u32
     ensures { result ≡ Words.kind_of alignment }
 {

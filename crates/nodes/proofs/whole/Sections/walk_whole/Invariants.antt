@@ -2,13 +2,13 @@
 -- nodes as are left.
 -- Assumes nothing.
 use Rattle.std.proofs.Common.{◌-◌, ◌/◌, ◌<◌, ◌≤◌, length}
-use Rattle.nodes.specs.Fast.{node_size}
+use Rattle.nodes.specs.Fast.{node_size, point_of}
 use Rattle.nodes.proofs.Quicks.{Stands}
 use Rattle.nodes.proofs.whole.Sections.walk_whole.Given as goal
 
 abbrev pub invariant-loop-visits : goal.invariant-loop-visits
 invariant-loop-visits l =
-    (l.node < length l.self.nodes.now / node_size l.self.render) × (l.visits ≤ length l.self.nodes.now / node_size l.self.render) × Stands l.self.nodes.now l.self.planes.now l.self.render l.root l.point l.node l.visits
+    (l.node < length l.self.nodes.now / node_size l.self.render) × (l.visits ≤ length l.self.nodes.now / node_size l.self.render) × Stands l.self.nodes.now l.self.planes.now l.self.render l.root (point_of l.point) l.node l.visits
 
 abbrev pub decreases-loop-visits : goal.decreases-loop-visits
 decreases-loop-visits l = length l.self.nodes.now / node_size l.self.render - l.visits
