@@ -1,10 +1,14 @@
 -- A line as the library writes it, how long it is, and where it has room. Assumes nothing.
-use mathlib.Core.Path.{◌≡◌, sym, ap, ◌∙◌}
+use mathlib.Core.Path.{◌≡◌, refl, sym, ap, ◌∙◌}
 use mathlib.Core.List.{List, [], ◌∷◌, ◌++◌, append_assoc}
 use Prim.Native.Nat.{ℕ, ◌+◌, ◌%◌, ◌^◌, ◌<◌, ◌≤◌}
 use native.Mathlib.Omega.{arith}
-use borrow.Author.Tests.{le-leb, lt-leb}
-use lib.ListN.{length, length-append}
+use lib.ListN.{length, take, length-append}
+use lib.Seq.{take_all, length-take-le, take-append-le, take-append-add, take-take}
+use borrow.Author.Tests.{leb-true, leb-false}
+use mathlib.Core.Bool.{Bool, true, false, true≢false}
+use lib.Dec.{leb}
+use Rattle.std.proofs.Common.{Result, Ok, Err, is_ok, OnOk}
 use Rattle.std.specs.Fmt as Std
 use Rattle.std.proofs.lemmas.Fmt.{decimal_by_steps}
 use Rattle.report.specs.Text.{decimal, line, pushed}
@@ -17,39 +21,51 @@ decimal_same = decimal_by_steps (λ n ds. ds ≡ decimal n)
     (λ n ds h e. ap (λ (t : List ℕ). t ++ ((48 + n % 10) ∷ [])) e ∙ sym (decimal_more n h))
 
 -- how long a line is
-line_size : (name : List ℕ) (n : ℕ) → n < 2 ^ 32 → length (line name n) ≡ length name + (length (Std.decimal n) + 1)
-unfolding line
-line_size name n h =
-    rw (decimal_same n (omega arith)) (omega (arith, length-append name (decimal n ++ (10 ∷ [])), length-append (decimal n) (10 ∷ [])))
-
 pub line_length : (name : List ℕ) (n : ℕ) → n < 2 ^ 32 → length (line name n) ≤ length name + 11
 unfolding line
 line_length name n h =
     omega (arith, length-append name (decimal n ++ (10 ∷ [])), length-append (decimal n) (10 ∷ []), short 9 n (omega arith))
 
--- a piece that has room, and one that has none
+-- a piece that has room
 has_room : (t piece : List ℕ) → length t + length piece ≤ 129 → pushed t piece ≡ t ++ piece
 unfolding pushed
-has_room t piece h = simp (le-leb (length t + length piece) 129 h)
+has_room t piece h = take_all 129 (t ++ piece) (omega (arith, h, length-append t piece))
 
-no_room : (t piece : List ℕ) → 129 < length t + length piece → pushed t piece ≡ t
+-- what is said of an answer that is none of refusal
+pub on_ok : {T E : Type 0} (r : Result T E) (P : Type 0) → is_ok r ≡ true → OnOk r P → P
+on_ok (Ok x) P h p = p
+on_ok (Err e) P h p = absurd (true≢false (sym h))
+
+-- what `put_piece` goes by, with so much room left: the whole piece, or its beginning
+module _ (t piece : List ℕ) (r : ℕ) (room : r + length t ≡ 129) where
+  pub all_put : length piece ≤ r → t ++ piece ≡ pushed t piece
+  all_put h = sym (has_room t piece (omega (arith, room, h)))
+
+  pub part_put : t ++ take r piece ≡ pushed t piece
+  unfolding pushed
+  part_put = let all : length t + r ≡ 129 = omega (arith, room) in sym (take-append-add t piece r) ∙ ap (λ (k : ℕ). take k (t ++ piece)) all
+
+-- two pieces one after the other are one
+module _ (x b : List ℕ) where
+  both_by : (c : Bool) → leb (length x) 129 ≡ c → take 129 (take 129 x ++ b) ≡ take 129 (x ++ b)
+  both_by true e = ap (λ (w : List ℕ). take 129 (w ++ b)) (take_all 129 x (leb-true (length x) 129 e))
+  both_by false e =
+      let h = leb-false (length x) 129 e in
+      take-append-le 129 (take 129 x) b (omega (arith, length-take-le 129 x (omega (arith, h)))) ∙ take-take 129 129 x (omega arith) ∙ sym (take-append-le 129 x b (omega (arith, h)))
+
+  both : take 129 (take 129 x ++ b) ≡ take 129 (x ++ b)
+  both = both_by (leb (length x) 129) refl
+
+pushed_twice : (t a b : List ℕ) → pushed (pushed t a) b ≡ pushed t (a ++ b)
 unfolding pushed
-no_room t piece h = simp (lt-leb (length t + length piece) 129 h)
+pushed_twice t a b = both (t ++ a) b ∙ ap (take 129) (append_assoc t a b)
 
--- what `put_line` goes by: a line after a text where it has room, and the text as it is where it has none
-line_after : (t name : List ℕ) (n : ℕ) → n < 2 ^ 32 → t ++ name ++ Std.decimal n ++ (10 ∷ []) ≡ t ++ line name n
+-- what `put_line` goes by: the name, the digits and the newline are a line
+pub line_put : (t name ds : List ℕ) (n : ℕ) → n < 2 ^ 32 → ds ≡ Std.decimal n → pushed (pushed (pushed t name) ds) (10 ∷ []) ≡ pushed t (line name n)
 unfolding line
-line_after t name n h =
-    rw (decimal_same n (omega arith)) (append_assoc (t ++ name) (decimal n) (10 ∷ []) ∙ append_assoc t name (decimal n ++ (10 ∷ [])))
-
-module _ (t name ds : List ℕ) (n r : ℕ) (h : n < 2 ^ 32) (e : ds ≡ Std.decimal n) (room : r + length t ≡ 129) where
-  pub line_put : length name + length ds < r → t ++ name ++ ds ++ (10 ∷ []) ≡ pushed t (line name n)
-  line_put l =
-      ap (λ (w : List ℕ). t ++ name ++ w ++ (10 ∷ [])) e ∙ line_after t name n h
-      ∙ sym (has_room t (line name n) (omega (arith, line_size name n h, room, l, ap length e)))
-
-  pub line_left : r ≤ length name + length ds → t ≡ pushed t (line name n)
-  line_left l = sym (no_room t (line name n) (omega (arith, line_size name n h, room, l, ap length e)))
+line_put t name ds n h e =
+    ap (λ (w : List ℕ). pushed (pushed (pushed t name) w) (10 ∷ [])) (e ∙ decimal_same n (omega arith))
+    ∙ pushed_twice (pushed t name) (decimal n) (10 ∷ []) ∙ pushed_twice t name (decimal n ++ (10 ∷ []))
 
 -- a piece put after a text of at most so many bytes
 pub after : {t u v : List ℕ} (l : List ℕ) (n k : ℕ) → n + k ≤ 129 → (u ≡ t) × (length u ≤ n) → v ≡ pushed u l → length l ≤ k → (v ≡ t ++ l) × (length v ≤ n + k)

@@ -2,7 +2,7 @@
 use Prim.Native.Char.{code}
 use Prim.Native.String as Str
 use Prim.Native.String.{String}
-use Rattle.std.specs.Prelude.{ℕ, zero, suc, ◌+◌, ◌-◌, ◌*◌, ◌/◌, ◌%◌, cond, List, [], ◌∷◌, ◌++◌, ltb, leb, length}
+use Rattle.std.specs.Prelude.{ℕ, zero, suc, ◌+◌, ◌-◌, ◌*◌, ◌/◌, ◌%◌, cond, List, [], ◌∷◌, ◌++◌, ltb, take}
 
 -- the codes of a text's characters
 abbrev pub ascii : String → List ℕ
@@ -28,6 +28,6 @@ value before (d ∷ ds) = value (before * 10 + (d - 48)) ds
 unfoldable pub line : List ℕ → ℕ → List ℕ
 line name n = name ++ (decimal n ++ (10 ∷ []))
 
--- a text of at most 129 bytes with a piece after it, or as it was where the piece has no room
+-- a text with a piece after it, as far as 129 bytes go
 unfoldable pub pushed : List ℕ → List ℕ → List ℕ
-pushed text piece = cond (leb (length text + length piece) 129) (text ++ piece) text
+pushed text piece = take 129 (text ++ piece)

@@ -5,7 +5,7 @@ ghost use Rattle.std.specs.Prelude.{◌≡◌, ◌+◌, ◌≤◌, length};
 ghost use Rattle.report.specs.Text.{line, pushed};
 ghost use Rattle.report.specs.Report.{count_line, count_lines, report_text};
 
-use arrayvec::ArrayString;
+use arrayvec::ArrayVec;
 use format::section::{BspData, BspFileSectionId};
 use itoa::Buffer;
 use load::load;
@@ -16,28 +16,36 @@ use std::io::{Read, Write};
 const MOST_BYTES: usize = 65536;
 
 // A text in a value of a fixed size. No report is longer: seven names of 52 bytes together, and after each at most ten digits and a newline.
-type Text = ArrayString<129>;
+type Text = ArrayVec<u8, 129>;
 
-// Puts a line after the text, where it has room: a name and a number. (`itoa` writes the number, since `write!` answers a `Result` that no
-// contract says is `Ok`.)
-#[tactic(auto, using(crate::proofs::Lines::line_length))]
+// Puts a piece after the text, as much of it as has room.
+#[tactic(auto, using(crate::proofs::Lines::all_put, crate::proofs::Lines::part_put))]
+fn put_piece(text: &mut Text, piece: &[u8])
+    ensures { text.new.items ≡ pushed text.old.items piece.now }
+{
+    let room = text.remaining_capacity();
+    if piece.len() <= room {
+        let _ = text.try_extend_from_slice(piece);
+    } else {
+        let _ = text.try_extend_from_slice(&piece[..room]);
+    }
+}
+
+// The same for a line: a name and a number. (`itoa` writes the number, since `write!` answers a `Result` that no contract says is `Ok`.)
+#[tactic(auto, using(crate::proofs::Lines::line_length, crate::proofs::Lines::line_put))]
 pub fn put_line(text: &mut Text, name: &str, number: u32)
-    ensures put { text.new.bytes ≡ pushed text.old.bytes (line name.now number) }
+    ensures put { text.new.items ≡ pushed text.old.items (line name.now number) }
     ensures short { length (line name.now number) ≤ length name.now + 11 }
 {
-    let mut buffer = Buffer::new();
-    let digits = buffer.format(number);
-    if name.len() + digits.len() < text.remaining_capacity() {
-        text.push_str(name);
-        text.push_str(digits);
-        text.push('\n');
-    }
+    put_piece(text, name.as_bytes());
+    put_piece(text, Buffer::new().format(number).as_bytes());
+    put_piece(text, b"\n");
 }
 
 // Puts the line of a section: a name and how many records it has.
 #[tactic(auto, unfolding(crate::specs::Report::count_line))]
 fn put_count(text: &mut Text, name: &str, map: BspData, id: BspFileSectionId)
-    ensures put { text.new.bytes ≡ pushed text.old.bytes (count_line name.now id map) }
+    ensures put { text.new.items ≡ pushed text.old.items (count_line name.now id map) }
     ensures short { length (count_line name.now id map) ≤ length name.now + 11 }
 {
     put_line(text, name, map.section(id).record_count(id));
@@ -45,7 +53,7 @@ fn put_count(text: &mut Text, name: &str, map: BspData, id: BspFileSectionId)
 
 // A text of document 01's seven lines, each of which has room.
 fn put_counts(map: BspData) -> Text
-    ensures { result.bytes ≡ count_lines map }
+    ensures { result.items ≡ count_lines map }
 {
     let mut text = Text::new();
     put_count(&mut text, "planes ", map, BspFileSectionId::Planes);
@@ -66,11 +74,11 @@ fn put_counts(map: BspData) -> Text
 // The report on what was read.
 #[tactic(auto, using(crate::proofs::Lines::alone), unfolding(crate::specs::Report::report_text, crate::specs::Report::told))]
 pub fn report(input: &[u8]) -> Text
-    ensures { result.bytes ≡ report_text input.now }
+    ensures { result.items ≡ report_text input.now }
 {
     let mut text = Text::new();
     if MOST_BYTES < input.len() {
-        text.push_str("too long\n");
+        put_piece(&mut text, b"too long\n");
         return text;
     }
     match load(input) {
@@ -86,5 +94,5 @@ fn main(rt: HostRuntime) -> io::Result<()> {
     rt.stdin()
         .take(MOST_BYTES as u64 + 1)
         .read_to_end(&mut input)?;
-    rt.stdout().write_all(report(&input).as_bytes())
+    rt.stdout().write_all(report(&input).as_slice())
 }
