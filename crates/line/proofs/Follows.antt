@@ -42,7 +42,7 @@ use Rattle.nodes.specs.declared.table.Tables.{Tables}
 use Rattle.nodes.specs.declared.read.Words.{Words as WordsT}
 use Rattle.nodes.proofs.Entering.{child_is}
 use Rattle.line.specs.Line.{fraction_at, plane_from, with_plane, Went, onward, stopped, refused, stretch, unset, near_part, far_part, point_at, crossing, into, tenth, contents_on, contents_at, contents_from, backed_off, back_off, into_leaf, on_child, blocked, beyond, past, line_from}
-use Rattle.line.specs.Private.{Cut, Keeps, Kept, from_front, Stops, ended, Crossed, Resumes, Blocks, Follows, word_went, word_look, past_waiting, near_side, beyond_it, beyond_next, stand_went, Ended, Turned, Arrives, all_went, seen_line}
+use Rattle.line.specs.Private.{Cut, Keeps, Kept, from_front, ended, Crossed, Resumes, Blocks, Follows, word_went, word_look, past_waiting, near_side, beyond_it, beyond_next, stand_went, Ended, Turned, Arrives, all_went, seen_line}
 use Rattle.line.specs.declared.ground.Ground.{Ground}
 use Rattle.line.specs.declared.state.Stretch.{Stretch}
 use Rattle.line.specs.declared.state.LineTrace.{LineTrace}
@@ -494,12 +494,6 @@ module _ (g : Ground) (p q : Vector3) (h : g.root < 32768) where
   module _ {r : Came} (is-r : Arrives g first (Some r)) where
     pub came_through : {m : ℕ} → r ≡ C.Through m → {l : LineTrace} → l ≡ seen_line q m → onward l ≡ all_went g p q
     came_through e is_l = ap onward is_l ∙ rw e at is-r ∙ whole_line_lem
-
-    pub came_blocked : {y : Waiting} {m : ℕ} → r ≡ C.Blocked y m → {l : LineTrace} → l ≡ seen_line q m → {u : Option LineTrace} → Stops g y l u → {n : LineTrace} → u ≡ Some n → stopped n ≡ all_went g p q
-    came_blocked {y} {m} e is_l {u} U {n} is_n =
-        let b : (x : Cut) × (Kept x y × Blocks g.s.now g.t g.root x (seen_line q m) (stand_went g first)) = rw e at is-r in
-        let V : Stops g y (seen_line q m) u = subst (λ (l : LineTrace). Stops g y l u) is_l U in
-        subst (Stops g y (seen_line q m)) is_n V b.0 b.1.0 b.1.1.0 b.1.1.1.0 ∙ b.1.1.1.1 ∙ whole_line_lem
 
 -- ---- where a line that is blocked stops
 
