@@ -79,7 +79,8 @@ fn check_leaf(file: &[u8], map: BspData, index: usize) -> Answer<()>
     within(leaf.facelist_id, leaf.facelist_count, total)
 }
 
-// A model's face range. `check_leaf` differs in the record, its fields and the table: one function for both would take them as closures, and be no plainer.
+// A model's face range. `check_leaf` differs in the record, its fields and the table: one function for both would take them as closures, and be
+// no plainer.
 #[tactic(auto, unfolding(crate::specs::Accept::model_faces))]
 fn check_model_faces(file: &[u8], map: BspData, index: usize) -> Answer<()>
     ensures { answer_of result ≡ Acc.model_faces file.now map index }

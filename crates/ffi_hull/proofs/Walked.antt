@@ -1,6 +1,6 @@
 -- A walk or a trace goes by its own sections and, in a node table, by no bounds: what is left out of the map record and of the hull does
 -- not change the table. Assumes nothing.
-use Rattle.std.proofs.Common.{Ok, Err}
+use Rattle.std.proofs.Common.{Ok, Err, get_or-take, take}
 use Rattle.std.specs.Prelude.{Result}
 use Rattle.format.specs.Answers.{answer_of}
 use Prim.Native.Nat.{ℕ, ◌≤◌}
@@ -28,7 +28,7 @@ use Rattle.nodes.specs.declared.table.HullTable.{HullTable}
 use Rattle.nodes.specs.declared.table.HullTable.TheVariants.{Render, Clip, Box}
 use Rattle.hull.specs.Hull.{hull_table}
 use Rattle.hull.specs.declared.collision.BspCollisionHull.{BspCollisionHull}
-use Rattle.ffi_hull.specs.Layout.{hull_asked, hull_in, hull_from, flat_hull, walked_from, walked_map, asked}
+use Rattle.ffi_hull.specs.Layout.{hull_asked, hull_in, hull_from, node_hull, flat_hull, walked_from, walked_map, asked}
 
 -- ---- the map record
 
@@ -46,6 +46,19 @@ module _ (s ws : List ℕ) where
   pub same_leaf_table : Vector3 → leaf_table s (walked_map ws) ≡ leaf_table s (map_of ws)
   same_leaf_table p =
       sym (leaves_are s (walked_map ws) p p) ∙ ap (Fast.leaves s) (same_tables Render p p) ∙ leaves_are s (map_of ws) p p
+
+-- the sections that a walk or a trace goes by stand in the first 31 words
+pub first_words : (ws : List ℕ) → walked_map (take map_length ws) ≡ walked_map ws
+first_words ws = simp (
+  get_or-take 31 ws 2 0 (omega arith),
+  get_or-take 31 ws 3 0 (omega arith),
+  get_or-take 31 ws 10 0 (omega arith),
+  get_or-take 31 ws 11 0 (omega arith),
+  get_or-take 31 ws 18 0 (omega arith),
+  get_or-take 31 ws 19 0 (omega arith),
+  get_or-take 31 ws 20 0 (omega arith),
+  get_or-take 31 ws 21 0 (omega arith),
+)
 
 -- ---- the hull
 
@@ -65,6 +78,12 @@ table_flat : (s ws : List ℕ) (m : BspData) (b : Bool) → hull_table s m (flat
 unfolding table_of
 table_flat s ws m true = refl
 table_flat s ws m false = refl
+
+-- a hull over a node table goes by its root alone
+pub of_nodes : (s : List ℕ) (m : BspData) (b : Bool) (h : BspCollisionHull) → h.table ≡ file_table b → hull_table s m (node_hull b h.node_id) ≡ hull_table s m h
+unfolding table_of
+of_nodes s m true h e = rw e refl
+of_nodes s m false h e = rw e refl
 
 -- ---- a call over a hull: what f says of an answer is what it says and leaves, and 22 where a list is too short
 
@@ -115,21 +134,39 @@ module _ {A W : Type 0} (f : Answer A → W) (s ms ws : List ℕ) (fs : List Flo
     pub the_hull : (m : BspData) (h : BspCollisionHull) → r ≡ Ok (m, h) → f (ask (hull_table s m h) h.node_id) ≡ call
     the_hull m h q = ap (λ (x : Result (BspData × BspCollisionHull) Refusal). f (then_answer (answer_of x) its)) (sym q) ∙ is_call
 
--- and then there is room for the words that are asked for
+-- and then there are the words of a map record, and there is room for the words that are asked for
 module _ (ms ws : List ℕ) (fs : List Float) (least : ℕ) (out : List ℕ) (words : ℕ) where
-  last_test : {A : Type 0} (a b c d : Bool) (x : A) (y : Answer A) → cond a (refused 22) (cond b (refused 22) (cond c (refused 22) (cond d (refused 22) y))) ≡ answer x → d ≡ false
-  last_test true b c d x y e = let z : ◌≡◌ {A = ℕ} 0 1 = cc in absurd (omega arith)
-  last_test false true c d x y e = let z : ◌≡◌ {A = ℕ} 0 1 = cc in absurd (omega arith)
-  last_test false false true d x y e = let z : ◌≡◌ {A = ℕ} 0 1 = cc in absurd (omega arith)
-  last_test false false false true x y e = let z : ◌≡◌ {A = ℕ} 0 1 = cc in absurd (omega arith)
-  last_test false false false false x y e = refl
+  passed : {A : Type 0} (a b c d : Bool) (x : A) (y : Answer A) → cond a (refused 22) (cond b (refused 22) (cond c (refused 22) (cond d (refused 22) y))) ≡ answer x
+      → (a ≡ false) × (d ≡ false) × (y ≡ answer x)
+  passed true b c d x y e = let z : ◌≡◌ {A = ℕ} 0 1 = cc in absurd (omega arith)
+  passed false true c d x y e = let z : ◌≡◌ {A = ℕ} 0 1 = cc in absurd (omega arith)
+  passed false false true d x y e = let z : ◌≡◌ {A = ℕ} 0 1 = cc in absurd (omega arith)
+  passed false false false true x y e = let z : ◌≡◌ {A = ℕ} 0 1 = cc in absurd (omega arith)
+  passed false false false false x y e = (refl, refl, e)
 
-  pub room : (r : Result (BspData × BspCollisionHull) Refusal) → answer_of r ≡ asked ms ws fs least out words → (m : BspData) (h : BspCollisionHull) → r ≡ Ok (m, h) → words ≤ length out
-  unfolding asked
-  room r is-r m h q =
-      ltb-false (length out) words
-      (last_test (ltb (length ms) map_length) (ltb (length ws) hull_asked) (ltb (length fs) least) (ltb (length out) words) (m, h)
-      (mapped (λ x. (walked_map ms, x)) (walked_from ws)) (sym is-r ∙ ap answer_of q))
+  abbrev map_in : Answer (BspData × BspCollisionHull) → BspData
+  map_in (answer x) = x.0
+  map_in (refused n) = walked_map ms
+
+  with_its_map : (x : Answer BspCollisionHull) (y : Answer (BspData × BspCollisionHull)) → mapped (λ k. (walked_map ms, k)) x ≡ y → map_in y ≡ walked_map ms
+  with_its_map (answer k) y e = ap map_in (sym e)
+  with_its_map (refused n) y e = ap map_in (sym e)
+
+  module _ (r : Result (BspData × BspCollisionHull) Refusal) (is-r : answer_of r ≡ asked ms ws fs least out words) (m : BspData) (h : BspCollisionHull) (q : r ≡ Ok (m, h)) where
+    all_passed : (ltb (length ms) map_length ≡ false) × (ltb (length out) words ≡ false) × (◌≡◌ {A = Answer (BspData × BspCollisionHull)} (mapped (λ x. (walked_map ms, x)) (walked_from ws)) (answer (m, h)))
+    unfolding asked
+    all_passed =
+        passed (ltb (length ms) map_length) (ltb (length ws) hull_asked) (ltb (length fs) least) (ltb (length out) words) (m, h)
+        (mapped (λ x. (walked_map ms, x)) (walked_from ws)) (sym is-r ∙ ap answer_of q)
+
+    pub room : words ≤ length out
+    room = ltb-false (length out) words all_passed.1
+
+    pub whole_map : map_length ≤ length ms
+    whole_map = ltb-false (length ms) map_length all_passed.0
+
+    pub its_map : m ≡ walked_map ms
+    its_map = with_its_map (walked_from ws) (answer (m, h)) all_passed.2
 
 -- ---- a call that asks something of a hull by words: its four lists are long enough
 

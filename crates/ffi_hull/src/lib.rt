@@ -13,7 +13,6 @@ pub mod layout;
 // (A call's lists and numbers stand one by one, as in C.)
 
 // The hull of a model. 22: a map of fewer than 31 words or a list of fewer than 11.
-#[tactic(auto, using(words::proofs::Giving::told_given), unfolding(crate::specs::Calls::bsp_hull))]
 pub fn hull_of_model(file: &[u8], map: &[u32], model: u64, index: u64, hull: &mut [u64]) -> u32
     ensures { written result hull.new ≡ Calls.bsp_hull file.now map.now model index hull.old }
 {
@@ -29,7 +28,6 @@ pub fn hull_of_model(file: &[u8], map: &[u32], model: u64, index: u64, hull: &mu
 }
 
 // The hull of a box: mins, then maxs. 22: bounds of fewer than 6 floats or a list of fewer than 11.
-#[tactic(auto, using(words::proofs::Giving::told_given), unfolding(crate::specs::Calls::bsp_box))]
 pub fn hull_of_box(bounds: &[f32], hull: &mut [u64]) -> u32
     ensures { written result hull.new ≡ Calls.bsp_box bounds.now hull.old }
 {

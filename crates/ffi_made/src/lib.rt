@@ -13,7 +13,6 @@ pub const NODE_COUNT_OUTSIDE: u32 = Refusal::NodeCountOutside as u32;
 
 // The file of a made-up map at the front of `buffer`, and its length. 29: a node count outside 1 to 500; then 22: no word for the length
 // or a buffer that is too short.
-#[tactic(auto, using(words::proofs::Giving::counts, words::proofs::Giving::told_given), unfolding(crate::specs::Calls::bsp_made_up))]
 pub fn made_up(seed: u32, nodes: u64, buffer: &mut [u8], out: &mut [u64]) -> u32
     ensures { left result buffer.new out.new ≡ Calls.bsp_made_up seed nodes buffer.old out.old }
 {

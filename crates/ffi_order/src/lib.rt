@@ -85,7 +85,7 @@ fn words_of(traced: (Trace, u64)) -> [u64; 17]
 
 // The trace of a segment, from a place of a table in walking order. 22: a map of fewer than 31 words, a segment of fewer than 6 floats or a
 // list of fewer than 17.
-#[tactic(auto, unfolding(crate::specs::Calls::bsp_order_trace), using(crate::proofs::Laws::same_rows, words::proofs::Giving::told_given))]
+#[tactic(auto, unfolding(crate::specs::Calls::bsp_order_trace))]
 pub fn trace(
     file: &[u8],
     map: &[u32],

@@ -24,7 +24,7 @@ pub fn body_sizes(bytes: &[u8], sizes: &mut [u64]) -> u32
 
 // The hull of a model with these body sizes. 22: a map of fewer than 31 words, sizes of fewer than 12 or a list of fewer than 11; then as
 // the hull of a model.
-#[tactic(auto, using(words::proofs::Giving::told_given), unfolding(crate::specs::Calls::bsp_hull_sized))]
+#[tactic(auto, unfolding(crate::specs::Calls::bsp_hull_sized))]
 pub fn hull_sized(
     file: &[u8],
     map: &[u32],

@@ -10,7 +10,7 @@ use words::{LIST_TOO_SHORT, give_number, map_of};
 
 // The leaves that one of the players sees, at the front of `list`, and their count. 22: a map of fewer than 31 words or no word for the
 // count; 22 again, last of all: a list of too few entries.
-#[tactic(auto, using(words::proofs::Giving::counts, words::proofs::Giving::told_given), unfolding(crate::specs::Calls::bsp_pvs_team))]
+#[tactic(auto, unfolding(crate::specs::Calls::bsp_pvs_team))]
 pub fn pvs_team(
     file: &[u8],
     map: &[u32],

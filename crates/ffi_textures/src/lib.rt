@@ -29,7 +29,7 @@ fn texture_words(texture: Option<BspTexture>) -> [u64; 5]
 
 // The file's number of the frame at a place of a group, 0 the primary one and 1 the alternate one, of the texture of a new number. 22: a map
 // of fewer than 31 words or no word for the answer.
-#[tactic(auto, using(words::proofs::Giving::told_given), unfolding(crate::specs::Calls::bsp_texture_frame))]
+#[tactic(auto, unfolding(crate::specs::Calls::bsp_texture_frame))]
 pub fn frame(file: &[u8], map: &[u32], number: u64, group: u32, place: u64, out: &mut [u64]) -> u32
     ensures { written result out.new ≡ Calls.bsp_texture_frame file.now map.now number group place out.old }
 {
@@ -41,7 +41,7 @@ pub fn frame(file: &[u8], map: &[u32], number: u64, group: u32, place: u64, out:
 
 // The file's number of the static texture of a new number. 22: a map of fewer than 31 words or no word for the answer.
 // In the shape of `numbers` and `frame`: a function that takes what each asks as a closure would need clauses of its own, and they have two lines.
-#[tactic(auto, using(words::proofs::Giving::told_given), unfolding(crate::specs::Calls::bsp_texture_static))]
+#[tactic(auto, unfolding(crate::specs::Calls::bsp_texture_static))]
 pub fn static_number(file: &[u8], map: &[u32], number: u64, out: &mut [u64]) -> u32
     ensures { written result out.new ≡ Calls.bsp_texture_static file.now map.now number out.old }
 {

@@ -11,7 +11,7 @@ use words::{LIST_TOO_SHORT, NO_SUCH_RECORD, give_number, map_of};
 
 // The tree check from a root of a node table: the tree's height. 22: a map of fewer than 31 words or no word for the height; 20: a table
 // above 2.
-#[tactic(auto, unfolding(crate::specs::Calls::bsp_tree_check), using(words::proofs::Giving::told_given))]
+#[tactic(auto, unfolding(crate::specs::Calls::bsp_tree_check))]
 pub fn tree_check(
     file: &[u8],
     map: &[u32],

@@ -10,7 +10,7 @@ use words::{LIST_TOO_SHORT, give_number, map_of};
 
 // The leaves that can be seen from a leaf, at the front of `list`, and their count. 22: a map of fewer than 31 words or no word for the
 // count; 22 again, last of all: a list of too few entries.
-#[tactic(auto, using(words::proofs::Giving::counts, words::proofs::Giving::told_given), unfolding(crate::specs::Calls::bsp_pvs))]
+#[tactic(auto, unfolding(crate::specs::Calls::bsp_pvs))]
 pub fn pvs(
     file: &[u8],
     map: &[u32],

@@ -2,7 +2,7 @@
 -- Assumes nothing.
 use Rattle.std.specs.Prelude.{Option, Some, None}
 use Rattle.std.proofs.Common.{ne_eqb}
-use Prim.Native.Nat.{ℕ, ◌-◌, ◌/◌, ◌%◌, ◌<◌, ◌≤◌}
+use Prim.Native.Nat.{ℕ, ◌+◌, ◌-◌, ◌*◌, ◌/◌, ◌%◌, ◌<◌, ◌≤◌}
 use native.Mathlib.Omega.{arith}
 use mathlib.Core.Bool.{Bool, true, false, cond}
 use mathlib.Core.List.{List}
@@ -95,6 +95,10 @@ module _ (s : List ℕ) (m : BspData) (a b : Vector3) (root : ℕ) (p : Vector3)
   its_table true = refl
   its_table false = refl
 
+  its_leaves : (k : Bool) (w : ℕ) → end_code s k m.leaves.offset (m.leaves.size / 28) w ≡ end_code s k (tables_of m (file_table k) a b).leaves.at (tables_of m (file_table k) a b).leaves.count w
+  its_leaves true w = refl
+  its_leaves false w = refl
+
   module _ (tab : HullTable) (k : Bool) (is_k : k ≡ is_render tab) (no_box : is_box tab ≡ false) (t : Tables) (is-t : t ≡ tables_of m (file_table k) a b) (end : ℕ)
       (is_end : quick_answer (file_table k) end ≡ quick_walk s (tables_by k t.nodes.at t.nodes.count t.planes.at t.planes.count) root p) where
     abbrev u : Tables
@@ -121,7 +125,7 @@ module _ (s : List ℕ) (m : BspData) (a b : Vector3) (root : ℕ) (p : Vector3)
         none code_and_visits walked (are_whole u (length s)) (with_visits (point_walk (ends T) root p)) (ap (quick_answer (file_table k)) (sym e) ∙ said) (λ n q. point_refused T p root n q)
         ∙ of_walk
 
-    module _ (h : end ≡ 0 → ⊥) (code : ℕ) (is_code : code ≡ end_code s k t.leaves.at t.leaves.count (end / 4294967296)) where
+    module _ (h : end ≡ 0 → ⊥) (code : ℕ) (is_code : code ≡ end_code s k m.leaves.offset (m.leaves.size / 28) (end / 4294967296)) where
       abbrev w : ℕ
       w = end / 4294967296
 
@@ -136,7 +140,7 @@ module _ (s : List ℕ) (m : BspData) (a b : Vector3) (root : ℕ) (p : Vector3)
 
       of_end : code ≡ code_or (meet T (end_of u.table w))
       unfolding contents_met
-      of_end = is_code ∙ ap (λ (x : Tables). end_code s k x.leaves.at x.leaves.count w) is-t ∙ code_said s m a b k w
+      of_end = is_code ∙ its_leaves k w ∙ code_said s m a b k w
 
       whole : answered code_and_visits walked ≡ at_once tab
       whole = ap (λ (x : Bool). cond x (answered code_and_visits walked) None) its.0 ∙ of_walk
@@ -187,24 +191,24 @@ module _ (s : List ℕ) (m : BspData) (root : ℕ) (p : Vector3) where
       whole-leaf : answered (λ a. a) to_leaf ≡ leaf_once
       whole-leaf = ap (λ (x : Bool). cond x (answered (λ a. a) to_leaf) None) its-leaf.0 ∙ of_leaf
 
-      counts : t.leaves.count ≡ u-leaf.leaves.count
-      counts = ap (λ (x : Tables). x.leaves.count) is-t
+      abbrev many : ℕ
+      many = m.leaves.size / 28
 
-      outside : t.leaves.count ≤ n → meet S (end_of Render (end / 4294967296)) ≡ Ans.refused 30
+      outside : many ≤ n → meet S (end_of Render (end / 4294967296)) ≡ Ans.refused 30
       unfolding meet
-      outside l = simp (le-ltb n u-leaf.leaves.count (omega (arith, l, counts)))
+      outside l = simp (le-ltb n many l)
 
-      inside : n < t.leaves.count → meet S (end_of Render (end / 4294967296)) ≡ answer n
+      inside : n < many → meet S (end_of Render (end / 4294967296)) ≡ answer n
       unfolding meet
-      inside l = simp (lt-ltb n u-leaf.leaves.count (omega (arith, l, counts)))
+      inside l = simp (lt-ltb n many l)
 
-      pub no_leaf : t.leaves.count ≤ n → None ≡ leaf_once
+      pub no_leaf : m.leaves.size < n * 28 + 28 → None ≡ leaf_once
       no_leaf l =
-          ap (answered (λ a. a)) (point_unmet S p root (end_of Render (end / 4294967296)) (end % 4294967296) 30 its-leaf.1 (outside l)) ∙ whole-leaf
+          ap (answered (λ a. a)) (point_unmet S p root (end_of Render (end / 4294967296)) (end % 4294967296) 30 its-leaf.1 (outside (omega (arith, l)))) ∙ whole-leaf
 
-      pub has_leaf : n < t.leaves.count → Some (n, end % 4294967296) ≡ leaf_once
+      pub has_leaf : n * 28 + 28 ≤ m.leaves.size → Some (n, end % 4294967296) ≡ leaf_once
       has_leaf l =
-          ap (answered (λ a. a)) (point_met S p root (end_of Render (end / 4294967296)) (end % 4294967296) n its-leaf.1 (inside l)) ∙ whole-leaf
+          ap (answered (λ a. a)) (point_met S p root (end_of Render (end / 4294967296)) (end % 4294967296) n its-leaf.1 (inside (omega (arith, l)))) ∙ whole-leaf
 
 -- ---- what was said at once was answered
 

@@ -2,16 +2,15 @@
 // A call's lists stand one by one, as in `ffi`: the interface for C has no records.
 #![tactic(auto)]
 
-ghost use Rattle.std.specs.Prelude.{◌≡◌};
+ghost use Rattle.std.specs.Prelude.{◌≡◌, true, false};
 ghost use Rattle.words.specs.Words.{written};
-ghost use Rattle.format.specs.Answers.{answer_of};
+ghost use Rattle.math.specs.Vector as Vec;
 ghost use Rattle.ffi_hull.specs.Layout as Layout;
 ghost use Rattle.ffi_walks.specs.Calls as Calls;
 ghost use Rattle.ffi_walks.specs.Private as Private;
 ghost use Rattle.ffi_walks.specs.Quick as Quick;
 
 use ffi_hull::layout;
-use format::refusal::Answer;
 use format::section::BspData;
 use hull::collision::BspCollisionHull;
 use hull::point::{contents_at_point, find_leaf_from};
@@ -47,8 +46,8 @@ pub fn quick_contents(
     if end == 0 {
         return None;
     }
-    let l = t.leaves;
-    let code = end_code(file, l.at, l.count, drawn, (end / 4294967296) as u16);
+    let l = map.leaves;
+    let code = end_code(file, l.offset, l.size, drawn, (end / 4294967296) as u16);
     if code == 0 {
         return None;
     }
@@ -69,9 +68,9 @@ fn quick_leaf(file: &[u8], map: BspData, root: usize, point: Vector3) -> Option<
     if end == 0 {
         return None;
     }
-    let l = t.leaves;
+    let l = map.leaves;
     let leaf = 65535 - end / 4294967296;
-    if (l.count as u64) <= leaf {
+    if (l.size as u64) < leaf * 28 + 28 {
         return None;
     }
     Some((leaf as usize, end % 4294967296))
@@ -86,33 +85,107 @@ fn leaf_words(found: (usize, u64)) -> [u64; 2]
 
 // The leaf by `find_leaf_from`, whatever the file. (A call, as `any_contents`.)
 #[inline(never)]
-fn any_leaf(file: &[u8], map: &[u32], root: usize, point: &[f32]) -> Answer<(usize, u64)>
-    ensures { answer_of result ≡ Private.leaf_asked file.now (Layout.walked_map map.now) root (Layout.point_at point.now 0) }
+fn any_leaf(file: &[u8], map: &[u32], root: usize, x: f32, y: f32, z: f32, out: &mut [u64]) -> u32
+    ensures { written result out.new ≡ Private.leaf_told file.now (Layout.walked_map map.now) root (Vec.vector x y z) out.old }
 {
-    find_leaf_from(
-        file,
-        layout::walked_map(map),
-        root,
-        layout::first_point(point),
+    let m = layout::walked_map(map);
+    give_words(
+        find_leaf_from(file, m, root, Vector3 { x, y, z }).map(leaf_words),
+        out,
     )
 }
 
-// The leaf and the visits: at once, or whatever the file.
-#[inline(always)]
-fn leaf_at(file: &[u8], map: &[u32], root: usize, point: &[f32]) -> Answer<(usize, u64)>
-    ensures { answer_of result ≡ Private.leaf_asked file.now (Layout.walked_map map.now) root (Layout.point_at point.now 0) }
+// The leaf and the visits: at once, or whatever the file. (A call that takes numbers in registers, and to which `find_leaf` goes on without
+// coming back.)
+#[inline(never)]
+fn leaf_at(file: &[u8], map: &[u32], root: usize, x: f32, y: f32, z: f32, out: &mut [u64]) -> u32
+    ensures { written result out.new ≡ Private.leaf_told file.now (Layout.walked_map map.now) root (Vec.vector x y z) out.old }
 {
     let m = layout::walked_map(map);
-    if let Some(found) = quick_leaf(file, m, root, layout::first_point(point)) {
-        return Ok(found);
+    if let Some(found) = quick_leaf(file, m, root, Vector3 { x, y, z }) {
+        return give(&leaf_words(found), out);
     }
-    any_leaf(file, map, root, point)
+    any_leaf(file, map, root, x, y, z, out)
 }
 
-// The contents by `contents_at_point`: whatever the file and the hull. (A call: in line it keeps the records of the map and the hull for the case
-// that nothing is said at once, and these are put aside before the walk.)
+// The contents by `contents_at_point`: whatever the file. (A call: what is said at once is not put aside for it.)
 #[inline(never)]
-fn any_contents(file: &[u8], map: &[u32], hull: &[u64], point: &[f32], out: &mut [u64]) -> u32
+fn any_contents(
+    file: &[u8],
+    map: &[u32],
+    render: bool,
+    root: usize,
+    x: f32,
+    y: f32,
+    z: f32,
+    out: &mut [u64],
+) -> u32
+    ensures { written result out.new ≡ Private.contents_told file.now (Layout.walked_map map.now) (Layout.node_hull render root) (Vec.vector x y z) out.old }
+{
+    let m = layout::walked_map(map);
+    let h = layout::node_hull(render, root);
+    give_words(
+        contents_at_point(file, m, h, Vector3 { x, y, z }).map(contents_words),
+        out,
+    )
+}
+
+// The contents at a point by the render nodes or the clip nodes from a root on: at once, or whatever the file.
+#[inline(always)]
+fn contents_from(
+    file: &[u8],
+    map: &[u32],
+    render: bool,
+    root: usize,
+    x: f32,
+    y: f32,
+    z: f32,
+    out: &mut [u64],
+) -> u32
+    ensures { written result out.new ≡ Private.contents_told file.now (Layout.walked_map map.now) (Layout.node_hull render root) (Vec.vector x y z) out.old }
+{
+    let m = layout::walked_map(map);
+    let h = layout::node_hull(render, root);
+    if let Some((code, visits)) = quick_contents(file, m, h, Vector3 { x, y, z }) {
+        return give(&[code as u64, visits], out);
+    }
+    any_contents(file, map, render, root, x, y, z, out)
+}
+
+// A call for each kind of nodes: what it takes fits in registers, `contents` goes on to it without coming back, and its loop is of one kind.
+#[inline(never)]
+fn contents_drawn(
+    file: &[u8],
+    map: &[u32],
+    root: usize,
+    x: f32,
+    y: f32,
+    z: f32,
+    out: &mut [u64],
+) -> u32
+    ensures { written result out.new ≡ Private.contents_told file.now (Layout.walked_map map.now) (Layout.node_hull true root) (Vec.vector x y z) out.old }
+{
+    contents_from(file, map, true, root, x, y, z, out)
+}
+
+#[inline(never)]
+fn contents_clipped(
+    file: &[u8],
+    map: &[u32],
+    root: usize,
+    x: f32,
+    y: f32,
+    z: f32,
+    out: &mut [u64],
+) -> u32
+    ensures { written result out.new ≡ Private.contents_told file.now (Layout.walked_map map.now) (Layout.node_hull false root) (Vec.vector x y z) out.old }
+{
+    contents_from(file, map, false, root, x, y, z, out)
+}
+
+// The contents by `contents_at_point`, whatever the lists: what is refused, and a box, whose bounds are read here alone.
+#[inline(never)]
+fn other_contents(file: &[u8], map: &[u32], hull: &[u64], point: &[f32], out: &mut [u64]) -> u32
     ensures { written result out.new ≡ Calls.bsp_contents file.now map.now hull.now point.now out.old }
 {
     match layout::asked(map, hull, point, 3, out, 2) {
@@ -125,30 +198,33 @@ fn any_contents(file: &[u8], map: &[u32], hull: &[u64], point: &[f32], out: &mut
 }
 
 // The contents at a point of a hull. 22: a map of fewer than 31 words, a hull of fewer than 9, a point of fewer than 3 floats or a list of
-// fewer than 2; 20: a hull of no table. What is not said at once is asked from the lists again: where the same records are handed on, they are
-// written to memory before the walk, which takes 16 instructions more a call.
+// fewer than 2; 20: a hull of no table.
 pub fn contents(file: &[u8], map: &[u32], hull: &[u64], point: &[f32], out: &mut [u64]) -> u32
     ensures { written result out.new ≡ Calls.bsp_contents file.now map.now hull.now point.now out.old }
 {
-    if let Ok((m, h)) = layout::asked(map, hull, point, 3, out, 2) {
-        if let Some((code, visits)) = quick_contents(file, m, h, layout::first_point(point)) {
-            return give(&[code as u64, visits], out);
+    if let Ok((_, h)) = layout::asked(map, hull, point, 3, out, 2) {
+        let p = layout::first_point(point);
+        let its = &map[..31];
+        let root = h.node_id;
+        let table = h.table;
+        match table {
+            HullTable::Render => return contents_drawn(file, its, root, p.x, p.y, p.z, out),
+            HullTable::Clip => return contents_clipped(file, its, root, p.x, p.y, p.z, out),
+            HullTable::Box => (),
         }
     }
-    any_contents(file, map, hull, point, out)
+    other_contents(file, map, hull, point, out)
 }
 
 // The leaf that a point is in, from a render node on. 22: a map of fewer than 31 words, a point of fewer than 3 floats or a list of fewer
 // than 2.
-#[tactic(auto, unfolding(crate::specs::Calls::bsp_find_leaf), using(words::proofs::Giving::told_given, ffi_hull::proofs::Walked::same_leaf_table))]
+#[tactic(auto, unfolding(crate::specs::Calls::bsp_find_leaf), using(words::proofs::Giving::told_given, ffi_hull::proofs::Walked::same_leaf_table, ffi_hull::proofs::Walked::first_words))]
 pub fn find_leaf(file: &[u8], map: &[u32], root: u64, point: &[f32], out: &mut [u64]) -> u32
     ensures { written result out.new ≡ Calls.bsp_find_leaf file.now map.now root point.now out.old }
 {
     if map.len() < 31 || point.len() < 3 || out.len() < 2 {
         return LIST_TOO_SHORT;
     }
-    give_words(
-        leaf_at(file, map, root as usize, point).map(leaf_words),
-        out,
-    )
+    let p = layout::first_point(point);
+    leaf_at(file, &map[..31], root as usize, p.x, p.y, p.z, out)
 }

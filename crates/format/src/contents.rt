@@ -4,7 +4,7 @@ ghost use Rattle.format.specs.Contents as Contents;
 
 // The contents of a leaf in the BSP tree. Sky (6) is the specifications' (document 02, note 1); the Rust has no name for it. Origin and
 // Collide (7, 8) are left out, as in the Rust.
-#[derive(Clone, Copy, Debug, PartialEq, Eq)]
+#[derive(Clone, Copy, PartialEq, Eq)]
 pub enum BspLeafContents {
     Empty = 1,
     Solid = 2,

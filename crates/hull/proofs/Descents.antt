@@ -1,6 +1,6 @@
 -- Each way through a step of a segment's way down, over any table, by what is seen of the node and of the child that is met.
 -- Assumes nothing.
-use Prim.Native.Nat.{ℕ, suc, ◌+◌, ◌-◌, ◌<◌}
+use Prim.Native.Nat.{ℕ, suc, ◌+◌, ◌-◌, ◌<◌, ◌≤◌}
 use mathlib.Core.Path.{◌≡◌, refl, sym, ap, ◌∙◌}
 use mathlib.Core.Bool.{Bool, true, false, not, cond, beq}
 use mathlib.Core.List.{[]}
@@ -73,6 +73,13 @@ agree true true e = refl
 agree true false e = let z : ◌≡◌ {A = ℕ} 0 1 = cc in absurd (omega arith)
 agree false true e = let z : ◌≡◌ {A = ℕ} 0 1 = cc in absurd (omega arith)
 agree false false e = refl
+
+pub sides : (x y a b : Bool) → x ≡ a → y ≡ b → not (beq x y) ≡ not (beq a b)
+sides x y a b e f = rw (e, f) refl
+
+-- the visits where v nodes were entered before and k calls of l are left, and one is taken
+pub one_more : {A : Type 0} (v l k : ℕ) → (k ≡ 0 → ⊥) → k ≤ l → (o : Outcome A) → after (v + (l - (k - 1))) o ≡ after (held (v + (l - k) + 1)) o
+one_more v l k h f o = ap (λ (n : ℕ). after n o) {x = v + (l - (k - 1))} {y = v + (l - k) + 1} (omega (arith, h, f)) ∙ sym (after_held (v + (l - k) + 1) o)
 
 -- ---- a node that was entered: its record and the distances of the segment's ends, and the plane of its number
 

@@ -1,5 +1,7 @@
 // The trace of a segment where the file has all nodes, planes and leaves, by the bytes of their sections: what `recursive_trace` of
 // `tracing` does record by record.
+ghost use Rattle.std.specs.Prelude.{◌≡◌, ◌+◌};
+ghost use Rattle.walk.specs.Walk.{held};
 ghost use Rattle.nodes.specs.Fast as Fast;
 ghost use Rattle.nodes.specs.Owned.{end_among};
 ghost use Rattle.hull.specs.Traces as Traces;
@@ -19,6 +21,14 @@ pub(crate) struct Whole<'a> {
     pub leaves: &'a [u8],
 }
 
+// The nodes entered, with so many more.
+#[inline(always)]
+fn entered(visits: u64, more: u32) -> u64
+    ensures { result ≡ held (visits + more) }
+{
+    visits.saturating_add(more as u64)
+}
+
 impl<'a> Whole<'a> {
     // The way down comes to the end of a word.
     fn leaf_of(&self, word: u16, visits: u64) -> Answer<Descent<Words>>
@@ -30,39 +40,73 @@ impl<'a> Whole<'a> {
 
     // Down from a node as long as the segment lies on one side of each plane. No range fits: the node is tested before the calls left, after the
     // last one too. (`descend` of `tracing` goes down the same way. One function for both would be told how a node and an end are read, and its
-    // contract would be of any two such readers: this one is of every file and table whose own bytes these are, that one of one table.)
-    fn go_down(
+    // contract would be of any two such readers: this one is of every file and table whose own bytes these are, that one of one table. The sides of
+    // the two ends are branches: two flags compared are nine instructions.)
+    #[inline(always)]
+    fn go_by(
         &self,
         node0: usize,
-        start: Vector3,
-        end: Vector3,
+        start: &[f32; 3],
+        end: &[f32; 3],
         left0: u32,
-        visits0: u64,
+        visits: u64,
     ) -> Answer<Descent<Words>>
-        ensures { Traces.GoesDown self.now.sections.render self.now.sections.nodes.now self.now.sections.planes.now self.now.leaves.now left0 node0 start end visits0 result }
+        ensures { Traces.GoesDown self.now.sections.render self.now.sections.nodes.now self.now.sections.planes.now self.now.leaves.now left0 node0 (Fast.point_of start.now) (Fast.point_of end.now) visits result }
     {
+        let sections = self.sections;
+        let count = sections.node_count();
         let mut node = node0;
         let mut left = left0;
-        let mut visits = visits0;
         loop {
-            if self.sections.node_count() <= node {
+            if count <= node {
                 return Err(Refusal::IndexOutsideTable);
             }
             if left == 0 {
                 return Err(Refusal::TooDeep);
             }
-            let (w, a, b) = self.sections.segment_in(node, start, end)?;
-            visits = visits.saturating_add(1);
+            let (w, a, b) = sections.ends_in(node, start, end)?;
             left -= 1;
-            if (a >= 0.0) != (b >= 0.0) {
-                return Ok(Descent::Crossing(w, a, b, left, visits));
+            let front = a >= 0.0;
+            if front {
+                if !(b >= 0.0) {
+                    return Ok(Descent::Crossing(w, a, b, left, entered(visits, left0 - left)));
+                }
+            } else if b >= 0.0 {
+                return Ok(Descent::Crossing(w, a, b, left, entered(visits, left0 - left)));
             }
-            let word = w.on(a >= 0.0);
+            let word = w.on(front);
             if 32768 <= word {
-                return self.leaf_of(word, visits);
+                return self.leaf_of(word, entered(visits, left0 - left));
             }
             node = word as usize;
         }
+    }
+
+    // The same, by a loop for each kind of nodes, in which the kind is no test.
+    #[inline(always)]
+    fn go_down(
+        &self,
+        node: usize,
+        start: &[f32; 3],
+        end: &[f32; 3],
+        left: u32,
+        visits: u64,
+    ) -> Answer<Descent<Words>>
+        ensures { Traces.GoesDown self.now.sections.render self.now.sections.nodes.now self.now.sections.planes.now self.now.leaves.now left node (Fast.point_of start.now) (Fast.point_of end.now) visits result }
+    {
+        let leaves = self.leaves;
+        if self.sections.render {
+            let sections = Sections {
+                render: true,
+                ..self.sections
+            };
+            return Whole { sections, leaves }.go_by(node, start, end, left, visits);
+        }
+        let sections = Sections {
+            render: false,
+            ..self.sections
+        };
+        Whole { sections, leaves }.go_by(node, start, end, left, visits)
     }
 
     // A part that leaves the leaf of a word through the plane of a number.
@@ -104,7 +148,7 @@ impl<'a> Whole<'a> {
     {
         let from = point_of(p);
         let to = point_of(q);
-        match self.go_down(node, from, to, left, visits)? {
+        match self.go_down(node, p, q, left, visits)? {
             Descent::Leaf(c, n) => Ok(ended(to, c, n)),
             Descent::Crossing(w, a, b, below, n) => {
                 let (here, there) = sides_in(self.sections.planes, w.plane, from, to)?;

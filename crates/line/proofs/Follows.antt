@@ -1,11 +1,7 @@
 -- The whole line in one loop: what a node says to a part and to a look, and what becomes of the planes that wait. Assumes nothing.
-use Rattle.std.specs.Prelude.{Option, Some, None, Result, Ok, slice_get}
-use Rattle.std.specs.Option.{option_copied}
-use Rattle.std.specs.Slice.{IsItemAt}
-use Rattle.std.specs.Borrow.{Bor}
-use Rattle.std.proofs.lemmas.Option.{slice_get_past, slice_get_read}
+use Rattle.std.specs.Prelude.{Option, Some, None, Result, Ok}
 use Rattle.format.specs.declared.refusal.Refusal.{Refusal}
-use Prim.Native.Nat.{ℕ, zero, suc, ◌+◌, ◌-◌, ◌*◌, ◌<◌, ◌≤◌}
+use Prim.Native.Nat.{ℕ, zero, suc, ◌+◌, ◌-◌, ◌*◌, ◌/◌, ◌<◌, ◌≤◌}
 use native.Mathlib.Omega.{arith}
 use mathlib.Core.Path.{◌≡◌, refl, sym, ap, subst, ◌∙◌}
 use mathlib.Core.Bool.{Bool, true, false, cond, not, ◌&&◌}
@@ -14,8 +10,9 @@ use mathlib.Core.List.{List, [], ◌∷◌}
 use borrow.Author.Tests.{leb-false}
 use lib.Dec.{leb, ltb}
 use lib.Ieee as Ieee
-use lib.Ieee.{Float, binary32}
+use lib.Ieee.{Float, binary32, nan}
 use lib.ListN.{length, drop, get_or, set, drop_of_length-le, length-set}
+use Rattle.std.proofs.lemmas.List.{get_or-set_other}
 use lib.Seq.{drop-cons, drop-set-lt, get_or-set_same}
 use Rattle.float.proofs.Compare.{order}
 use Rattle.format.proofs.Answers.{mapped_answer}
@@ -32,7 +29,7 @@ use Rattle.math.specs.declared.plane.HyperplaneSide.{HyperplaneSide}
 use Rattle.walk.specs.Table.{Child, node, end, Node, Table, child_on}
 use Rattle.walk.specs.Walk.{Entered, enter, meet, with_node}
 use Rattle.nodes.specs.Tables.{End, is_box}
-use Rattle.nodes.specs.Fast.{child_of, end_of, node_of, word_on, plane_in, place_in, node_in, node_at, node_size, is_render, render_node_here, clip_node_here, contents_met}
+use Rattle.nodes.specs.Fast.{child_of, end_of, point_of, node_of, word_on, plane_in, place_in, node_in, node_at, node_size, is_render, render_node_here, clip_node_here, contents_met}
 use Rattle.nodes.specs.Fast as Fast
 use Rattle.nodes.specs.Walks.{Read, MadeOf, made_from, child_by_distance, node_and_dists, segment_answer, are_whole, is_whole}
 use Rattle.nodes.specs.declared.table.HullTable.{HullTable}
@@ -41,14 +38,13 @@ use Rattle.nodes.specs.declared.table.Part.{Part}
 use Rattle.nodes.specs.declared.table.Tables.{Tables}
 use Rattle.nodes.specs.declared.read.Words.{Words as WordsT}
 use Rattle.nodes.proofs.Entering.{child_is}
-use Rattle.line.specs.Line.{fraction_at, plane_from, with_plane, Went, onward, stopped, refused, stretch, unset, near_part, far_part, point_at, crossing, into, tenth, contents_on, contents_at, contents_from, backed_off, back_off, into_leaf, on_child, blocked, beyond, past, line_from}
-use Rattle.line.specs.Private.{Cut, Keeps, Kept, from_front, ended, Crossed, Resumes, Blocks, Follows, word_went, word_look, past_waiting, near_side, beyond_it, beyond_next, stand_went, Ended, Turned, Arrives, all_went, seen_line}
+use Rattle.line.specs.Line.{line_answer, fraction_at, plane_from, with_plane, Went, onward, stopped, refused, stretch, unset, near_part, far_part, point_at, crossing, into, tenth, contents_on, contents_at, contents_from, backed_off, back_off, into_leaf, on_child, blocked, beyond, past, line_from}
+use Rattle.line.specs.Private.{Cut, Keeps, Kept, from_front, ended, Crossed, Resumes, Blocks, Follows, word_went, word_look, past_waiting, Stand, Tip, part_from, stands, from_start, beyond_it, stand_went, Ended, Met, Turned, Arrives, AtOnce, Stops, all_went, seen_line}
 use Rattle.line.specs.declared.ground.Ground.{Ground}
 use Rattle.line.specs.declared.state.Stretch.{Stretch}
 use Rattle.line.specs.declared.state.LineTrace.{LineTrace}
 use Rattle.line.specs.declared.state.LinePlane.{LinePlane}
-use Rattle.line.specs.declared.through.Waiting.{Waiting}
-use Rattle.line.specs.declared.through.Stand.{Stand}
+use Rattle.line.specs.declared.through.Mark.{Mark}
 use Rattle.line.specs.declared.through.Turn.{Turn}
 use Rattle.line.specs.declared.through.Turn.TheVariants as U
 use Rattle.line.specs.declared.through.Came.{Came}
@@ -278,6 +274,14 @@ module _ (f : List ℕ) (t : Tables) (root : ℕ) where
                 ∙ ap (λ (v : Float). past T (λ n s l. line_from T root below n s l) root (node_of t.table w) N.0.plane s (Pl.from_dist a) v (on_child T (λ n s l. line_from T root below n s l) (child_on (node_of t.table w) (Pl.from_dist a)) (near_part s v) l)) (sym is-k)
                 ∙ ap (λ (v : Child End). past T (λ n s l. line_from T root below n s l) root (node_of t.table w) N.0.plane s (Pl.from_dist a) k (on_child T (λ n s l. line_from T root below n s l) v (near_part s k) l)) (child_is t.table w (Ieee.le zero32 a))
 
+-- what is read past the list's end
+abbrev pub blank : Mark
+blank = record { at = nan; point = []; held = 0 }
+
+-- the last is not written
+pub kept_last : (l : List Mark) (n : ℕ) (y : Mark) {q : Vector3} → 0 < n → n ≤ 9 → point_of (get_or l 9 blank).point ≡ q → point_of (get_or (set l (n - 1) y) 9 blank).point ≡ q
+kept_last l n y h k e = ap (λ (z : Mark). point_of z.point) (get_or-set_other l (n - 1) 9 y blank (λ z. omega (arith, h, k, z))) ∙ e
+
 -- ---- the list of the planes that wait: the nearest stands at n, the others behind it
 
 pushed : {A : Type 0} (l : List A) (n : ℕ) (y : A) → 0 < n → n ≤ length l → drop (n - 1) (set l (n - 1) y) ≡ y ∷ drop n l
@@ -290,15 +294,13 @@ pushed l n y p h =
 popped : {A : Type 0} (l : List A) (n : ℕ) (d : A) → n < length l → drop n l ≡ get_or l n d ∷ drop (n + 1) l
 popped l n d h = drop-cons l n d h ∙ ap (λ z. get_or l n d ∷ drop z l) {x = suc n} {y = n + 1} (omega arith)
 
-none_waits : {A : Type 0} (l : List A) (n : ℕ) → length l ≤ n → drop n l ≡ []
-none_waits l n h = drop_of_length-le l h
-
--- the planes that wait, as they are kept
-abbrev KeptAll : List Cut → List Waiting → Type 0
-KeptAll [] [] = Unit {0}
-KeptAll [] (y ∷ ys) = ⊥
-KeptAll (x ∷ xs) [] = ⊥
-KeptAll (x ∷ xs) (y ∷ ys) = Kept x y × KeptAll xs ys
+-- the planes that wait, as they are kept, and then the end of the whole line s
+abbrev KeptAll : Stretch → List Cut → List Mark → Type 0
+KeptAll s [] [] = ⊥
+KeptAll s [] (e ∷ []) = Tip s.to s.end e
+KeptAll s [] (e ∷ y ∷ ys) = ⊥
+KeptAll s (x ∷ xs) [] = ⊥
+KeptAll s (x ∷ xs) (y ∷ ys) = Kept x y × KeptAll s xs ys
 
 -- the fraction and the point at which the line ends before all planes that wait; s is the whole line
 abbrev fraction_to : Stretch → List Cut → Float
@@ -314,18 +316,27 @@ abbrev Chain : Stretch → List Cut → Type 0
 Chain s [] = Unit {0}
 Chain s (x ∷ xs) = (x.part.to ≡ fraction_to s xs) × (x.part.end ≡ point_to s xs) × Chain s xs
 
+-- a part ends at the first of them
+first_ends : (s : Stretch) (xs : List Cut) (y : Mark) (ys : List Mark) → KeptAll s xs (y ∷ ys) → (y.at ≡ fraction_to s xs) × (point_of y.point ≡ point_to s xs)
+first_ends s [] y [] k = k
+first_ends s [] y (z ∷ ys) k = absurd k
+first_ends s (x ∷ xs) y ys k = (k.0.at_is, k.0.point_is)
+
+none_waits : (s : Stretch) (xs : List Cut) (y : Mark) → KeptAll s xs (y ∷ []) → xs ≡ []
+none_waits s [] y k = refl
+none_waits s (x ∷ []) y k = absurd k.1
+none_waits s (x ∷ z ∷ xs) y k = absurd k.1
+
 -- beyond the plane x, which is kept as z, it is the far part of what x cuts
-far_is : (whole : Stretch) (x : Cut) (z : Waiting) → Kept x z → (xs : List Cut) (ys : List Waiting) → KeptAll xs ys → x.part.to ≡ fraction_to whole xs → x.part.end ≡ point_to whole xs
-    → beyond_it z ys whole ≡ record { word = word_on x.w (not (Ieee.le zero32 x.a)); left = x.left; part = far_part x.part x.k }
-far_is whole x z K [] [] k to_is end_is = rw (K.word_is, K.left_is, K.at_is, K.point_is, to_is, end_is)
-far_is whole x z K [] (y ∷ ys) k to_is end_is = absurd k
-far_is whole x z K (w ∷ xs) [] k to_is end_is = absurd k
-far_is whole x z K (w ∷ xs) (y ∷ ys) k to_is end_is = rw (K.word_is, K.left_is, K.at_is, K.point_is, k.0.at_is, k.0.point_is, to_is, end_is)
+far_is : (whole : Stretch) (x : Cut) (z : Mark) → Kept x z → (xs : List Cut) (y : Mark) → (y.at ≡ fraction_to whole xs) × (point_of y.point ≡ point_to whole xs)
+    → x.part.to ≡ fraction_to whole xs → x.part.end ≡ point_to whole xs
+    → beyond_it z y ≡ record { word = word_on x.w (not (Ieee.le zero32 x.a)); left = x.left; part = far_part x.part x.k }
+far_is whole x z K xs y e to_is end_is = rw (K.word_is, K.left_is, K.at_is, K.point_is, e.0, e.1, to_is, end_is) refl
 
 -- the line stands at a child, and the planes that are kept in ys wait; y: the plane that was passed last, if any was
-pub record Standing (f : List ℕ) (t : Tables) (root : ℕ) (whole : Stretch) (ys : List Waiting) (at : Stand) (l : LineTrace) (y : Waiting) (looked : Bool) (all : Went) : Type 0 where
+pub record Standing (f : List ℕ) (t : Tables) (root : ℕ) (whole : Stretch) (ys : List Mark) (at : Stand) (l : LineTrace) (y : Mark) (looked : Bool) (all : Went) : Type 0 where
   pub xs : List Cut
-  pub its_planes : KeptAll xs ys
+  pub its_planes : KeptAll whole xs ys
   pub chain : Chain whole xs
   pub to_is : at.part.to ≡ fraction_to whole xs
   pub end_is : at.part.end ≡ point_to whole xs
@@ -337,19 +348,7 @@ looked_at : (looked b : Bool) → looked && b ≡ true → looked ≡ true
 looked_at true b e = refl
 looked_at false b e = e
 
--- what `get` and `copied` give
-got : (xs : List Waiting) (i : ℕ) (r : Option (Bor Waiting)) → IsItemAt xs i r → option_copied r ≡ slice_get xs i
-got xs i None h = sym (slice_get_past xs i h.3)
-got xs i (Some x) h = sym (slice_get_read xs (length xs) i x.now refl h.3.0 h.1)
-
--- what `beyond` finds in the list
-next_in : (x : Waiting) (whole : Stretch) (stack : List Waiting) (n : ℕ) → beyond_next x (slice_get stack n) whole ≡ beyond_it x (drop n stack) whole
-next_in x whole [] zero = refl
-next_in x whole [] (suc n) = refl
-next_in x whole (y ∷ ys) zero = refl
-next_in x whole (y ∷ ys) (suc n) = next_in x whole ys n
-
-module _ {f : List ℕ} {t : Tables} {root : ℕ} {whole : Stretch} {at : Stand} {l : LineTrace} {y : Waiting} {looked : Bool} {all : Went} {ys : List Waiting} where
+module _ {f : List ℕ} {t : Tables} {root : ℕ} {whole : Stretch} {at : Stand} {l : LineTrace} {y : Mark} {looked : Bool} {all : Went} {ys : List Mark} where
   -- where the line stands once it has come to an end
   at_end : Standing f t root whole ys at l y looked all → {w : ℕ} → Ended f t at w
       → (32768 ≤ w) × Standing f t root whole ys (record { word = w; left = at.left; part = at.part }) l y looked all
@@ -368,12 +367,19 @@ module _ {f : List ℕ} {t : Tables} {root : ℕ} {whole : Stretch} {at : Stand}
     },
   )
 
+-- a turn comes to what is met at the end that it comes to
+pub turned : (f : List ℕ) (t : Tables) (at : Stand) (n : ℕ) (looked : Bool) (w : ℕ) → Ended f t at w → (r : Option Turn) → Met f t w n looked r → Turned f t at n looked r
+turned f t at n looked w e (Some (U.Into m)) k = (w, (e, k))
+turned f t at n looked w e (Some U.Blocked) k = (w, (e, k))
+turned f t at n looked w e (Some (U.Crossing _ _ _ _)) k = absurd k
+turned f t at n looked w e None k = tt
+
 pub few_met : (f : List ℕ) (t : Tables) (at : Stand) (seen : ℕ) (looked : Bool) {m : ℕ} {r : Turn} → Turned f t at seen looked (Some r) → r ≡ U.Into m → m < 8
 few_met f t at seen looked {m} K e = let I : Turned f t at seen looked (Some (U.Into m)) = rw e at K in I.1.1.0
 
-module _ {f : List ℕ} {t : Tables} {root : ℕ} {whole : Stretch} {at : Stand} (q : Vector3) (seen : ℕ) {y : Waiting} {looked : Bool} {all : Went} where
+module _ {f : List ℕ} {t : Tables} {root : ℕ} {whole : Stretch} {at : Stand} (q : Vector3) (seen : ℕ) {y : Mark} {looked : Bool} {all : Went} where
   -- the line is blocked
-  pub is_stopped : {ys : List Waiting} → Standing f t root whole ys at (seen_line q seen) y looked all → {r : Turn} → Turned f t at seen looked (Some r) → r ≡ U.Blocked
+  pub is_stopped : {ys : List Mark} → Standing f t root whole ys at (seen_line q seen) y looked all → {r : Turn} → Turned f t at seen looked (Some r) → r ≡ U.Blocked
       → (x : Cut) × (Kept x y × Blocks f t root x (seen_line q seen) all)
   is_stopped S K e =
       let B : Turned f t at seen looked (Some U.Blocked) = rw e at K in
@@ -383,8 +389,8 @@ module _ {f : List ℕ} {t : Tables} {root : ℕ} {whole : Stretch} {at : Stand}
       (Z.x, (Z.passed (looked_at looked _ M.1.1), end_blocks f t root Z.xs at.left at.part B.0 (seen_line q seen) Z.x looked all Z.follows E.0 M.0 M.1.0 M.1.1))
 
   -- a leaf is traced into
-  goes_into : {ys : List Waiting} → Standing f t root whole ys at (seen_line q seen) y looked all → {m : ℕ} {r : Turn} → Turned f t at seen looked (Some r) → r ≡ U.Into m
-      → (xs : List Cut) × (KeptAll xs ys × Chain whole xs × Resumes f t root xs (onward (seen_line q m)) all)
+  goes_into : {ys : List Mark} → Standing f t root whole ys at (seen_line q seen) y looked all → {m : ℕ} {r : Turn} → Turned f t at seen looked (Some r) → r ≡ U.Into m
+      → (xs : List Cut) × (KeptAll whole xs ys × Chain whole xs × Resumes f t root xs (onward (seen_line q m)) all)
   goes_into S {m} K e =
       let I : Turned f t at seen looked (Some (U.Into m)) = rw e at K in
       let E = at_end S I.1.0 in
@@ -392,7 +398,7 @@ module _ {f : List ℕ} {t : Tables} {root : ℕ} {whole : Stretch} {at : Stand}
       let Z = E.1 in
       (Z.xs, (Z.its_planes, Z.chain, end_goes f t root Z.xs at.left at.part I.0 (seen_line q seen) Z.x looked all Z.follows E.0 M.0 M.1.0 M.1.1 (seen_line q m) (M.1.2 q)))
 
-  module _ (stack : List Waiting) (n : ℕ) (S : Standing f t root whole (drop n stack) at (seen_line q seen) y looked all) {r : Turn} (K₀ : Turned f t at seen looked (Some r)) where
+  module _ (stack : List Mark) (n : ℕ) (S : Standing f t root whole (drop n stack) at (seen_line q seen) y looked all) {r : Turn} (K₀ : Turned f t at seen looked (Some r)) where
     -- a plane that is crossed: fewer calls are left below it; it is put before the others, and the line goes on before it
     module _ {w : WordsT} {front : Bool} {left : ℕ} {near : Stretch} (e : r ≡ U.Crossing w front left near) (most : at.left ≤ 512) where
       crossing_lem : Turned f t at seen looked (Some (U.Crossing w front left near))
@@ -401,9 +407,9 @@ module _ {f : List ℕ} {t : Tables} {root : ℕ} {whole : Stretch} {at : Stand}
       pub fewer_left : left ≤ 512
       fewer_left = omega (arith, crossing_lem.1.1.1.2.0.falls, most)
 
-      pub push : 0 < n → n ≤ length stack → {z : Waiting} → Keeps w front left near z → {next : Stand} → next ≡ near_side w front left near
-          → (next.left ≤ 512) × Standing f t root whole (drop (n - 1) (set stack (n - 1) z)) next (seen_line q seen) y looked all
-      push more room {z} Z {next} is-next =
+      put : n ≤ length stack → 0 < n → {z : Mark} → Keeps w front left near z → (x₀ : Mark) → at.part.from ≡ x₀.at → at.part.start ≡ point_of x₀.point
+          → (left ≤ 512) × Standing f t root whole (drop (n - 1) (set stack (n - 1) z)) (stands (word_on w front) left x₀ z) (seen_line q seen) y looked all
+      put more room {z} Z x₀ from_is start_is =
           let C = crossing_lem in
           let a = C.1.0 in
           let b = C.1.1.0 in
@@ -411,38 +417,45 @@ module _ {f : List ℕ} {t : Tables} {root : ℕ} {whole : Stretch} {at : Stand}
           let cut : Cut = record { w = w; left = left; a = a; k = k; part = at.part } in
           let in_front_lem = C.1.1.1.0 in
           let is_near = C.1.1.1.1 in
+          let part_is : part_from x₀ z ≡ near = rw (← from_is, ← start_is, Z.at_is, Z.point_is, is_near) refl in
           let here : Kept cut z = subst (λ (s : Stretch). Keeps w (Ieee.le zero32 a) left s z) is_near (subst (λ (c : Bool). Keeps w c left near z) in_front_lem Z) in (
-            subst (λ (s : Stand). s.left ≤ 512) (sym is-next) fewer_left,
+            fewer_left,
             record {
               xs = cut ∷ S.xs;
-              its_planes = subst (KeptAll (cut ∷ S.xs)) (sym (pushed stack n z more room)) (here, S.its_planes);
+              its_planes = subst (KeptAll whole (cut ∷ S.xs)) (sym (pushed stack n z room more)) (here, S.its_planes);
               chain = (S.to_is, S.end_is, S.chain);
-              to_is = ap (λ (s : Stand). s.part.to) is-next ∙ ap (λ (s : Stretch). s.to) is_near;
-              end_is = ap (λ (s : Stand). s.part.end) is-next ∙ ap (λ (s : Stretch). s.end) is_near;
+              to_is = Z.at_is ∙ ap (λ (s : Stretch). s.to) is_near;
+              end_is = Z.point_is ∙ ap (λ (s : Stretch). s.end) is_near;
               x = S.x;
               passed = S.passed;
               follows =
-                  subst (λ (s : Stand). Follows f t root (cut ∷ S.xs) s.left s.part s.word (seen_line q seen) S.x looked all) (sym is-next)
+                  subst (λ (s : Stretch). Follows f t root (cut ∷ S.xs) left s (word_on w front) (seen_line q seen) S.x looked all) (sym part_is)
                   (reach_plane f t root S.xs at.left at.part at.word (seen_line q seen) S.x looked all S.follows C.0 most w a b left C.1.1.1.2 k refl cut refl near is_near (word_on w front) (ap (word_on w) in_front_lem));
             },
           )
 
+      pub push : n ≤ length stack → 0 < n → {z : Mark} → Keeps w front left near z → (x₀ : Mark) → at.part.from ≡ x₀.at → at.part.start ≡ point_of x₀.point → {word : ℕ} → word ≡ word_on w front
+          → (left ≤ 512) × Standing f t root whole (drop (n - 1) (set stack (n - 1) z)) (stands word left x₀ (get_or (set stack (n - 1) z) (n - 1) blank)) (seen_line q seen) y looked all
+      push more room {z} Z x₀ from_is start_is is_word =
+          let P = put more room Z x₀ from_is start_is in
+          (P.0, rw (is_word, get_or-set_same stack (n - 1) z blank (omega (arith, more, room))) P.1)
+
     -- a leaf is traced into
-    module _ {m : ℕ} (e : r ≡ U.Into m) where
+    module _ {m : ℕ} (e : r ≡ U.Into m) (d : Mark) where
       -- none waits
-      pub last : length stack ≤ n → onward (seen_line q m) ≡ all
-      last h = let X = goes_into S K₀ e in by X.0 (subst (KeptAll X.0) (none_waits stack n h) X.1.0) X.1.2
+      pub last : length stack ≡ n + 1 → onward (seen_line q m) ≡ all
+      last h = let X = goes_into S K₀ e in by X.0 (subst (KeptAll whole X.0) (popped stack n d (omega arith) ∙ ap (λ z. get_or stack n d ∷ z) (drop_of_length-le stack (omega arith))) X.1.0) X.1.2
         where
-          by : (xs : List Cut) → KeptAll xs [] → Resumes f t root xs (onward (seen_line q m)) all → onward (seen_line q m) ≡ all
-          by [] k r = r
-          by (x ∷ xs) k r = absurd k
+          by : (xs : List Cut) → KeptAll whole xs (get_or stack n d ∷ []) → Resumes f t root xs (onward (seen_line q m)) all → onward (seen_line q m) ≡ all
+          by xs k r = subst (λ (z : List Cut). Resumes f t root z (onward (seen_line q m)) all) (none_waits whole xs (get_or stack n d) k) r
 
       -- the first is taken, and the line goes on beyond it
-      past_it : (rest : List Waiting) (z : Waiting) (xs : List Cut) → KeptAll xs (z ∷ rest) → Chain whole xs → Resumes f t root xs (onward (seen_line q m)) all
-          → (next : Stand) → next ≡ beyond_it z rest whole → (next.left ≤ 512) × Standing f t root whole rest next (seen_line q m) z true all
-      past_it rest z [] k c r next is-next = absurd k
-      past_it rest z (x ∷ xs) k c r next is-next =
-          subst (λ (s : Stand). (s.left ≤ 512) × Standing f t root whole rest s (seen_line q m) z true all) (sym (is-next ∙ far_is whole x z k.0 xs rest k.1 c.0 c.1)) (
+      past_it : (z v : Mark) (rest : List Mark) (xs : List Cut) → KeptAll whole xs (z ∷ v ∷ rest) → Chain whole xs → Resumes f t root xs (onward (seen_line q m)) all
+          → ((beyond_it z v).left ≤ 512) × Standing f t root whole (v ∷ rest) (beyond_it z v) (seen_line q m) z true all
+      past_it z v rest [] k c r = absurd k
+      past_it z v rest (x ∷ xs) k c r =
+          let E = first_ends whole xs v rest k.1 in
+          subst (λ (s : Stand). (s.left ≤ 512) × Standing f t root whole (v ∷ rest) s (seen_line q m) z true all) (sym (far_is whole x z k.0 xs v E c.0 c.1)) (
             r.0,
             record {
               xs = xs;
@@ -456,28 +469,28 @@ module _ {f : List ℕ} {t : Tables} {root : ℕ} {whole : Stretch} {at : Stand}
             },
           )
 
-      -- the next one that waits is looked up by `get` and `copied`
-      pub pop : n < length stack → (d : Waiting) {look : Option Waiting} (i : Option (Bor Waiting)) {next : Stand} → next ≡ beyond_next (get_or stack n d) look whole → look ≡ option_copied i → IsItemAt stack (n + 1) i
-          → (next.left ≤ 512) × Standing f t root whole (drop (n + 1) stack) next (seen_line q m) (get_or stack n d) true all
-      pop h d {look} i {next} is-next is_look is_i =
+      pub pop : n + 1 < length stack
+          → ((beyond_it (get_or stack n d) (get_or stack (n + 1) d)).left ≤ 512) × Standing f t root whole (drop (n + 1) stack) (beyond_it (get_or stack n d) (get_or stack (n + 1) d)) (seen_line q m) (get_or stack n d) true all
+      pop h =
           let X = goes_into S K₀ e in
-          past_it (drop (n + 1) stack) (get_or stack n d) X.0 (subst (KeptAll X.0) (popped stack n d h) X.1.0) X.1.1 X.1.2 next
-          (is-next ∙ ap (λ (y : Option Waiting). beyond_next (get_or stack n d) y whole) (is_look ∙ got stack (n + 1) i is_i) ∙ next_in (get_or stack n d) whole stack (n + 1))
+          let two = popped stack (n + 1) d h in
+          let P = past_it (get_or stack n d) (get_or stack (n + 1) d) (drop (n + 1 + 1) stack) X.0 (subst (KeptAll whole X.0) (popped stack n d (omega arith) ∙ ap (λ z. get_or stack n d ∷ z) two) X.1.0) X.1.1 X.1.2 in
+          (P.0, subst (λ (ys : List Mark). Standing f t root whole ys (beyond_it (get_or stack n d) (get_or stack (n + 1) d)) (seen_line q m) (get_or stack n d) true all) (sym two) P.1)
 
 -- before anything is met
-pub starts : (f : List ℕ) (t : Tables) (root : ℕ) (at : Stand) (y : Waiting)
-    → Standing f t root at.part [] at (seen_line at.part.end 0) y false (word_went f t root at.left at.word at.part (unset at.part.end))
-starts f t root at y =
-    record {
+pub starts : (f : List ℕ) (t : Tables) (root : ℕ) (at : Stand) (y e : Mark) → Tip at.part.to at.part.end e → {now : Stand} → now ≡ at
+    → Standing f t root at.part (e ∷ []) now (seen_line at.part.end 0) y false (word_went f t root at.left at.word at.part (unset at.part.end))
+starts f t root at y e K h =
+    rw h (record {
       xs = [];
-      its_planes = tt;
+      its_planes = K;
       chain = tt;
       to_is = refl;
       end_is = refl;
       x = record { w = record { plane = 0; both = 0 }; left = 0; a = zero32; k = zero32; part = at.part };
       passed = λ e. cc;
       follows = λ c e. ((λ z. cc), λ z. refl);
-    }
+    })
 
 -- from the root
 from_root : (g : Ground) (s : Stretch) (l : LineTrace) → g.root < 32768 → word_went g.s.now g.t g.root 512 g.root s l ≡ line_from (Fast.table g.s.now g.t) g.root 512 g.root s l
@@ -486,23 +499,32 @@ from_root g s l h = ap (λ (y : Child End). on_child (Fast.table g.s.now g.t) (�
 -- where the whole line comes to
 module _ (g : Ground) (p q : Vector3) (h : g.root < 32768) where
   abbrev first : Stand
-  first = record { word = g.root; left = 512; part = stretch zero32 one32 p q }
+  first = from_start g.root p q
 
   whole_line_lem : stand_went g first ≡ all_went g p q
   whole_line_lem = from_root g (stretch zero32 one32 p q) (unset q) h
 
   module _ {r : Came} (is-r : Arrives g first (Some r)) where
-    pub came_through : {m : ℕ} → r ≡ C.Through m → {l : LineTrace} → l ≡ seen_line q m → onward l ≡ all_went g p q
-    came_through e is_l = ap onward is_l ∙ rw e at is-r ∙ whole_line_lem
+    pub came_through : {e : Vector3} {m : ℕ} → r ≡ C.Through e m → {l : LineTrace} → l ≡ seen_line e m → answer l ≡ line_answer (all_went g p q)
+    came_through e is_l = ap line_answer (ap onward is_l ∙ rw e at is-r ∙ whole_line_lem)
+
+    pub came_blocked : {y : Mark} {e : Vector3} {m : ℕ} → r ≡ C.Blocked y e m → {l : LineTrace} → l ≡ seen_line e m → (o : Option LineTrace) → Stops g y l o → AtOnce (line_answer (all_went g p q)) o
+    came_blocked {y} {e} {m} z {l} is_l o h = let I : Arrives g first (Some (C.Blocked y e m)) = rw z at is-r in by o h I
+      where
+        by : (o : Option LineTrace) → Stops g y l o → Arrives g first (Some (C.Blocked y e m)) → AtOnce (line_answer (all_went g p q)) o
+        by None h I = tt
+        by (Some k) h I =
+            let (x, (K, (hp, (is-h, B)))) = I in
+            ap line_answer (h x K hp is-h ∙ ap (λ (v : LineTrace). blocked (Fast.table g.s.now g.t) g.root hp (Pl.from_dist x.a) x.part x.k v) is_l ∙ B ∙ whole_line_lem)
 
 -- ---- where a line that is blocked stops
 
-pub stops_there : (g : Ground) (l : LineTrace) {y : Waiting} (x : Cut) (K : Kept x y) (h : Hyperplane) → plane_in g.s.now g.t x.w.plane ≡ answer h → l.all_solid ≡ false
-    → {i : Hyperplane} → answer i ≡ plane_in g.s.now g.t y.plane → {c : BspLeafContents} → answer c ≡ contents_from (Fast.table g.s.now g.t) 512 g.root y.point → Contents.equal c Solid ≡ false
-    → {front : Bool} → front ≡ from_front y → {lp : LinePlane} → lp ≡ plane_from (Pl.side_if front) i → {m : LineTrace} → m ≡ with_plane lp l → {n : LineTrace} → n ≡ ended y.at y.point m
+pub stops_there : (g : Ground) (l : LineTrace) {y : Mark} (x : Cut) (K : Kept x y) (h : Hyperplane) → plane_in g.s.now g.t x.w.plane ≡ answer h → l.all_solid ≡ false
+    → {point : Vector3} → point ≡ point_of y.point → {i : Hyperplane} → answer i ≡ plane_in g.s.now g.t (y.held / 4294967296) → {c : BspLeafContents} → answer c ≡ contents_from (Fast.table g.s.now g.t) 512 g.root point → Contents.equal c Solid ≡ false
+    → {front : Bool} → front ≡ from_front y → {lp : LinePlane} → lp ≡ plane_from (Pl.side_if front) i → {m : LineTrace} → m ≡ with_plane lp l → {n : LineTrace} → n ≡ ended y.at point m
     → stopped n ≡ blocked (Fast.table g.s.now g.t) g.root h (Pl.from_dist x.a) x.part x.k l
-stops_there g l {y} x K h is-h free {i} is-i {c} is_c z is_front is-lp {m} is_m is_n =
-    ap stopped (is_n ∙ rw (K.at_is, K.point_is))
-    ∙ back_open (Fast.table g.s.now g.t) g.root x.part m 10 x.k (omega arith) K.point_is is_c z
+stops_there g l {y} x K h is-h free {point} is-p {i} is-i {c} is_c z is_front is-lp {m} is_m is_n =
+    ap stopped (is_n ∙ rw (K.at_is, is-p ∙ K.point_is))
+    ∙ back_open (Fast.table g.s.now g.t) g.root x.part m 10 x.k (omega arith) (is-p ∙ K.point_is) is_c z
     ∙ blocked_by (Fast.table g.s.now g.t) g.root (Pl.from_dist x.a) x.part x.k l h free (ap (plane_in g.s.now g.t) K.plane_is ∙ is-h) is-i
     (is-lp ∙ ap (λ (b : Bool). plane_from (Pl.side_if b) i) (is_front ∙ K.side_is)) is_m

@@ -33,8 +33,7 @@ use Rattle.line.specs.declared.tracing.Descent.{Descent}
 use Rattle.line.specs.declared.tracing.Descent.TheVariants as D
 use Rattle.line.specs.declared.tracing.Far.{Far}
 use Rattle.line.specs.declared.tracing.Far.TheVariants as F
-use Rattle.line.specs.declared.through.Waiting.{Waiting}
-use Rattle.line.specs.declared.through.Stand.{Stand}
+use Rattle.line.specs.declared.through.Mark.{Mark}
 use Rattle.line.specs.declared.through.Reached.{Reached}
 use Rattle.line.specs.declared.through.Reached.TheVariants as N
 use Rattle.line.specs.declared.through.Turn.{Turn}
@@ -98,6 +97,26 @@ all_went g p q = line_from (Fast.table g.s.now g.t) g.root 512 g.root (stretch z
 
 -- ---- the whole line in one loop (`follow`)
 
+-- where the line stands: at a child, by its word, with the calls left and a part
+pub record Stand : Type 0 where
+  pub word : ℕ
+  pub left : ℕ
+  pub part : Stretch
+
+-- the part between two points of the line, and where it stands with that part
+abbrev pub part_from : Mark → Mark → Stretch
+part_from x y = stretch x.at y.at (Fast.point_of x.point) (Fast.point_of y.point)
+
+abbrev pub stands : ℕ → ℕ → Mark → Mark → Stand
+stands word left x y = record { word = word; left = left; part = part_from x y }
+
+abbrev pub from_start : ℕ → Vector3 → Vector3 → Stand
+from_start root p q = record { word = root; left = 512; part = stretch zero32 one32 p q }
+
+-- y is an end of the line
+abbrev pub Tip : Float → Vector3 → Mark → Type 0
+Tip k p y = (y.at ≡ k) × (Fast.point_of y.point ≡ p)
+
 -- a child by its word, for a part of the line and for a look, with so many calls left
 abbrev pub word_went : List ℕ → Tables → ℕ → ℕ → ℕ → Stretch → LineTrace → Went
 word_went f t root left word s l = on_child (Fast.table f t) (λ n s l. line_from (Fast.table f t) root left n s l) (Fast.child_of t.table word) s l
@@ -125,19 +144,19 @@ pub record Cut : Type 0 where
   pub part : Stretch
 
 -- whether the line comes from the front of a plane that waits
-abbrev pub from_front : Waiting → Bool
-from_front y = leb 67108864 y.far
+abbrev pub from_front : Mark → Bool
+from_front y = leb 67108864 (y.held % 4294967296)
 
 -- y keeps the plane of a node that is crossed where the part `near` ends
-pub record Keeps (w : Words) (front : Bool) (left : ℕ) (near : Stretch) (y : Waiting) : Type 0 where
-  pub plane_is : y.plane ≡ w.plane
-  pub word_is : y.far / 1024 % 65536 ≡ word_on w (not front)
-  pub left_is : y.far % 1024 ≡ left
+pub record Keeps (w : Words) (front : Bool) (left : ℕ) (near : Stretch) (y : Mark) : Type 0 where
+  pub plane_is : y.held / 4294967296 ≡ w.plane
+  pub word_is : y.held / 1024 % 65536 ≡ word_on w (not front)
+  pub left_is : y.held % 1024 ≡ left
   pub side_is : from_front y ≡ front
   pub at_is : y.at ≡ near.to
-  pub point_is : y.point ≡ near.end
+  pub point_is : Fast.point_of y.point ≡ near.end
 
-abbrev pub Kept : Cut → Waiting → Type 0
+abbrev pub Kept : Cut → Mark → Type 0
 Kept x y = Keeps x.w (Ieee.le zero32 x.a) x.left (near_part x.part x.k) y
 
 -- beyond the plane h that waits: its near side has come to w
@@ -164,22 +183,9 @@ Follows f t root xs left s word l x looked all =
     → (looked && Contents.equal c Solid ≡ true → Blocks f t root x l all)
     × (looked && Contents.equal c Solid ≡ false → Resumes f t root xs (word_went f t root left word s l) all)
 
--- the two sides of a plane that waits
-abbrev pub near_side : Words → Bool → ℕ → Stretch → Stand
-near_side w front left near = record { word = word_on w front; left = left; part = near }
-
-abbrev pub far_side : Waiting → Float → Vector3 → Stand
-far_side y to end = record { word = y.far / 1024 % 65536; left = y.far % 1024; part = stretch y.at to y.point end }
-
--- beyond a plane, as far as the first plane that waits, or to the end of the whole line
-abbrev pub beyond_it : Waiting → List Waiting → Stretch → Stand
-beyond_it x [] whole = far_side x whole.to whole.end
-beyond_it x (y ∷ ys) whole = far_side x y.at y.point
-
--- where that one is looked up in the list
-abbrev pub beyond_next : Waiting → Option Waiting → Stretch → Stand
-beyond_next x (Some y) whole = far_side x y.at y.point
-beyond_next x None whole = far_side x whole.to whole.end
+-- beyond the plane x that waits, as far as y
+abbrev pub beyond_it : Mark → Mark → Stand
+beyond_it x y = stands (x.held / 1024 % 65536) (x.held % 1024) x y
 
 -- what is set in a line to the point q, by what it has met as one number: 1 stands for Solid, 2 for Empty, 4 for any other contents
 abbrev pub seen_line : Vector3 → ℕ → LineTrace
@@ -216,16 +222,21 @@ abbrev pub stand_went : Ground → Stand → Went
 stand_went g at = word_went g.s.now g.t g.root at.left at.word at.part (unset at.part.end)
 
 abbrev pub Arrives : Ground → Stand → Option Came → Type 0
-Arrives g at (Some (C.Through m)) = onward (seen_line at.part.end m) ≡ stand_went g at
-Arrives g at (Some (C.Blocked y m)) = (x : Cut) × (Kept x y × Blocks g.s.now g.t g.root x (seen_line at.part.end m) (stand_went g at))
+Arrives g at (Some (C.Through q m)) = onward (seen_line q m) ≡ stand_went g at
+Arrives g at (Some (C.Blocked y q m)) = (x : Cut) × (Kept x y × Blocks g.s.now g.t g.root x (seen_line q m) (stand_went g at))
 Arrives g at None = Unit {0}
+
+-- what is said at once of the whole line is what it answers
+abbrev pub AtOnce : Answer LineTrace → Option LineTrace → Type 0
+AtOnce a (Some l) = answer l ≡ a
+AtOnce a None = Unit {0}
 
 -- with a fraction and an end
 abbrev pub ended : Float → Vector3 → LineTrace → LineTrace
 ended k e l = line_trace k e l.plane l.all_solid l.start_solid l.in_open l.in_water
 
 -- where the line is blocked at the plane x, which is kept as y, with l set before
-abbrev pub Stops : Ground → Waiting → LineTrace → Option LineTrace → Type 0
+abbrev pub Stops : Ground → Mark → LineTrace → Option LineTrace → Type 0
 Stops g y l (Some m) =
     (x : Cut) → Kept x y → (h : Hyperplane) → Fast.plane_in g.s.now g.t x.w.plane ≡ answer h
     → stopped m ≡ blocked (Fast.table g.s.now g.t) g.root h (Pl.from_dist x.a) x.part x.k l

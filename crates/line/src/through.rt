@@ -1,44 +1,38 @@
 // The whole-line trace where the file has all nodes and planes, in one loop: the planes whose far side waits for the near one are a list. The
 // point that is looked for beyond a plane is where the far part starts, so the first end that the far part comes to is what the look finds, and
 // no look is taken before it. Nothing is said where a record or a leaf is refused, no call is left or the list is full.
-ghost use Rattle.std.specs.Prelude.{◌≡◌, true, ◌&&◌, ◌<◌, ◌≤◌, eqb};
+ghost use Rattle.std.specs.Prelude.{◌≡◌, true, ◌&&◌, ◌<◌, ◌≤◌, eqb, Float};
 ghost use Rattle.format.specs.Contents.{code_of};
 ghost use Rattle.math.specs.declared.vector.Vector3.{Vector3};
-ghost use Rattle.nodes.specs.Fast.{contents_met};
+ghost use Rattle.nodes.specs.Fast.{contents_met, point_of};
 ghost use Rattle.nodes.specs.Quick.{code_or, word_contents};
-ghost use Rattle.line.specs.Line.{into};
+ghost use Rattle.line.specs.Line.{into, stretch};
 ghost use Rattle.line.specs.Private as Private;
 
 use crate::ground::Ground;
 use crate::state::{LineTrace, Stretch, crossing};
 use math::Vector3;
-use nodes::read::{Words, end_contents};
+use nodes::lines::{end_number, point_of};
+use nodes::read::Words;
 use nodes::whole::Sections;
 
-// A plane whose far side waits: its number; the calls left below it, with 1024 more for each one of the word of the child there and 67108864 more
-// where the line comes from its front; and where the line crosses it, by its fraction and its point. (The calls left are added as they stand:
-// multiplied, they would be counted twice at each node.) Ten of them are cleared without a call (docs/DECISIONS.md 111).
+// A point of the line at which a part of it ends, by its fraction and its coordinates. Where it is a plane whose far side waits, `held` is the calls
+// left below it, with 1024 more for each one of the word of the child there, 67108864 more where the line comes from its front and 4294967296 more
+// for each one of the plane's number. (The calls left are added as they stand: multiplied, they would be counted twice at each node. A mark is
+// copied in parts of 16 and 8 bytes, as it is written: other parts wait for the writing. Ten of them are cleared without a call:
+// docs/DECISIONS.md 111.)
 #[derive(Clone, Copy)]
-pub struct Waiting {
-    pub plane: u32,
-    pub far: u32,
+pub struct Mark {
     pub at: f32,
-    pub point: Vector3,
+    pub point: [f32; 3],
+    pub held: u64,
 }
 
-// Where the line stands: at a child, by its word, with the calls left and a part.
-#[derive(Clone, Copy)]
-pub struct Stand {
-    pub word: u16,
-    pub left: u32,
-    pub part: Stretch,
-}
-
-// Where the line comes to: it goes through; or it is blocked at a plane; each with what it has met (`seen_line`).
+// Where the line comes to: it goes through; or it is blocked at a plane; each with where it was to go and what it has met (`seen_line`).
 #[derive(Clone, Copy)]
 pub enum Came {
-    Through(u32),
-    Blocked(Waiting, u32),
+    Through(Vector3, u32),
+    Blocked(Mark, Vector3, u32),
 }
 
 // Where a part's way down comes to: the word of an end; or a plane that it crosses, with the node's words, the distances of its ends and the
@@ -59,83 +53,56 @@ enum Turn {
     Blocked,
 }
 
-fn no_plane() -> Waiting {
-    Waiting {
-        plane: 0,
-        far: 0,
-        at: 0.0,
-        point: Vector3::new(0.0, 0.0, 0.0),
+// Where the line starts or ends.
+fn tip(at: f32, point: Vector3) -> Mark
+    ensures { Private.Tip at point result }
+{
+    Mark {
+        at,
+        point: [point.x, point.y, point.z],
+        held: 0,
     }
 }
 
 // The plane of a node that the line crosses where the part before it ends.
-#[tactic(auto, using(crate::proofs::States::packed_word, crate::proofs::States::packed_left, crate::proofs::States::packed_front, crate::proofs::States::packed_back))]
-fn waits(w: Words, front: bool, left: u32, near: Stretch) -> Waiting
+#[tactic(auto, using(crate::proofs::States::packed_plane, crate::proofs::States::packed_word, crate::proofs::States::packed_left, crate::proofs::States::packed_front, crate::proofs::States::packed_back))]
+fn waits(w: Words, front: bool, left: u32, near: Stretch) -> Mark
     requires { left ≤ 512 }
     ensures { Private.Keeps w front left near result }
 {
-    let from_back = Waiting {
-        plane: w.plane,
-        far: (w.on(!front) as u32) * 1024 + left,
+    let end = near.end;
+    let from_back = Mark {
         at: near.to,
-        point: near.end,
+        point: [end.x, end.y, end.z],
+        held: (w.plane as u64) * 4294967296 + (w.on(!front) as u64) * 1024 + (left as u64),
     };
     if front {
-        return Waiting {
-            far: from_back.far + 67108864,
+        return Mark {
+            held: from_back.held + 67108864,
             ..from_back
         };
     }
     from_back
 }
 
-// Before it.
-fn near_side(w: Words, front: bool, left: u32, near: Stretch) -> Stand
-    ensures { result ≡ Private.near_side w front left near }
-{
-    Stand {
-        word: w.on(front),
-        left,
-        part: near,
-    }
-}
-
-impl Waiting {
-    // Beyond it, as far as a fraction and a point.
-    fn far_side(self, to: f32, end: Vector3) -> Stand
-        ensures { result ≡ Private.far_side self to end }
+impl Mark {
+    // The part from it to another one.
+    fn part_to(&self, end: &Mark) -> Stretch
+        ensures { result ≡ Private.part_from self.now end.now }
     {
-        let start = self.point;
-        Stand {
-            word: (self.far / 1024 % 65536) as u16,
-            left: self.far % 1024,
-            part: Stretch {
-                from: self.at,
-                to,
-                start,
-                end,
-            },
+        Stretch {
+            from: self.at,
+            to: end.at,
+            start: point_of(&self.point),
+            end: point_of(&end.point),
         }
     }
 
-    // Beyond it, as far as the next one that waits, or, where none does, as far as the line goes that stood there first.
-    fn beyond(self, next: Option<Waiting>, first: Stand) -> Stand
-        ensures { result ≡ Private.beyond_next self next first.part }
-    {
-        match next {
-            Some(y) => self.far_side(y.at, y.point),
-            None => {
-                let whole = first.part;
-                self.far_side(whole.to, whole.end)
-            }
-        }
-    }
-
-    // Whether the line comes from its front.
+    // Whether the line comes from the front of the plane.
     pub fn is_from_front(self) -> bool
         ensures { result ≡ Private.from_front self }
     {
-        67108864 <= self.far
+        67108864 <= self.held % 4294967296
     }
 }
 
@@ -200,14 +167,10 @@ impl<'a> Ground<'a> {
     // have to be told how a node is read and what becomes of a refusal and of an end, and would be no plainer. (The far end is tested after the near
     // one: where the two sides are compared with each other, they are put into numbers first, which takes ten instructions a node.)
     // That the bytes are there is asked of this and the two below: a `Sections` would say it, and costs a line 1 to 3%.
-    fn down(&self, top: usize, calls: u32, part: Stretch) -> Option<Reached>
+    fn down(&self, top: usize, calls: u32, p: &[f32; 3], q: &[f32; 3]) -> Option<Reached>
         requires { self.now.whole ≡ true }
-        ensures { Private.Reaches self.now.s.now self.now.t top calls part result }
+        ensures { (x y : Float) → Private.Reaches self.now.s.now self.now.t top calls (stretch x y (point_of p.now) (point_of q.now)) result }
     {
-        let start = part.start;
-        let end = part.end;
-        let p = [start.x, start.y, start.z];
-        let q = [end.x, end.y, end.z];
         let t = self.t;
         let table = t.table;
         let render = table.is_render();
@@ -218,7 +181,7 @@ impl<'a> Ground<'a> {
         };
         let mut node = top;
         for left in (0..calls).rev() {
-            let (w, a, b) = sections.ends_in(node, &p, &q).ok()?;
+            let (w, a, b) = sections.ends_in(node, p, q).ok()?;
             let word = if a >= 0.0 {
                 if !(b >= 0.0) {
                     return Some(Reached::Crossing(w, a, b, left));
@@ -246,10 +209,7 @@ impl<'a> Ground<'a> {
     {
         let table = self.t.table;
         if table.is_render() {
-            return match end_contents(self.s, self.t, word) {
-                Err(_) => 0,
-                Ok(contents) => contents.code(),
-            };
+            return end_number(self.s, self.t, word);
         }
         clip_code(word)
     }
@@ -270,59 +230,72 @@ impl<'a> Ground<'a> {
         Some(Turn::Into(met(seen, code)))
     }
 
-    // One turn of the line from where it stands, with what it has met; `looked`: the first end is what the look beyond a plane finds.
+    // One turn of the line that stands at a child, by its word, with so many calls left and the part from x to y, with what it has met; `looked`: the
+    // first end is what the look beyond a plane finds.
     #[inline(always)]
-    fn one_turn(&self, at: Stand, seen: u32, looked: bool) -> Option<Turn>
+    fn one_turn(
+        &self,
+        at: u16,
+        left: u32,
+        x: &Mark,
+        y: &Mark,
+        seen: u32,
+        looked: bool,
+    ) -> Option<Turn>
         requires { (self.now.whole ≡ true) × (seen < 8) }
-        ensures { Private.Turned self.now.s.now self.now.t at seen looked result }
+        ensures { Private.Turned self.now.s.now self.now.t (Private.stands at left x.now y.now) seen looked result }
     {
-        let part = at.part;
-        let mut word = at.word;
-        if word < 32768 {
-            match self.down(word as usize, at.left, part)? {
+        let mut word = at;
+        if at < 32768 {
+            match self.down(at as usize, left, &x.point, &y.point)? {
                 Reached::End(end) => word = end,
-                Reached::Crossing(w, a, b, left) => {
-                    let near = part.near_part(crossing(a, b));
-                    return Some(Turn::Crossing(w, a >= 0.0, left, near));
+                Reached::Crossing(w, a, b, below) => {
+                    let near = x.part_to(y).near_part(crossing(a, b));
+                    return Some(Turn::Crossing(w, a >= 0.0, below, near));
                 }
             }
         }
         self.meet_end(word, seen, looked)
     }
 
-    // The line from where it stands. A tree of 32,767 nodes has fewer ends and planes than there are turns. (Ten places and the first that is used,
-    // and no list that grows: there is no heap, and ten are cleared without a call.)
+    // The line from a child on. A tree of 32,767 nodes has fewer ends and planes than there are turns. (Ten places and the first that is used, and no
+    // list that grows: there is no heap, and ten are cleared without a call. The last is the line's end, the others the planes that wait. Where the
+    // line was to go is read there again: handed on it takes a register.)
     #[tactic(auto, using(crate::proofs::Follows::fewer_left, crate::proofs::Follows::few_met))]
-    pub fn follow(&self, first: Stand) -> Option<Came>
-        requires { (self.now.whole ≡ true) × (first.left ≤ 512) }
-        ensures { Private.Arrives self.now first result }
+    pub fn follow(&self, root: u16, start: Vector3, end: Vector3) -> Option<Came>
+        requires { self.now.whole ≡ true }
+        ensures { Private.Arrives self.now (Private.from_start root start end) result }
     {
-        let mut stack = [no_plane(); 10];
-        let mut n: usize = 10;
-        let mut at = first;
+        let mut marks = [tip(0.0, Vector3::new(0.0, 0.0, 0.0)); 10];
+        let mut n: usize = 9;
+        marks[9] = tip(1.0, end);
+        let mut x = tip(0.0, start);
+        let mut word = root;
+        let mut left: u32 = 512;
         let mut seen: u32 = 0;
-        let mut x = no_plane();
         let mut looked = false;
         for _ in 0..131072u32 {
-            match self.one_turn(at, seen, looked)? {
-                Turn::Blocked => return Some(Came::Blocked(x, seen)),
-                Turn::Crossing(w, front, left, near) => {
+            match self.one_turn(word, left, &x, &marks[n], seen, looked)? {
+                Turn::Blocked => return Some(Came::Blocked(x, point_of(&marks[9].point), seen)),
+                Turn::Crossing(w, front, below, near) => {
                     if n == 0 {
                         return None;
                     }
                     n -= 1;
-                    stack[n] = waits(w, front, left, near);
-                    at = near_side(w, front, left, near);
+                    marks[n] = waits(w, front, below, near);
+                    word = w.on(front);
+                    left = below;
                 }
                 Turn::Into(so_far) => {
                     seen = so_far;
-                    if 10 <= n {
-                        return Some(Came::Through(seen));
+                    if 9 <= n {
+                        return Some(Came::Through(point_of(&marks[9].point), seen));
                     }
-                    x = stack[n];
+                    x = marks[n];
                     n += 1;
+                    word = (x.held / 1024 % 65536) as u16;
+                    left = (x.held % 1024) as u32;
                     looked = true;
-                    at = x.beyond(stack.get(n).copied(), first);
                 }
             }
         }

@@ -12,12 +12,13 @@ ghost use Rattle.line.specs.Private as Private;
 
 use crate::ground::Ground;
 use crate::state::{LineTrace, Stretch, crossing, plane_from};
-use crate::through::{Came, Stand, Waiting, seen_line};
+use crate::through::{Came, Mark, seen_line};
 use format::contents::BspLeafContents;
 use format::refusal::Answer;
 use format::section::BspData;
 use hull::collision::BspCollisionHull;
 use math::Vector3;
+use nodes::lines::point_of;
 use nodes::read::{Words, end_contents, plane_at};
 use nodes::table::tables_of;
 use nodes::whole::{are_whole, node_bytes, plane_bytes};
@@ -188,65 +189,53 @@ impl<'a> Ground<'a> {
 
     // What a line is that is blocked at a plane, with what is set before: it ends there, where that point is not solid from the root; where it is,
     // nothing is said.
-    fn stop_at(&self, x: Waiting, set: LineTrace) -> Option<LineTrace>
+    fn stop_at(&self, x: Mark, set: LineTrace) -> Option<LineTrace>
         ensures { Private.Stops self.now x set result }
     {
         if set.all_solid {
             return Some(set);
         }
-        let plane = plane_at(self.s, self.t, x.plane as usize).ok()?;
-        let c = self.contents_from(self.root, x.point).ok()?;
+        let plane = plane_at(self.s, self.t, (x.held / 4294967296) as usize).ok()?;
+        let point = point_of(&x.point);
+        let c = self.contents_from(self.root, point).ok()?;
         if c == BspLeafContents::Solid {
             return None;
         }
         let met = set.with_plane(plane_from(plane, x.is_from_front()));
-        Some(met.ended(x.at, x.point))
+        Some(met.ended(x.at, point))
     }
 
-    // What a whole line is where `follow` says nothing: record by record.
-    fn line_any(&self, start: Vector3, end: Vector3) -> Answer<Going>
-        ensures { Private.went_of result ≡ Private.all_went self.now start end }
+    // The whole line record by record. (Where the line starts and ends stands with the rest: handed on, it would be kept through the loop that is
+    // tried before.)
+    fn line_any(&self) -> Answer<Going>
+        ensures { Private.went_of result ≡ Private.all_went self.now self.now.start self.now.end }
     {
         let part = Stretch {
             from: 0.0,
             to: 1.0,
-            start,
-            end,
+            start: self.start,
+            end: self.end,
         };
-        self.line_from(self.root, 512, part, LineTrace::unset(end))
+        self.line_from(self.root, 512, part, LineTrace::unset(self.end))
     }
 
-    // The whole line: in one loop where the tables are whole.
+    // The whole line in one loop, where that can be and says it.
     #[tactic(auto, using(crate::proofs::Follows::came_through))]
-    fn line_all(&self, start: Vector3, end: Vector3) -> Answer<Going>
-        ensures { Private.went_of result ≡ Private.all_went self.now start end }
+    #[inline(always)]
+    fn line_quick(&self) -> Option<LineTrace>
+        ensures { Private.AtOnce (Line.line_answer (Private.all_went self.now self.now.start self.now.end)) result }
     {
-        if self.whole && self.root < 32768 {
-            let first = Stand {
-                word: self.root as u16,
-                left: 512,
-                part: Stretch {
-                    from: 0.0,
-                    to: 1.0,
-                    start,
-                    end,
-                },
-            };
-            match self.follow(first) {
-                None => {}
-                Some(Came::Through(seen)) => return Ok(Going::On(seen_line(end, seen))),
-                Some(Came::Blocked(x, seen)) => {
-                    if let Some(stopped) = self.stop_at(x, seen_line(end, seen)) {
-                        return Ok(Going::Stopped(stopped));
-                    }
-                }
-            }
+        if !self.whole || 32768 <= self.root {
+            return None;
         }
-        self.line_any(start, end)
+        match self.follow(self.root as u16, self.start, self.end)? {
+            Came::Through(q, seen) => Some(seen_line(q, seen)),
+            Came::Blocked(x, q, seen) => self.stop_at(x, seen_line(q, seen)),
+        }
     }
 }
 
-// The whole-line trace from start to end through a hull.
+// The whole-line trace from start to end through a hull: in one loop, or record by record where that says nothing.
 pub fn trace_line(
     s: &[u8],
     map: BspData,
@@ -265,9 +254,14 @@ pub fn trace_line(
         planes: plane_bytes(s, t, whole),
         root: hull.node_id,
         t,
+        start,
+        end,
         whole,
     };
-    match g.line_all(start, end)? {
+    if let Some(line) = g.line_quick() {
+        return Ok(line);
+    }
+    match g.line_any()? {
         Going::On(line) => Ok(line),
         Going::Stopped(line) => Ok(line),
     }

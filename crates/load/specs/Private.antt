@@ -1,6 +1,7 @@
--- For proofs, which go stage by stage; no contract cites it, and a reader of the calls may leave this file out.
--- The nineteen steps of `load_at` in seven stages, each with all that come after it: `from_planes` is loading from the planes on, once the header, the
--- limits and the entities were read. The first, `from_header`, is `load_at` itself (`stages` of proofs/Stages.antt).
+-- For the contracts of functions that no other crate can name, and for proofs, which go stage by stage; a reader of the calls may leave this
+-- file out.
+-- The nineteen steps of `load_at` in seven stages, each with all that come after it: `from_planes` is loading from the planes on, once the header,
+-- the limits and the entities were read. The first, `from_header`, is `load_at` itself (`stages` of proofs/Stages.antt).
 use Rattle.std.specs.Prelude.{ℕ, List}
 use Rattle.format.specs.Field.{u16_at}
 use Rattle.format.specs.Step.{Step, ok, and_then}

@@ -3,7 +3,8 @@
 
 ghost use Rattle.std.specs.Prelude.{◌≡◌};
 ghost use Rattle.load.specs.Load.{load_of, counted};
-ghost use Rattle.load.specs.Answers.{loaded_answer};
+ghost use Rattle.load.specs.Answers.{loaded_answer, loaded_step};
+ghost use Rattle.load.specs.Private.{from_vertices, from_collision_nodes};
 
 pub mod extents;
 pub mod section;
@@ -33,23 +34,25 @@ pub fn with_texture_count(map: BspData, texture_count: u32) -> BspData
     }
 }
 
-// Loads a file: its map record, or the first refusal that its bytes give.
-#[tactic(auto, unfolding(crate::specs::Load::load_at))]
-pub fn load(file: &[u8]) -> Answer<BspData>
-    ensures { loaded_answer result ≡ load_of file.now }
+// The steps from the vertices on, which read the map record with its texture count.
+#[tactic(auto, unfolding(crate::specs::Private::from_vertices, crate::specs::Private::from_texinfo))]
+fn load_sections(file: &[u8], map: BspData) -> Answer<BspData>
+    ensures { loaded_step result ≡ from_vertices file.now map }
 {
-    let (map, _) = read_header(file)?;
-    check_limits(map)?;
-    check_entities(file, map.entities)?;
-    check_planes(file, map.planes)?;
-    let (texture_count, _) = read_texture_section(file, map.textures)?;
-    let map = with_texture_count(map, texture_count);
     check_vertices(file, map.vertices)?;
     check_blob(file, map.visibility)?;
     check_render_nodes(file, map.render_nodes)?;
     check_texinfo(file, map)?;
     check_faces(file, map)?;
     check_blob(file, map.lightmaps)?;
+    load_last(file, map)
+}
+
+// The steps from the collision nodes on.
+#[tactic(auto, unfolding(crate::specs::Private::from_collision_nodes, crate::specs::Private::from_edges, crate::specs::Private::from_extents))]
+fn load_last(file: &[u8], map: BspData) -> Answer<BspData>
+    ensures { loaded_step result ≡ from_collision_nodes file.now map }
+{
     check_collision_nodes(file, map.collision_nodes)?;
     check_leaves(file, map.leaves)?;
     check_facelist(file, map.facelist)?;
@@ -59,4 +62,17 @@ pub fn load(file: &[u8]) -> Answer<BspData>
     check_leaf_references(file, map)?;
     check_models(file, map.models)?;
     Ok(map)
+}
+
+// Loads a file: its map record, or the first refusal that its bytes give.
+#[tactic(auto, unfolding(crate::specs::Load::load_at, crate::specs::Private::from_vertices, crate::specs::Private::from_texinfo, crate::specs::Private::from_collision_nodes, crate::specs::Private::from_edges, crate::specs::Private::from_extents))]
+pub fn load(file: &[u8]) -> Answer<BspData>
+    ensures { loaded_answer result ≡ load_of file.now }
+{
+    let (map, _) = read_header(file)?;
+    check_limits(map)?;
+    check_entities(file, map.entities)?;
+    check_planes(file, map.planes)?;
+    let (texture_count, _) = read_texture_section(file, map.textures)?;
+    load_sections(file, with_texture_count(map, texture_count))
 }

@@ -2,7 +2,7 @@
 -- Assumes nothing.
 use Rattle.std.proofs.Common.{Ok, Err, Some}
 use Rattle.std.specs.Prelude.{Result}
-use Rattle.std.proofs.Common.{◌≡◌, ℕ, suc, ◌+◌, ◌-◌, ◌<◌, ◌≤◌, Bool, true, false, cond, ltb, leb, ◌⊎◌, List, length, sym, refl, ap, ◌∙◌, inl, inr, arith, ltb-false, ltb-true, le-ltb, lt-ltb, leb-false, leb-true}
+use Rattle.std.proofs.Common.{◌≡◌, ℕ, suc, ◌+◌, ◌-◌, ◌/◌, ◌<◌, ◌≤◌, Bool, true, false, cond, ltb, leb, ◌⊎◌, List, length, sym, refl, ap, ◌∙◌, inl, inr, arith, ltb-false, ltb-true, le-ltb, lt-ltb, leb-false, leb-true}
 use Rattle.format.specs.Answer as Ans
 use Rattle.format.specs.Answer.{Answer, answer}
 use Rattle.format.specs.Refusal.{number_of}
@@ -11,11 +11,13 @@ use Rattle.math.specs.declared.vector.Vector3.{Vector3}
 use Rattle.walk.specs.Walk.{with_visits, walk, point_walk}
 use Rattle.walk.specs.Private.{after}
 use Rattle.walk.proofs.Steps.{walk_outside, walk_spent}
-use Rattle.nodes.specs.Fast.{end_of, table}
-use Rattle.nodes.specs.Walks.{ends, are_whole, made_from, child_toward, onward_answer}
-use Rattle.nodes.specs.Lanes.{landed, both, walk_two, rest, counted, ended, Steps}
+use Rattle.nodes.specs.Tables.{End}
+use Rattle.nodes.specs.Fast.{end_of, is_render, node_size, table}
+use Rattle.nodes.specs.Walks.{ends, are_whole, made_from, child_toward, onward_answer, Read}
+use Rattle.nodes.specs.Lanes.{landed, both, walk_two, rest, counted, ended, Steps, StepsIn, TwoIn}
 use Rattle.nodes.specs.Answers.{two_answer}
 use Rattle.nodes.specs.declared.table.Tables.{Tables}
+use Rattle.nodes.proofs.Making.{nodes_counted}
 use Rattle.nodes.proofs.Stepping.{at_first, step_refused, step_node, step_end}
 
 -- ---- a step
@@ -42,12 +44,11 @@ module _ (s : List ℕ) (t : Tables) (p : Vector3) (w v : ℕ) where
   at_an_end l h =
       record {
         goes = λ z. ap (λ (x : ℕ). rest s t p w x) (sym (counted_end h));
-        may = λ z y. absurd (omega (arith, h, y));
         stops = λ z. absurd (omega (arith, l, z));
       }
 
   stopped : (n : ℕ) → rest s t p w v ≡ Ans.refused n → Steps s t p w v 65536
-  stopped n e = record { goes = λ z. absurd (omega (arith, z)); may = λ z y. absurd (omega (arith, z)); stops = λ z. (n, e) }
+  stopped n e = record { goes = λ z. absurd (omega (arith, z)); stops = λ z. (n, e) }
 
   pub outside : w < 32768 → t.nodes.count ≤ w → Steps s t p w v 65536
   outside l h = stopped 30 (rest_node s t p w v l ∙ ap (after v) (walk_outside (ends (table s t)) p (t.nodes.count - v) w h))
@@ -76,7 +77,6 @@ module _ (s : List ℕ) (t : Tables) (p : Vector3) (w v : ℕ) where
     word_step n q f =
         record {
           goes = λ z. next n q (ltb n 32768) refl ∙ ap (λ (x : ℕ). rest s t p n x) (sym (counted_node l));
-          may = λ z y. (g, small);
           stops = λ z. absurd (omega (arith, f, z));
         }
 
@@ -121,73 +121,82 @@ pub visit_end : (w v : ℕ) → 32768 ≤ w → v ≡ counted w v
 unfolding counted
 visit_end w v h = simp (le-ltb w 32768 h)
 
-module _ (s : List ℕ) (t : Tables) (p q : Vector3) (first second : ℕ) where
-  pub none_whole : are_whole t (length s) ≡ false → Ans.refused 0 ≡ walk_two s t first second p q
-  unfolding walk_two
-  none_whole e = rw e
+few_after : (k w v : ℕ) → v ≤ k → (w < 32768 → v < k) → counted w v ≤ k
+few_after k w v l f = go (ltb w 32768) refl
+  where
+    go : (x : Bool) → ltb w 32768 ≡ x → counted w v ≤ k
+    go true e = omega (arith, visit_node w v (ltb-true w 32768 e), f (ltb-true w 32768 e))
+    go false e = omega (arith, visit_end w v (ltb-false w 32768 e), l)
+
+more : (w v : ℕ) → v ≤ counted w v
+more w v = go (ltb w 32768) refl
+  where
+    go : (x : Bool) → ltb w 32768 ≡ x → v ≤ counted w v
+    go true e = omega (arith, visit_node w v (ltb-true w 32768 e))
+    go false e = omega (arith, visit_end w v (ltb-false w 32768 e))
+
+-- by the bytes nb of the nodes and mb of the planes
+module _ (nb mb : List ℕ) (render : Bool) (count : ℕ) (p q : Vector3) (first second : ℕ) where
+  abbrev Both : ((s : List ℕ) → (t : Tables) → Answer ((End × ℕ) × (End × ℕ))) → Type 0
+  Both x = (s : List ℕ) (t : Tables) → Read s t nb mb true → render ≡ is_render t.table → count ≡ t.nodes.count → both (landed s t p first) (landed s t q second) ≡ x s t
+
+  -- fewer nodes in the bytes than that: they are of no such table
+  pub fewer_nodes : length nb / node_size render < count → TwoIn nb mb render count first second p q (λ t. Ans.refused 0)
+  fewer_nodes h s t w k l = absurd (omega (arith, h, l, nodes_counted s t nb mb true w refl render k))
 
   -- the two walks from the words a and b on, after m and n visits
   pub record Beside (a b m n : ℕ) : Type 0 where
-    pub same : both (landed s t p first) (landed s t q second) ≡ both (rest s t p a m) (rest s t q b n)
+    pub same : Both (λ s t. both (rest s t p a m) (rest s t q b n))
     pub one : a < 65536
     pub other : b < 65536
-    pub few : m ≤ t.nodes.count
-    pub fewer : n ≤ t.nodes.count
+    pub few : m ≤ count
+    pub fewer : n ≤ count
 
   pub beside_first : first < 65536 → second < 65536 → Beside first second 0 0
   beside_first f g =
       record {
-        same = rw (rest_first s t p first, rest_first s t q second);
+        same = λ s t w k l. rw (rest_first s t p first, rest_first s t q second);
         one = f;
         other = g;
         few = omega arith;
         fewer = omega arith;
       }
 
-  module _ (whole : are_whole t (length s) ≡ true) (a b m n : ℕ) (g : Beside a b m n) where
-    is_both : walk_two s t first second p q ≡ both (rest s t p a m) (rest s t q b n)
-    unfolding walk_two
-    is_both =
-        let e : walk_two s t first second p q ≡ both (landed s t p first) (landed s t q second) = rw whole in
-        e ∙ g.same
+  module _ (a b m n : ℕ) (g : Beside a b m n) where
+    pub beside_ends : 32768 ≤ a → 32768 ≤ b → TwoIn nb mb render count first second p q (λ t. two_answer t (Some ((record { word = a; visits = m }), (record { word = b; visits = n }))))
+    beside_ends f h s t w k l = sym (g.same s t w k l ∙ rw (rest_end s t p a m f, rest_end s t q b n h))
 
-    pub beside_ends : 32768 ≤ a → 32768 ≤ b → two_answer t.table (Some ((record { word = a; visits = m }), (record { word = b; visits = n }))) ≡ walk_two s t first second p q
-    beside_ends f h = sym (is_both ∙ rw (rest_end s t p a m f, rest_end s t q b n h))
+    module _ (c d : ℕ) (f : StepsIn nb mb render count p a m c) (h : StepsIn nb mb render count q b n d) where
+      pub stops_first : 65536 ≤ c → TwoIn nb mb render count first second p q (λ t. Ans.refused 0)
+      stops_first z s t w k l = let y = (f s t true w refl k l).stops z in sym (g.same s t w k l ∙ both_first (rest s t p a m) (rest s t q b n) y.0 y.1)
 
-    module _ (c d : ℕ) (f : Steps s t p a m c) (h : Steps s t q b n d) where
-      pub stops_first : 65536 ≤ c → Ans.refused 0 ≡ walk_two s t first second p q
-      stops_first z = sym (is_both ∙ both_first (rest s t p a m) (rest s t q b n) (f.stops z).0 (f.stops z).1)
+      pub stops_second : 65536 ≤ d → TwoIn nb mb render count first second p q (λ t. Ans.refused 0)
+      stops_second z s t w k l = let y = (h s t true w refl k l).stops z in sym (g.same s t w k l ∙ both_second (rest s t p a m) (rest s t q b n) y.0 y.1)
 
-      pub stops_second : 65536 ≤ d → Ans.refused 0 ≡ walk_two s t first second p q
-      stops_second z = sym (is_both ∙ both_second (rest s t p a m) (rest s t q b n) (h.stops z).0 (h.stops z).1)
+      module _ (i : c < 65536) (j : d < 65536) (f' : a < 32768 → c < 65536 → m < count) (h' : b < 32768 → d < 65536 → n < count) where
+        pub beside_on : Beside c d (counted a m) (counted b n)
+        beside_on =
+            record {
+              same = λ s t w k l. g.same s t w k l ∙ rw ((f s t true w refl k l).goes i, (h s t true w refl k l).goes j);
+              one = i;
+              other = j;
+              few = few_after count a m g.few (λ z. f' z i);
+              fewer = few_after count b n g.fewer (λ z. h' z j);
+            }
 
-      few_after : (w v : ℕ) → v ≤ t.nodes.count → (w < 32768 → v < t.nodes.count) → counted w v ≤ t.nodes.count
-      few_after w v l k = go (ltb w 32768) refl
-        where
-          go : (x : Bool) → ltb w 32768 ≡ x → counted w v ≤ t.nodes.count
-          go true e = omega (arith, visit_node w v (ltb-true w 32768 e), k (ltb-true w 32768 e))
-          go false e = omega (arith, visit_end w v (ltb-false w 32768 e), l)
+        pub beside_less : ended a b ≡ false → (count - counted a m) + (count - counted b n) < (count - m) + (count - n)
+        beside_less e = go (one_goes a b e)
+          where
+            go : (a < 32768) ⊎ (b < 32768) → (count - counted a m) + (count - counted b n) < (count - m) + (count - n)
+            go (inl z) = omega (arith, visit_node a m z, f' z i, more b n)
+            go (inr z) = omega (arith, visit_node b n z, h' z j, more a m)
 
-      pub beside_on : c < 65536 → d < 65536 → Beside c d (counted a m) (counted b n)
-      beside_on i j =
-          record {
-            same = g.same ∙ rw (f.goes i, h.goes j);
-            one = i;
-            other = j;
-            few = few_after a m g.few (λ z. (f.may i z).0);
-            fewer = few_after b n g.fewer (λ z. (h.may j z).0);
-          }
+-- the same of a file
+module _ (s : List ℕ) (t : Tables) (p q : Vector3) (first second : ℕ) where
+  pub none_whole : are_whole t (length s) ≡ false → Ans.refused 0 ≡ walk_two s t first second p q
+  unfolding walk_two
+  none_whole e = rw e
 
-      more : (w v : ℕ) → v ≤ counted w v
-      more w v = go (ltb w 32768) refl
-        where
-          go : (x : Bool) → ltb w 32768 ≡ x → v ≤ counted w v
-          go true e = omega (arith, visit_node w v (ltb-true w 32768 e))
-          go false e = omega (arith, visit_end w v (ltb-false w 32768 e))
-
-      pub beside_less : c < 65536 → d < 65536 → ended a b ≡ false → (t.nodes.count - counted a m) + (t.nodes.count - counted b n) < (t.nodes.count - m) + (t.nodes.count - n)
-      beside_less i j e = go (one_goes a b e)
-        where
-          go : (a < 32768) ⊎ (b < 32768) → (t.nodes.count - counted a m) + (t.nodes.count - counted b n) < (t.nodes.count - m) + (t.nodes.count - n)
-          go (inl z) = omega (arith, visit_node a m z, (f.may i z).0, more b n)
-          go (inr z) = omega (arith, visit_node b n z, (h.may j z).0, more a m)
+  pub all_whole_two : are_whole t (length s) ≡ true → (x : Answer ((End × ℕ) × (End × ℕ))) → x ≡ both (landed s t p first) (landed s t q second) → x ≡ walk_two s t first second p q
+  unfolding walk_two
+  all_whole_two e x h = rw e h

@@ -1,4 +1,4 @@
--- What `found_in` says, and what `segment_in`, `ends_in` and `look_in` make of it, of whatever bytes they are handed.
+-- What `found_in` says, and what `ends_in` and `look_in` make of it, of whatever bytes they are handed.
 -- Assumes nothing.
 use Rattle.std.proofs.Common.{◌≡◌, ℕ, zero, suc, ◌+◌, ◌*◌, ◌/◌, ◌<◌, Bool, true, false, ltb, List, [], ◌∷◌, ◌++◌, length, get_or, refl, ap, ◌∙◌, arith, length-append}
 use Rattle.std.specs.Prelude.{Result, Ok, Err, cond}

@@ -17,6 +17,7 @@ mod AnyTables
 pub mod Equal
 pub mod Ends
 mod Handed
+mod LeafCodes
 pub mod Numbering
 pub mod QuickTables
 pub mod Owning

@@ -2,8 +2,7 @@
 -- Assumes nothing.
 use Rattle.std.specs.Prelude.{Option, Some, None, Result, Ok, Err}
 use Rattle.std.specs.Borrow.{Bor}
-use Rattle.std.proofs.Common.{◌≡◌, ℕ, zero, suc, ◌+◌, ◌-◌, ◌*◌, ◌/◌, ◌%◌, ◌<◌, ◌≤◌, Bool, true, false, cond, ltb, List, length, get_or, sym, refl, ap, ◌∙◌, subst, arith, ltb-false, ltb-true, ne_eqb}
-use Rattle.format.specs.Answers.{answer_of}
+use Rattle.std.proofs.Common.{◌≡◌, ℕ, zero, suc, ◌+◌, ◌-◌, ◌*◌, ◌/◌, ◌%◌, ◌<◌, ◌≤◌, Bool, true, false, cond, not, eqb, ltb, ◌⊎◌, inl, inr, List, length, get_or, sym, refl, ap, ◌∙◌, subst, arith, ltb-false, ltb-true, lt-ltb, le-ltb, ne_eqb}
 use Rattle.format.specs.Answer as Ans
 use Rattle.format.specs.Answer.{Answer, answer, then_answer}
 use Rattle.format.specs.Code.{contents_of}
@@ -18,15 +17,15 @@ use Rattle.walk.specs.Walk.{with_visits, meet, walk}
 use Rattle.walk.specs.Private.{after}
 use Rattle.walk.proofs.Steps.{walk_outside, walk_spent}
 use Rattle.nodes.specs.Tables.{file_table}
-use Rattle.nodes.specs.Fast.{u32, coded, end_of, is_render, leaf_contents_here, node_size, place_in, plane_here, table, contents_met}
+use Rattle.nodes.specs.Fast.{u32, coded, end_of, is_invalid, is_render, leaf_contents_here, node_size, place_in, plane_here, table, contents_met}
 use Rattle.nodes.specs.Walks.{are_whole, ends, child_toward, found_answer, made_from, MadeIn, node_bytes, onward_answer, plane_bytes, word_at}
-use Rattle.nodes.specs.Quick.{code_or, end_code, leaves_by, or_nothing, part_with, quick_answer, quick_in, QuickIn, quick_walk, said, tables_by, Whole, word_contents}
+use Rattle.nodes.specs.Quick.{code_or, end_code, leaves_by, or_nothing, part_with, quick_answer, quick_in, QuickIn, quick_walk, WalkedIn, said, tables_by, Whole, word_contents}
 use Rattle.nodes.specs.declared.read.Words.{Words}
 use Rattle.nodes.specs.declared.table.HullTable.{HullTable}
 use Rattle.nodes.specs.declared.table.Tables.{Tables}
 use Rattle.nodes.proofs.Making.{nodes_counted, none_of, made_toward, whole_answer}
 use Rattle.nodes.proofs.Leaves.{low_code, bad_code, bad_vis, no_vis, vis}
-use Rattle.nodes.proofs.Places.{none}
+use Rattle.nodes.proofs.Places.{none, unreadable, inside, outside}
 use Rattle.nodes.proofs.Wholes.{whole_is, all_whole}
 use Rattle.nodes.proofs.Stepping.{at_first, step_refused, step_node, step_end}
 
@@ -62,6 +61,13 @@ module _ (n m : List ℕ) (render : Bool) (root : ℕ) (p : Vector3) where
 
   pub no_root : count ≤ root → QuickIn n m render root p 0
   no_root h s t w = sym (ap (λ o. or_nothing (with_visits o)) (walk_outside (ends (table s t)) p t.nodes.count root (omega (arith, h, counted s t w))))
+
+  -- where the nodes may be more than the words
+  pub few_walked : count < 32768 → (r : ℕ) → QuickIn n m render root p r → WalkedIn n m render root p r
+  few_walked h r u s t w = u s t w ∙ sym (ap (λ b. cond b (quick_in s t root p) (Ans.refused 0)) (lt-ltb t.nodes.count 32768 (omega (arith, h, counted s t w))))
+
+  pub many_walked : 32768 ≤ count → WalkedIn n m render root p 0
+  many_walked h s t w = sym (ap (λ b. cond b (quick_in s t root p) (Ans.refused 0)) (le-ltb t.nodes.count 32768 (omega (arith, h, counted s t w))))
 
   module _ (i v : ℕ) (st : Stands n m render root p i v) (h : i < count) where
     pub spent : count ≤ v → QuickIn n m render root p 0
@@ -168,47 +174,102 @@ code_is (suc (suc (suc (suc (suc (suc (suc (suc (suc (suc (suc (suc (suc zero)))
 code_is (suc (suc (suc (suc (suc (suc (suc (suc (suc (suc (suc (suc (suc (suc zero)))))))))))))) c e = let q : CurrentDown ≡ c = cc in ap code_of q
 code_is (suc (suc (suc (suc (suc (suc (suc (suc (suc (suc (suc (suc (suc (suc (suc n))))))))))))))) c e = let q : None ≡ Some c = sym (high (suc (suc (suc (suc (suc (suc (suc (suc (suc (suc (suc (suc (suc (suc (suc n))))))))))))))) (omega arith)) ∙ e in let z : ◌≡◌ {A = ℕ} 0 1 = cc in absurd (omega arith)
 
--- the number where it stands for contents
-pub known : (n : ℕ) (x : Option BspLeafContents) → contents_of n ≡ x → (c : BspLeafContents) → x ≡ Some c → n ≡ code_or (said (contents_of n))
-known n x e c q = code_is n c (e ∙ q) ∙ ap (λ (y : Option BspLeafContents). code_or (said y)) (sym (e ∙ q))
+abbrev is_coded : ℕ → Bool
+is_coded n = not (is_invalid (contents_of n))
 
-pub unknown : (n : ℕ) (x : Option BspLeafContents) → contents_of n ≡ x → x ≡ None → 0 ≡ code_or (said (contents_of n))
-unknown n x e q = ap (λ (y : Option BspLeafContents). code_or (said y)) (sym (e ∙ q))
+-- the codes below 15 are those that are not 0 or 7 past a multiple of 8
+pub coded_low : (n : ℕ) → n < 15 → cond (eqb (n % 8) 0) false (ltb (n % 8) 7) ≡ is_coded n
+unfolding contents_of
+coded_low zero h = refl
+coded_low (suc zero) h = refl
+coded_low (suc (suc zero)) h = refl
+coded_low (suc (suc (suc zero))) h = refl
+coded_low (suc (suc (suc (suc zero)))) h = refl
+coded_low (suc (suc (suc (suc (suc zero))))) h = refl
+coded_low (suc (suc (suc (suc (suc (suc zero)))))) h = refl
+coded_low (suc (suc (suc (suc (suc (suc (suc zero))))))) h = refl
+coded_low (suc (suc (suc (suc (suc (suc (suc (suc zero)))))))) h = refl
+coded_low (suc (suc (suc (suc (suc (suc (suc (suc (suc zero))))))))) h = refl
+coded_low (suc (suc (suc (suc (suc (suc (suc (suc (suc (suc zero)))))))))) h = refl
+coded_low (suc (suc (suc (suc (suc (suc (suc (suc (suc (suc (suc zero))))))))))) h = refl
+coded_low (suc (suc (suc (suc (suc (suc (suc (suc (suc (suc (suc (suc zero)))))))))))) h = refl
+coded_low (suc (suc (suc (suc (suc (suc (suc (suc (suc (suc (suc (suc (suc zero))))))))))))) h = refl
+coded_low (suc (suc (suc (suc (suc (suc (suc (suc (suc (suc (suc (suc (suc (suc zero)))))))))))))) h = refl
+coded_low (suc (suc (suc (suc (suc (suc (suc (suc (suc (suc (suc (suc (suc (suc (suc n))))))))))))))) h = absurd (omega (arith, h))
+
+pub coded_high : (n : ℕ) → 15 ≤ n → false ≡ is_coded n
+coded_high n h = ap (λ (x : Option BspLeafContents). not (is_invalid x)) (sym (high n (omega (arith, h))))
+
+-- the number where it is a code, and 0
+pub number_said : (n : ℕ) (x : Option BspLeafContents) → contents_of n ≡ x → (b : Bool) → b ≡ not (is_invalid x) → cond b n 0 ≡ code_or (said x)
+number_said n (Some c) e b q = rw q (code_is n c e)
+number_said n None e b q = rw q refl
+
+no_code : (x : Option BspLeafContents) → not (is_invalid x) ≡ false → x ≡ None
+no_code (Some c) e = let z : ◌≡◌ {A = ℕ} 0 1 = cc in absurd (omega arith)
+no_code None e = refl
+
+its_contents : (x : Option BspLeafContents) → not (is_invalid x) ≡ true → (c : BspLeafContents) × (x ≡ Some c)
+its_contents (Some c) e = (c, refl)
+its_contents None e = let z : ◌≡◌ {A = ℕ} 0 1 = cc in absurd (omega arith)
 
 u32_small : (s : List ℕ) (at : ℕ) → ((i : ℕ) → get_or s i 0 < 256) → u32 s at < 4294967296
 unfolding u32
 u32_small s at f = omega (arith, f at, f (at + 1), f (at + 2), f (at + 3))
 
--- the number of a leaf's contents is the file's, negated
-module _ (s : List ℕ) (at : ℕ) (h : at + 28 ≤ length s) (fits : (i : ℕ) → get_or s i 0 < 256) (c : BspLeafContents) (e : answer c ≡ leaf_contents_here s at) where
+-- the number of a leaf's contents is the file's, negated: r
+module _ (s : List ℕ) (at : ℕ) (h : at + 28 ≤ length s) (fits : (i : ℕ) → get_or s i 0 < 256) (x : ℕ) (is_x : x ≡ u32 s at) (r : ℕ) (neg : (r + x) % 4294967296 ≡ 0) (r_fits : r < 4294967296) where
+  small : x < 4294967296
+  small = rw is_x (u32_small s at fits)
+
   abbrev m : ℕ
-  m = 4294967295 - u32 s at + 1
+  m = 4294967295 - x + 1
 
-  not_refused : {A : Type 0} → Ans.refused 23 ≡ leaf_contents_here s at → A
-  not_refused q = let k : Ans.refused 23 ≡ answer c = q ∙ sym e in let z : ◌≡◌ {A = ℕ} 0 1 = cc in absurd (omega arith)
+  low_is_none : x < 2147483648 → (b : Bool) → ltb r 15 ≡ b → contents_of r ≡ None
+  unfolding contents_of
+  low_is_none l true e = rw (omega-zero (ltb-true r 15 e)) refl
+    where
+      omega-zero : r < 15 → r ≡ 0
+      omega-zero q = omega (arith, q, l, neg)
+  low_is_none l false e = high r (omega (arith, ltb-false r 15 e))
 
-  same_number : (d : BspLeafContents) → contents_of m ≡ Some d → answer d ≡ leaf_contents_here s at → m ≡ code_of c
-  same_number d q k = let u : answer d ≡ answer c = k ∙ sym e in let w : d ≡ c = cc in code_is m d q ∙ ap code_of w
+  by_sign : (b : Bool) → ltb x 2147483648 ≡ b → contents_of r ≡ None → 0 ≡ code_or (leaf_contents_here s at)
+  by_sign true e q = ap code_or (low_code s at x 0 h is_x (ltb-true x 2147483648 e))
+  by_sign false e q =
+      let l = ltb-false x 2147483648 e in
+      let k : r ≡ m = omega (arith, l, neg, r_fits, small) in
+      ap code_or (bad_code s at x 0 h is_x l small m refl (ap contents_of (sym k) ∙ q))
 
-  module _ (l : 2147483648 ≤ u32 s at) where
-    by_offset : (d : BspLeafContents) → contents_of m ≡ Some d → (b : Bool) → ltb (u32 s (at + 4)) 2147483648 ≡ b → (k : Bool) → ltb (u32 s (at + 4)) 4294967295 ≡ k → m ≡ code_of c
-    by_offset d q true r k t = same_number d q (vis s at (u32 s at) (u32 s (at + 4)) h refl l (u32_small s at fits) m refl d q refl (ltb-true (u32 s (at + 4)) 2147483648 r))
-    by_offset d q false r true t = not_refused (bad_vis s at (u32 s at) (u32 s (at + 4)) h refl l (u32_small s at fits) m refl d q refl (ltb-false (u32 s (at + 4)) 2147483648 r) (ltb-true (u32 s (at + 4)) 4294967295 t))
-    by_offset d q false r false t = same_number d q (no_vis s at (u32 s at) (u32 s (at + 4)) h refl l (u32_small s at fits) m refl d q refl (ltb-false (u32 s (at + 4)) 4294967295 t) (u32_small s (at + 4) fits))
+  pub leaf_none : is_coded r ≡ false → 0 ≡ code_or (leaf_contents_here s at)
+  leaf_none e = by_sign (ltb x 2147483648) refl (no_code (contents_of r) e)
 
-    by_number : (x : Option BspLeafContents) → contents_of m ≡ x → m ≡ code_of c
-    by_number None q = not_refused (bad_code s at (u32 s at) 0 h refl l (u32_small s at fits) m refl q)
-    by_number (Some d) q = by_offset d q (ltb (u32 s (at + 4)) 2147483648) refl (ltb (u32 s (at + 4)) 4294967295) refl
+  module _ (e : is_coded r ≡ true) where
+    of_code : (c : BspLeafContents) × (contents_of r ≡ Some c)
+    of_code = its_contents (contents_of r) e
 
-  by_sign : (b : Bool) → ltb (u32 s at) 2147483648 ≡ b → (r : ℕ) → (r + u32 s at) % 4294967296 ≡ 0 → r < 4294967296 → r ≡ code_of c
-  by_sign true q r f g = not_refused (low_code s at (u32 s at) 0 h refl (ltb-true (u32 s at) 2147483648 q))
-  by_sign false q r f g =
-      let l = ltb-false (u32 s at) 2147483648 q in
-      let k : r ≡ m = omega (arith, l, f, g, u32_small s at fits) in
-      k ∙ by_number l (contents_of m) refl
+    negative : (b : Bool) → ltb x 2147483648 ≡ b → 2147483648 ≤ x
+    negative true q =
+        let w : ◌≡◌ {A = Option BspLeafContents} None (Some of_code.0) = sym (low_is_none (ltb-true x 2147483648 q) (ltb r 15) refl) ∙ of_code.1 in
+        let z : ◌≡◌ {A = ℕ} 0 1 = cc in absurd (omega arith)
+    negative false q = ltb-false x 2147483648 q
 
-  pub leaf_number : (x : ℕ) → x ≡ u32 s at → (r : ℕ) → (r + x) % 4294967296 ≡ 0 → r < 4294967296 → r ≡ code_or (leaf_contents_here s at)
-  leaf_number x is_x r f g = by_sign (ltb (u32 s at) 2147483648) refl r (rw is_x at f) g ∙ ap code_or e
+    sign : 2147483648 ≤ x
+    sign = negative (ltb x 2147483648) refl
+
+    is_m : r ≡ m
+    is_m = omega (arith, sign, neg, r_fits, small)
+
+    of_m : contents_of m ≡ Some of_code.0
+    of_m = ap contents_of (sym is_m) ∙ of_code.1
+
+    module _ (v : ℕ) (is_v : v ≡ u32 s (at + 4)) where
+      pub leaf_unseen : 2147483648 ≤ v → v < 4294967295 → 0 ≡ code_or (leaf_contents_here s at)
+      leaf_unseen a b = ap code_or (bad_vis s at x v h is_x sign small m refl of_code.0 of_m is_v a b)
+
+      pub leaf_number : (v < 2147483648) ⊎ (4294967295 ≤ v) → r ≡ code_or (leaf_contents_here s at)
+      leaf_number (inl a) = code_is r of_code.0 of_code.1 ∙ ap code_or (vis s at x v h is_x sign small m refl of_code.0 of_m is_v a)
+      leaf_number (inr b) =
+          code_is r of_code.0 of_code.1 ∙ ap code_or (no_vis s at x v h is_x sign small m refl of_code.0 of_m is_v b (rw is_v (u32_small s (at + 4) fits)))
 
 module _ (s : List ℕ) (a n w : ℕ) where
   abbrev leaf_there : Answer BspLeafContents
@@ -236,12 +297,33 @@ module _ (s : List ℕ) (a n w : ℕ) where
     pub code_word : k ≡ false → (c : ℕ) → c ≡ code_or (word_contents w) → c ≡ end_code s k a n w
     code_word e c q = rw e (q ∙ by_said)
 
-    module _ (e : k ≡ true) (r : Result ℕ Refusal) (is-r : answer_of r ≡ place_in (part_with a n 32767) 28 (length s) (65535 - w)) where
-      at_place : code_or (then_answer (answer_of r) (leaf_contents_here s)) ≡ end_code s k a n w
-      at_place = rw e (ap (λ (x : Answer ℕ). code_or (then_answer x (leaf_contents_here s))) is-r ∙ by_leaf)
+    -- a leaf, of z bytes of leaves
+    module _ (e : k ≡ true) (z : ℕ) (is_n : n ≡ z / 28) where
+      abbrev i : ℕ
+      i = 65535 - w
 
-      pub code_none : (x : Refusal) → r ≡ Err x → 0 ≡ end_code s k a n w
-      code_none x q = ap (λ y. code_or (then_answer (answer_of y) (leaf_contents_here s))) (sym q) ∙ at_place
+      there : (x : Answer ℕ) → x ≡ place_in (part_with a n 32767) 28 (length s) i → code_or (then_answer x (leaf_contents_here s)) ≡ end_code s k a n w
+      there x q = rw e (ap (λ (y : Answer ℕ). code_or (then_answer y (leaf_contents_here s))) q ∙ by_leaf)
 
-      pub code_leaf : (at : ℕ) → r ≡ Ok at → (c : ℕ) → c ≡ code_or (leaf_contents_here s at) → c ≡ end_code s k a n w
-      code_leaf at q c is_c = is_c ∙ ap (λ y. code_or (then_answer (answer_of y) (leaf_contents_here s))) (sym q) ∙ at_place
+      by_limit : (b : Bool) → ltb i n ≡ b → 32767 < n → 0 ≡ end_code s k a n w
+      by_limit true q l = there (Ans.refused 23) (unreadable (part_with a n 32767) 28 (length s) i (ltb-true i n q) (rw (lt-ltb 32767 n l) (omega arith)))
+      by_limit false q l = there (Ans.refused 20) (none (part_with a n 32767) 28 (length s) i (ltb-false i n q))
+
+      pub code_many : 917504 ≤ z → 0 ≡ end_code s k a n w
+      code_many l = by_limit (ltb i n) refl (omega (arith, l, is_n))
+
+      pub code_none : z < i * 28 + 28 → 0 ≡ end_code s k a n w
+      code_none l = there (Ans.refused 20) (none (part_with a n 32767) 28 (length s) i (omega (arith, l, is_n)))
+
+      module _ (l : z < 917504) (h : i * 28 + 28 ≤ z) where
+        its : i < n
+        its = omega (arith, h, is_n)
+
+        readable : i < cond (ltb 32767 n) 0 n
+        readable = rw (le-ltb 32767 n (omega (arith, l, is_n))) its
+
+        pub code_past : length s < a + (i * 28 + 28) → 0 ≡ end_code s k a n w
+        code_past g = there (Ans.refused 23) (outside (part_with a n 32767) 28 (length s) i its readable (omega (arith, g)))
+
+        pub code_leaf : a + (i * 28 + 28) ≤ length s → (at : ℕ) → at ≡ a + i * 28 → (c : ℕ) → c ≡ code_or (leaf_contents_here s at) → c ≡ end_code s k a n w
+        code_leaf g at is_at c is_c = is_c ∙ there (answer at) (ap answer is_at ∙ inside (part_with a n 32767) 28 (length s) i its readable (omega (arith, g)))

@@ -15,6 +15,7 @@ use Rattle.format.specs.declared.refusal.Refusal.{Refusal}
 use Rattle.walk.specs.Walk.{meet}
 use Rattle.nodes.specs.Tables.{nth, is_box, file_table}
 use Rattle.nodes.specs.Fast.{is_render, place_in, coded, words_answer, render_node_here, clip_node_here, node_in, leaf_contents_here, end_of, table, contents_met}
+use Rattle.nodes.specs.Quick.{said, word_contents}
 use Rattle.nodes.specs.declared.table.HullTable.{HullTable}
 use Rattle.nodes.specs.declared.table.HullTable.TheVariants.{Render, Clip, Box}
 use Rattle.nodes.specs.declared.table.Part.{Part}
@@ -98,3 +99,12 @@ module _ (s : List ℕ) (t : Tables) (w : ℕ) (b : Bool) (is_b : b ≡ is_rende
   pub code_met : b ≡ false → (k : Option BspLeafContents) → k ≡ contents_of (65536 - w) → answer_of (ok_or k Unreadable) ≡ contents_met s t w
   unfolding contents_met
   code_met e k is-k = told k ∙ ap (λ x. meet (table s t) (coded x)) is-k ∙ ap (meet (table s t)) (by_code t.table (sym is_b ∙ e))
+
+  said_met : (k : Option BspLeafContents) → said k ≡ meet (table s t) (coded k)
+  unfolding meet
+  said_met (Some c) = refl
+  said_met None = refl
+
+  pub word_met : b ≡ false → word_contents w ≡ contents_met s t w
+  unfolding contents_met
+  word_met e = said_met (contents_of (65536 - w)) ∙ ap (meet (table s t)) (by_code t.table (sym is_b ∙ e))

@@ -25,6 +25,11 @@ both (refused n) b = refused 0
 unfoldable pub walk_two : List ℕ → Tables → ℕ → ℕ → Vector3 → Vector3 → Answer ((End × ℕ) × (End × ℕ))
 walk_two s t v w p q = cond (are_whole t (length s)) (both (landed s t p v) (landed s t q w)) (refused 0)
 
+-- the two walks by the bytes n of the nodes and m of the planes, where they are those of a table that is whole and has so many nodes
+abbrev pub TwoIn : List ℕ → List ℕ → Bool → ℕ → ℕ → ℕ → Vector3 → Vector3 → (HullTable → Answer ((End × ℕ) × (End × ℕ))) → Type 0
+TwoIn n m render count v w p q x =
+    (s : List ℕ) (t : Tables) → Read s t n m true → render ≡ is_render t.table → count ≡ t.nodes.count → x t.table ≡ both (landed s t p v) (landed s t q w)
+
 abbrev pub lane_end : HullTable → Lane → End × ℕ
 lane_end t l = (end_of t l.word, l.visits)
 
@@ -47,7 +52,6 @@ ended a b = cond (nat_le 32768 a) (nat_le 32768 b) false
 -- a step from a word to r, which is 65536 where the walk is refused
 pub record Steps (s : List ℕ) (t : Tables) (p : Vector3) (w v r : ℕ) : Type 0 where
   pub goes : r < 65536 → rest s t p w v ≡ rest s t p r (counted w v)
-  pub may : r < 65536 → w < 32768 → (v < t.nodes.count) × (t.nodes.count < 4294967296)
   pub stops : 65536 ≤ r → (n : ℕ) × (rest s t p w v ≡ refused n)
 
 -- by the bytes n of the nodes and m of the planes, where they are those of a table that is whole

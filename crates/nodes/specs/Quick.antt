@@ -73,6 +73,10 @@ pub record Whole (s : List ℕ) (t : Tables) (nodes planes : List ℕ) (render :
 abbrev pub QuickIn : List ℕ → List ℕ → Bool → ℕ → Vector3 → ℕ → Type 0
 QuickIn n m render root p r = (s : List ℕ) (t : Tables) → Whole s t n m render → quick_answer t.table r ≡ quick_in s t root p
 
+-- the same, which says nothing of tables with more nodes than there are words
+abbrev pub WalkedIn : List ℕ → List ℕ → Bool → ℕ → Vector3 → ℕ → Type 0
+WalkedIn n m render root p r = (s : List ℕ) (t : Tables) → Whole s t n m render → quick_answer t.table r ≡ cond (nat_lt t.nodes.count 32768) (quick_in s t root p) (refused 0)
+
 -- the code of contents, and 0 where there are none
 abbrev pub code_or : Answer BspLeafContents → ℕ
 code_or (answer c) = code_of c

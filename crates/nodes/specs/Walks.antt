@@ -1,5 +1,5 @@
 -- For the contracts of functions below the calls; a reader of the calls may leave this file out.
--- The walk of a point to an end (`walk_to_end`), and what a trace sees at a node (`segment_in`, `segment_any`): both make something of a node and its
+-- The walk of a point to an end (`walk_to_end`), and what a trace sees at a node (`ends_in`, `segment_any`): both make something of a node and its
 -- plane. Then the bytes of the nodes and the planes, where the file has all of them (`are_whole`, `node_bytes`, `plane_bytes`).
 use Rattle.std.specs.Prelude.{Result, Ok, Err, ◌≡◌, ℕ, ◌+◌, ◌*◌, ◌/◌, Bool, true, false, cond, List, [], ◌++◌, length, take, drop, nat_le, nat_lt, Float}
 use Rattle.std.specs.Borrow.{Bor}
@@ -8,6 +8,7 @@ use Rattle.format.specs.Refusal.{number_of}
 use Rattle.format.specs.declared.refusal.Refusal.{Refusal}
 use Rattle.math.specs.Plane as Pl
 use Rattle.math.specs.declared.vector.Vector3.{Vector3}
+use Rattle.math.specs.declared.plane.Hyperplane.{Hyperplane}
 use Rattle.math.specs.declared.plane.HyperplaneSide.{HyperplaneSide}
 use Rattle.math.specs.declared.plane.HyperplaneSide.TheVariants.{Positive, Negative}
 use Rattle.walk.specs.Table.{Child, Node, Table, child_on}
@@ -57,6 +58,11 @@ MadeIn make render n m at x =
 abbrev pub found_answer : HullTable → Result (Words × Bor (List ℕ)) Refusal → Answer (Entered End)
 found_answer t (Ok (w, b)) = answer (record { nd = node_of t w; plane = plane_here b.now 0 })
 found_answer t (Err e) = refused (number_of e)
+
+-- a group of points takes the node and its plane as they are
+abbrev pub entered_answer : HullTable → Result (Words × Hyperplane) Refusal → Answer (Entered End)
+entered_answer t (Ok (w, h)) = answer (record { nd = node_of t w; plane = h })
+entered_answer t (Err e) = refused (number_of e)
 
 -- a walk makes the child on the point's side
 abbrev pub child_toward : Vector3 → Entered End → Child End
@@ -122,7 +128,7 @@ abbrev pub made_in : {X : Type 0} → (Entered End → X) → Bool → List ℕ 
 made_in make render n m i =
     cond (nat_lt i (length n / node_size render)) (made_at make render (n ++ m) (i * node_size render) (length n) (length m / 20)) (refused 20)
 
--- what `segment_in`, `ends_in` and `look_in` answer, x, is made so; and where the bytes are those of a table that is whole, it is what the table says
+-- what `ends_in` and `look_in` answer, x, is made so; and where the bytes are those of a table that is whole, it is what the table says
 abbrev pub MadeOf : {X : Type 0} → (Entered End → X) → Bool → List ℕ → List ℕ → ℕ → (HullTable → Answer X) → Type 0
 MadeOf make render n m i x =
     (x (file_table render) ≡ made_in make render n m i)

@@ -4,7 +4,6 @@ ghost use Rattle.format.specs.Answers.{answer_of};
 ghost use Rattle.nodes.specs.Fast as Fast;
 
 use crate::bytes::{f32_at, u16_at, u32_at};
-use crate::lines::point_of;
 use crate::read::Words;
 use format::code::contents_of;
 use format::contents::BspLeafContents;
@@ -88,20 +87,6 @@ pub fn dists_here(bytes: &[u8; 20], p: Vector3, q: Vector3) -> (f32, f32)
     }
     let plane = Hyperplane::new(normal_of(bytes), dist);
     (plane.point_dist(p), plane.point_dist(q))
-}
-
-// The same of points that are lists of three, so that the coordinate along an axis is found by its number and not by a branch
-// (docs/DECISIONS.md 102).
-pub fn ends_here(bytes: &[u8; 20], p: &[f32; 3], q: &[f32; 3]) -> (f32, f32)
-    ensures { result ≡ Fast.two_dists (Fast.point_of p.now) (Fast.point_of q.now) (Fast.plane_here bytes.now 0) }
-{
-    let dist = f32_at(bytes, 12);
-    let kind = u32_at(bytes, 16);
-    if kind < 3 {
-        return (p[kind as usize] - dist, q[kind as usize] - dist);
-    }
-    let plane = Hyperplane::new(normal_of(bytes), dist);
-    (plane.point_dist(point_of(p)), plane.point_dist(point_of(q)))
 }
 
 // The plane of twenty bytes: of type 0, 1 or 2 the normal is ignored. A match, since the last arm takes the normal too.

@@ -1,13 +1,16 @@
-// The readers of whole-line traces (docs/DECISIONS.md 64, 102), where the file has all records of the nodes and the planes: the points are
+// The readers of traces and whole-line traces (docs/DECISIONS.md 64, 102), where the file has all records of the nodes and the planes: the points are
 // lists of three.
 ghost use Rattle.std.specs.Prelude.{◌≡◌};
 ghost use Rattle.math.specs.Plane as Pl;
 ghost use Rattle.nodes.specs.Fast as Fast;
+ghost use Rattle.nodes.specs.Quick as Quick;
 ghost use Rattle.nodes.specs.Walks as Walks;
 
 use crate::bytes::{f32_at, u32_at};
-use crate::here::{ends_here, normal_of};
+use crate::here::normal_of;
+use crate::quick::{leaf_code, word_code};
 use crate::read::Words;
+use crate::table::Tables;
 use crate::whole::Sections;
 use format::refusal::Answer;
 use math::{Hyperplane, Vector3};
@@ -35,30 +38,53 @@ fn word_by_distance(bytes: &[u8; 20], words: Words, point: &[f32; 3]) -> u16
     words.on(Hyperplane::new(normal_of(bytes), dist).point_dist(point_of(point)) >= 0.0)
 }
 
-// How far two points are from a slanted plane: a call, so that what a way down goes by stays in registers.
+// How far two points are from a slanted plane, or from one whose type is none: a call, so that what a way down goes by stays in registers.
 #[inline(never)]
 fn ends_slanted(bytes: &[u8; 20], p: &[f32; 3], q: &[f32; 3]) -> (f32, f32)
-    ensures { result ≡ Fast.two_dists (Fast.point_of p.now) (Fast.point_of q.now) (Fast.plane_here bytes.now 0) }
+    ensures { result ≡ Fast.two_dists (Fast.point_of p.now) (Fast.point_of q.now) (Pl.new_plane (Fast.normal bytes.now 0) (Fast.f32 bytes.now 12)) }
 {
-    ends_here(bytes, p, q)
+    let plane = Hyperplane::new(normal_of(bytes), f32_at(bytes, 12));
+    (plane.point_dist(point_of(p)), plane.point_dist(point_of(q)))
 }
 
-// How far two points are from a plane.
+// How far two points are from a plane. (The points are lists of three, so that the coordinate along an axis is found by its number and not by a
+// branch: docs/DECISIONS.md 102.)
 #[inline(always)]
 fn ends_apart(bytes: &[u8; 20], p: &[f32; 3], q: &[f32; 3]) -> (f32, f32)
     ensures { result ≡ Fast.two_dists (Fast.point_of p.now) (Fast.point_of q.now) (Fast.plane_here bytes.now 0) }
 {
-    let dist = f32_at(bytes, 12);
     let kind = u32_at(bytes, 16);
     if kind < 3 {
+        let dist = f32_at(bytes, 12);
         return (p[kind as usize] - dist, q[kind as usize] - dist);
     }
     ends_slanted(bytes, p, q)
 }
 
+// The code of the contents at an end, 0 where it is refused: no code is 0. (It is the number in the file: nothing is looked up.)
+#[tactic(auto, using(crate::proofs::LeafCodes::of_word, crate::proofs::LeafCodes::no_code, crate::proofs::LeafCodes::code_not, crate::proofs::LeafCodes::code_at, crate::proofs::Places::within))]
+#[inline(always)]
+pub fn end_number(s: &[u8], t: Tables, word: u16) -> u32
+    ensures { result ≡ Quick.code_or (Fast.contents_met s.now t word) }
+{
+    let table = t.table;
+    if !table.is_render() {
+        return word_code(word);
+    }
+    let leaves = t.leaves;
+    let leaf = (65535 - word) as usize;
+    if (leaves.count as usize) <= leaf {
+        return 0;
+    }
+    match leaves.place(28, s.len(), leaf) {
+        Err(_) => 0,
+        Ok(at) => leaf_code(s, at),
+    }
+}
+
 impl<'a> Sections<'a> {
-    // What `segment_in` says, of points that are lists of three, so that a coordinate is found by its number and not by a branch
-    // (docs/DECISIONS.md 102). The points of `segment_in` stay in registers, so there are two.
+    // A node's words, and how far two points are from its plane, from the bytes of the two sections: a coordinate is found by its number and not by
+    // a branch (docs/DECISIONS.md 102). 20: there is no such node.
     #[tactic(auto, using(crate::proofs::Handed::none_found))]
     #[inline(always)]
     pub fn ends_in(&self, index: usize, p: &[f32; 3], q: &[f32; 3]) -> Answer<(Words, f32, f32)>

@@ -1,6 +1,7 @@
 // The walk of a point where the file has all nodes and planes, for the calls whose time counts: numbers alone go in and out, so that they
 // stay in registers. Where it says nothing the walk goes record by record (`walking`).
-ghost use Rattle.std.specs.Prelude.{◌≡◌, ◌+◌, ◌*◌, ◌/◌, ◌<◌, ◌≤◌, length, if◌then◌else◌, nat_lt};
+ghost use Rattle.std.specs.Prelude.{◌≡◌, ◌+◌, ◌*◌, ◌/◌, ◌<◌, ◌≤◌, length, if◌then◌else◌, nat_lt, not};
+ghost use Rattle.format.specs.Code.{contents_of};
 ghost use Rattle.math.specs.Vector as Vec;
 ghost use Rattle.math.specs.Plane as Pl;
 ghost use Rattle.nodes.specs.Fast as Fast;
@@ -9,17 +10,16 @@ ghost use Rattle.nodes.specs.Walks as Walks;
 ghost use Rattle.nodes.specs.Quick as Quick;
 
 use crate::bytes::{f32_at, u32_at};
-use crate::here::{leaf_contents, normal_of};
+use crate::here::normal_of;
 use crate::read::{Words, is_front};
 use crate::table::{HullTable, Tables, part_with};
 use crate::whole::{Sections, are_whole, node_bytes, plane_bytes};
-use format::code::contents_of;
 use math::{Hyperplane, Vector3};
 
 // Whether a point is in front of a slanted plane, or of one whose type is none. (A call: in line it takes the registers of the walk. And numbers go
 // in: from a list two coordinates are loaded at once, which waits for the two stores that made them.)
 #[inline(never)]
-fn is_ahead(bytes: &[u8; 20], x: f32, y: f32, z: f32) -> bool
+pub(crate) fn is_ahead(bytes: &[u8; 20], x: f32, y: f32, z: f32) -> bool
     ensures { Pl.side_if result ≡ Pl.point_side (Pl.new_plane (Fast.normal bytes.now 0) (Fast.f32 bytes.now 12)) (Vec.vector x y z) }
 {
     let plane = Hyperplane::new(normal_of(bytes), f32_at(bytes, 12));
@@ -31,7 +31,7 @@ fn is_ahead(bytes: &[u8; 20], x: f32, y: f32, z: f32) -> bool
 // wrongly. (The readers of a plane here, in `here`, `lanes`, `lines`, `crossing` and `numbered` differ in how they come by a coordinate, which is
 // where their time goes: one reader for all would take that as a parameter, and be no plainer.)
 #[inline(always)]
-fn word_ahead(bytes: &[u8; 20], words: Words, point: &[f32; 3]) -> u16
+pub(crate) fn word_ahead(bytes: &[u8; 20], words: Words, point: &[f32; 3]) -> u16
     ensures { result ≡ Walks.word_at words (Pl.point_side (Fast.plane_here bytes.now 0) (Fast.point_of point.now)) }
 {
     let kind = u32_at(bytes, 16);
@@ -56,8 +56,8 @@ fn stopped(word: u16, visits: u64) -> u64
 }
 
 impl<'a> Sections<'a> {
-    // The walk by the bytes of the two sections, one number as of `walk_quick`. As a `for` over the visits it takes three instructions more a node, and
-    // some 4% more time.
+    // The walk by the bytes of the two sections, one number as of `walk_quick`. As a `for` over the visits it takes three instructions more a node,
+    // and some 4% more time.
     #[inline(always)]
     fn walk_whole(&self, root: usize, point: &[f32; 3]) -> u64
         requires { length self.now.nodes.now / Fast.node_size self.now.render < 32768 }
@@ -83,6 +83,18 @@ impl<'a> Sections<'a> {
         }
         0
     }
+
+    // The same, for one who has the bytes already; nothing where there are more nodes than words for them. (A call.)
+    #[inline(never)]
+    pub fn walk_on(&self, root: usize, x: f32, y: f32, z: f32) -> u64
+        ensures said { Quick.WalkedIn self.now.nodes.now self.now.planes.now self.now.render root (Vec.vector x y z) result }
+        ensures bounded { result < 281474976710656 }
+    {
+        if 32768 <= self.node_count() {
+            return 0;
+        }
+        self.walk_whole(root, &[x, y, z])
+    }
 }
 
 fn tables_by(render: bool, at: u32, count: u32, planes_at: u32, planes_count: u32) -> Tables
@@ -99,13 +111,9 @@ fn tables_by(render: bool, at: u32, count: u32, planes_at: u32, planes_count: u3
     }
 }
 
-// The walk of the point (x, y, z) down the render nodes or the clip nodes of a file, which lie from `at` on and are so many, and so the
-// planes: the end's word times 2^32 and the visits, or 0 where the file does not have all of them or the walk is refused. (The places, the counts
-// and the coordinates travel as numbers: lent as structs they are written to memory and read again before the walk begins. And one number is
-// answered, not an Option of two: an end's word is 32768 or more, so 0 is no answer. A call: in line what its caller has at hand takes the
-// registers of the loops.)
-#[inline(never)]
-pub fn walk_quick(
+// What `walk_quick` says, in line.
+#[inline(always)]
+fn walk_here(
     s: &[u8],
     at: u32,
     count: u32,
@@ -145,43 +153,116 @@ pub fn walk_quick(
     sections.walk_whole(root, &point)
 }
 
+// The same, as a call.
+#[inline(never)]
+fn walk_called(
+    s: &[u8],
+    at: u32,
+    count: u32,
+    planes_at: u32,
+    planes_count: u32,
+    render: bool,
+    root: usize,
+    x: f32,
+    y: f32,
+    z: f32,
+) -> u64
+    ensures said { Quick.quick_answer (Spec.file_table render) result ≡ Quick.quick_walk s.now (Quick.tables_by render at count planes_at planes_count) root (Vec.vector x y z) }
+    ensures bounded { result < 281474976710656 }
+{
+    walk_here(s, at, count, planes_at, planes_count, render, root, x, y, z)
+}
+
+// The walk of the point (x, y, z) down the render nodes or the clip nodes of a file, which lie from `at` on and are so many, and so the
+// planes: the end's word times 2^32 and the visits, or 0 where the file does not have all of them or the walk is refused. (The places, the counts
+// and the coordinates travel as numbers: lent as structs they are written to memory and read again before the walk begins. And one number is
+// answered, not an Option of two: an end's word is 32768 or more, so 0 is no answer. Down the render
+// nodes in line: its callers are calls of their own that take little and know the kind. Down the clip nodes a call: in line a node's longer tests
+// leave too few registers, and a slanted plane puts more of them aside.)
+#[inline(always)]
+pub fn walk_quick(
+    s: &[u8],
+    at: u32,
+    count: u32,
+    planes_at: u32,
+    planes_count: u32,
+    render: bool,
+    root: usize,
+    x: f32,
+    y: f32,
+    z: f32,
+) -> u64
+    ensures said { Quick.quick_answer (Spec.file_table render) result ≡ Quick.quick_walk s.now (Quick.tables_by render at count planes_at planes_count) root (Vec.vector x y z) }
+    ensures bounded { result < 281474976710656 }
+{
+    if render {
+        return walk_here(s, at, count, planes_at, planes_count, true, root, x, y, z);
+    }
+    walk_called(s, at, count, planes_at, planes_count, false, root, x, y, z)
+}
+
+// Whether a number is a contents code: 1 to 6 and 9 to 14.
+#[inline(always)]
+fn is_code(code: u32) -> bool
+    ensures { result ≡ not (Fast.is_invalid (contents_of code)) }
+{
+    if 15 <= code {
+        return false;
+    }
+    let low = code % 8;
+    if low == 0 {
+        return false;
+    }
+    low < 7
+}
+
 // The code of the leaf at a place, 0 where it is refused: no code is 0. (One number, as of the walk; that of the file, negated: nothing is looked
 // up.)
 #[inline(always)]
-fn leaf_code(s: &[u8], at: usize) -> u32
+pub(crate) fn leaf_code(s: &[u8], at: usize) -> u32
     requires { at + 28 ≤ length s.now }
     ensures { result ≡ Quick.code_or (Fast.leaf_contents_here s.now at) }
 {
-    match leaf_contents(s, at) {
-        Err(_) => 0,
-        Ok(_) => u32_at(s, at).wrapping_neg(),
+    let code = u32_at(s, at).wrapping_neg();
+    if !is_code(code) {
+        return 0;
     }
+    let offset = u32_at(s, at + 4);
+    if 2147483648 <= offset && offset < 4294967295 {
+        return 0;
+    }
+    code
 }
 
 // The code that stands in a clip node, 0 where the word is none: no code is 0. (The number itself.)
-fn word_code(word: u16) -> u32
+#[inline(always)]
+pub(crate) fn word_code(word: u16) -> u32
     ensures { result ≡ Quick.code_or (Quick.word_contents word) }
 {
     let code = 65536 - (word as u32);
-    match contents_of(code) {
-        None => 0,
-        Some(_) => code,
-    }
+    if is_code(code) { code } else { 0 }
 }
 
-// The code of the contents of the end that a word stands for, with so many leaves from `at` on; 0 where it is refused. (No code is 0,
-// so one number is answered, as of the walk.)
+// The code of the contents of the end that a word stands for, with leaves in so many bytes from `at` on; 0 where it is refused. (No code is 0, so
+// one number is answered, as of the walk. The leaf's end is compared with the bytes: to count the leaves is a division. 917504 bytes are one leaf
+// more than the limit.)
 #[inline(always)]
-#[tactic(auto, using(crate::proofs::Quicks::code_leaf, crate::proofs::Quicks::code_word, crate::proofs::Places::within))]
-pub fn end_code(s: &[u8], at: u32, count: u32, render: bool, word: u16) -> u32
-    ensures { result ≡ Quick.end_code s.now render at count word }
+pub fn end_code(s: &[u8], at: u32, size: u32, render: bool, word: u16) -> u32
+    ensures { result ≡ Quick.end_code s.now render at (size / 28) word }
 {
-    if render {
-        let leaves = part_with(at, count, 32767);
-        return match leaves.place(28, s.len(), (65535 - word) as usize) {
-            Err(_) => 0,
-            Ok(from) => leaf_code(s, from),
-        };
+    if !render {
+        return word_code(word);
     }
-    word_code(word)
+    if 917504 <= size {
+        return 0;
+    }
+    let past = ((65535 - word) as usize) * 28 + 28;
+    if (size as usize) < past {
+        return 0;
+    }
+    let end = (at as usize) + past;
+    if s.len() < end {
+        return 0;
+    }
+    leaf_code(s, end - 28)
 }

@@ -48,6 +48,7 @@ fn walk_by_records(s: &[u8], t: Tables, root: usize, point: Vector3) -> Answer<(
 }
 
 // The end's word times 2^32 and the visits; 0 where the table is not whole or the walk is refused. (One number, as of `walk_quick`.)
+#[inline(always)]
 fn walk_in_whole(s: &[u8], t: Tables, root: usize, x: f32, y: f32, z: f32) -> u64
     ensures { 0 < result → Quick.end_and_visits t.table result ≡ with_visits (point_walk (Walks.ends (Fast.table s.now t)) root (Vec.vector x y z)) }
 {
@@ -73,6 +74,7 @@ fn walk_in_whole(s: &[u8], t: Tables, root: usize, x: f32, y: f32, z: f32) -> u6
 
 // The walk of the point (x, y, z). 30: the node is outside its table; 31: as many nodes as the table holds were entered; then its record
 // (23), its plane's number (30) and its plane (23).
+#[inline(always)]
 pub fn walk_to_end(s: &[u8], t: Tables, root: usize, x: f32, y: f32, z: f32) -> Answer<(u16, u64)>
     ensures { Walks.walk_end_answer t.table result ≡ with_visits (point_walk (Walks.ends (Fast.table s.now t)) root (Vec.vector x y z)) }
 {

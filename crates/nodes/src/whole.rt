@@ -5,10 +5,11 @@ ghost use Rattle.nodes.specs.Tables as Spec;
 ghost use Rattle.nodes.specs.Walks as Walks;
 
 use crate::bytes::plane_bytes_at;
-use crate::here::{clip_words, render_words};
+use crate::here::{clip_words, plane_here, render_words};
 use crate::read::Words;
 use crate::table::{Part, Tables};
 use format::refusal::{Answer, Refusal};
+use math::Hyperplane;
 
 pub(crate) fn node_size(render: bool) -> u8
     ensures { result ≡ Fast.node_size render }
@@ -152,5 +153,15 @@ impl<'a> Sections<'a> {
             return self.found_at(index);
         }
         Err(Refusal::NoSuchRecord)
+    }
+
+    // The words of a node and its plane, for a group of points: one reading for all of them.
+    #[tactic(auto, using(crate::proofs::Handed::none_found))]
+    #[inline(always)]
+    pub fn entered_in(&self, index: usize) -> Answer<(Words, Hyperplane)>
+        ensures { Walks.MadeOf (λ x. x) self.now.render self.now.nodes.now self.now.planes.now index (λ t. Walks.entered_answer t result) }
+    {
+        let (words, plane) = self.found_in(index)?;
+        Ok((words, plane_here(plane)))
     }
 }

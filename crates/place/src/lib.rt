@@ -74,25 +74,11 @@ fn at_start<T>(step: Answer<T>, id: Id, map: BspData) -> Result<T, RefusedAt>
     })
 }
 
-// Where loading refuses a file. More than 40 lines: nineteen steps, one or two lines each.
-#[tactic(auto, unfolding(crate::specs::Place::place_of))]
-pub fn load_place(file: &[u8]) -> Result<(), RefusedAt>
-    ensures { place_answer result ≡ Spec.place_of file.now }
+// The steps from the vertices on, which read the map record with its texture count.
+#[tactic(auto, unfolding(crate::specs::Private::from_vertices, crate::specs::Private::from_texinfo))]
+fn place_sections(file: &[u8], map: BspData) -> Result<(), RefusedAt>
+    ensures { place_answer result ≡ Parts.from_vertices file.now map }
 {
-    let (map, _) = read_header(file).map_err(|refusal| RefusedAt {
-        refusal,
-        section: None,
-        stop: header_stop(file),
-    })?;
-    in_part(check_limits(map), file, Part::Limits, map)?;
-    at_start(check_entities(file, map.entities), Id::Entities, map)?;
-    in_part(check_planes(file, map.planes), file, Part::Planes, map)?;
-    let (count, _) = read_texture_section(file, map.textures).map_err(|refusal| RefusedAt {
-        refusal,
-        section: Some(Id::Textures),
-        stop: textures_stop(file, map),
-    })?;
-    let map = with_texture_count(map, count);
     in_part(
         check_vertices(file, map.vertices),
         file,
@@ -109,6 +95,14 @@ pub fn load_place(file: &[u8]) -> Result<(), RefusedAt>
     in_part(check_texinfo(file, map), file, Part::TextureInfo, map)?;
     in_part(check_faces(file, map), file, Part::Faces, map)?;
     at_start(check_blob(file, map.lightmaps), Id::Lightmaps, map)?;
+    place_last(file, map)
+}
+
+// The steps from the collision nodes on.
+#[tactic(auto, unfolding(crate::specs::Private::from_collision_nodes, crate::specs::Private::from_edges, crate::specs::Private::from_extents))]
+fn place_last(file: &[u8], map: BspData) -> Result<(), RefusedAt>
+    ensures { place_answer result ≡ Parts.from_collision_nodes file.now map }
+{
     in_part(
         check_collision_nodes(file, map.collision_nodes),
         file,
@@ -138,4 +132,25 @@ pub fn load_place(file: &[u8]) -> Result<(), RefusedAt>
     )?;
     in_part(check_models(file, map.models), file, Part::Models, map)?;
     Ok(())
+}
+
+// Where loading refuses a file.
+#[tactic(auto, unfolding(crate::specs::Place::place_of, crate::specs::Private::from_vertices, crate::specs::Private::from_texinfo, crate::specs::Private::from_collision_nodes, crate::specs::Private::from_edges, crate::specs::Private::from_extents))]
+pub fn load_place(file: &[u8]) -> Result<(), RefusedAt>
+    ensures { place_answer result ≡ Spec.place_of file.now }
+{
+    let (map, _) = read_header(file).map_err(|refusal| RefusedAt {
+        refusal,
+        section: None,
+        stop: header_stop(file),
+    })?;
+    in_part(check_limits(map), file, Part::Limits, map)?;
+    at_start(check_entities(file, map.entities), Id::Entities, map)?;
+    in_part(check_planes(file, map.planes), file, Part::Planes, map)?;
+    let (count, _) = read_texture_section(file, map.textures).map_err(|refusal| RefusedAt {
+        refusal,
+        section: Some(Id::Textures),
+        stop: textures_stop(file, map),
+    })?;
+    place_sections(file, with_texture_count(map, count))
 }

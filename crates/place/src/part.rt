@@ -17,7 +17,7 @@ use records::number::read_offset;
 use sections::row::read_plain;
 
 // A record by its index, at a position of the file.
-#[derive(Clone, Copy, Debug, PartialEq, Eq)]
+#[derive(Clone, Copy)]
 pub struct Stop {
     pub index: u32,
     pub byte: usize,

@@ -1,9 +1,11 @@
 -- What the proofs of `points` rest on.
 mod Lists
+mod Bits
 mod Meeting
 mod Single
 mod Swift
 mod Downward
+mod Fewer
 mod Halving
 pub mod Finished
 -- what the calls for C rest on

@@ -172,7 +172,7 @@ module _ (cs : List Float) (d : Float) (q : ℕ) where
   by_axis Y = sym (side_front (le d (get_or cs (q * 3 + 1) nan)))
   by_axis Z = sym (side_front (le d (get_or cs (q * 3 + 2) nan)))
 
-reaches_is : (cs : List Float) (h : Hyperplane) (a : Axis) → h.alignment ≡ Aligned a → (k : ℕ) → k ≡ axis_number a → (q : ℕ) → reaches cs k h.dist q ≡ in_front (point_at cs) h q
+pub reaches_is : (cs : List Float) (h : Hyperplane) (a : Axis) → h.alignment ≡ Aligned a → (k : ℕ) → k ≡ axis_number a → (q : ℕ) → reaches cs k h.dist q ≡ in_front (point_at cs) h q
 unfolding in_front
 reaches_is cs h a e k is-k q =
     ap (λ (j : ℕ). reaches cs j h.dist q) is-k ∙ by_axis cs h.dist q a

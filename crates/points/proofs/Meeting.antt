@@ -16,12 +16,18 @@ use Rattle.format.specs.declared.contents.BspLeafContents.TheVariants.{Empty, So
 use Rattle.math.specs.Plane as Pl
 use Rattle.math.specs.declared.plane.Hyperplane.{Hyperplane}
 use Rattle.math.specs.declared.plane.HyperplaneSide.{HyperplaneSide}
-use Rattle.walk.specs.Walk.{enter}
-use Rattle.nodes.specs.Fast.{table, node_of, words_answer, plane_in}
+use Rattle.format.specs.Answer as Ans
+use Rattle.format.specs.Answer.{Answer, answer, mapped}
+use Rattle.nodes.specs.Tables.{End}
+use Rattle.nodes.specs.Walks.{Read, MadeOf, entered_answer}
+use Rattle.nodes.specs.Fast.{is_render}
+use Rattle.walk.specs.Walk.{Entered, enter}
+use Rattle.nodes.specs.Fast.{contents_met, table, node_of, words_answer, plane_in}
 use Rattle.nodes.specs.Fast as Fast
 use Rattle.nodes.proofs.Entering.{enter_not, enter_is, enter_no_plane}
 use Rattle.nodes.specs.declared.table.Tables.{Tables}
-use Rattle.ways.specs.Groups.{settled, onward, entering, meets, is_front}
+use Rattle.nodes.specs.Quick.{code_or}
+use Rattle.ways.specs.Groups.{byte_of, settled, onward, entering, meets, is_front}
 use Rattle.points.specs.Going.{met}
 use Rattle.nodes.specs.declared.read.Onto.{Onto}
 use Rattle.nodes.specs.declared.read.Onto.TheVariants as O
@@ -46,6 +52,16 @@ code_some Current270 e = omega arith
 code_some CurrentUp e = omega arith
 code_some CurrentDown e = omega arith
 
+-- the number of an end is its byte
+module _ (s : List ℕ) (t : Tables) (w n : ℕ) (e : n ≡ code_or (contents_met s t w)) where
+  byte_is : (o : Answer BspLeafContents) → n ≡ code_or o → n ≡ byte_of (table s t) code_of o
+  byte_is (answer c) h = h
+  byte_is (Ans.refused x) h = h
+
+  pub end_settled : settled n ≡ met s t 0 (O.End w)
+  unfolding meets contents_met
+  end_settled = ap settled (byte_is (contents_met s t w) e)
+
 -- ---- at a node
 
 module _ (s : List ℕ) (t : Tables) where
@@ -69,3 +85,29 @@ module _ (s : List ℕ) (t : Tables) where
 
           pub is_node : (h : Hyperplane) → a ≡ Ok h → onward (record { nd = node_of t.table w; plane = h }) ≡ met s t k c
           is_node h y = sym (entered_at ∙ ap (entering (table s t) code_of) (enter_is s t (table s t) refl refl refl i r is-r w e h (sym is-a ∙ ap answer_of y)))
+
+-- ---- by the nodes' and the planes' own bytes
+
+module _ (s : List ℕ) (t : Tables) (k : ℕ) (c : Onto) (i : ℕ) (q : c ≡ O.Node i) (some : 0 < k) (h : i < t.nodes.count) (n m : List ℕ) (render : Bool) (read : Read s t n m true) (is-r : render ≡ is_render t.table)
+    (r : Result (Words × Hyperplane) Refusal) (g : MadeOf (λ x. x) render n m i (λ u. entered_answer u r)) where
+  met_in : met s t k c ≡ entering (table s t) code_of (enter (table s t) i)
+  met_in = entered_at s t k c i q some h
+
+  entered_is : entered_answer t.table r ≡ mapped (λ x. x) (enter (table s t) i)
+  entered_is = g.1 s t true read refl is-r
+
+  pub unread_in : (e : Refusal) → r ≡ Err e → settled 0 ≡ met s t k c
+  unread_in e y = go (enter (table s t) i) refl (sym (ap (entered_answer t.table) y) ∙ entered_is)
+    where
+      go : (a : Answer (Entered End)) → enter (table s t) i ≡ a → Ans.refused (number_of e) ≡ mapped (λ x. x) a → settled 0 ≡ met s t k c
+      go (answer x) u v = let z : ◌≡◌ {A = ℕ} 0 1 = cc in absurd (omega arith)
+      go (Ans.refused x) u v = sym (met_in ∙ ap (entering (table s t) code_of) u)
+
+  pub node_in : (w : Words) (p : Hyperplane) → r ≡ Ok (w, p) → onward (record { nd = node_of t.table w; plane = p }) ≡ met s t k c
+  node_in w p y = go (enter (table s t) i) refl (sym (ap (entered_answer t.table) y) ∙ entered_is)
+    where
+      go : (a : Answer (Entered End)) → enter (table s t) i ≡ a → answer (record { nd = node_of t.table w; plane = p }) ≡ mapped (λ x. x) a → onward (record { nd = node_of t.table w; plane = p }) ≡ met s t k c
+      go (answer x) u v =
+          let z : ◌≡◌ {A = Entered End} (record { nd = node_of t.table w; plane = p }) x = cc in
+          sym (met_in ∙ ap (entering (table s t) code_of) u ∙ sym (ap onward z))
+      go (Ans.refused x) u v = let z : ◌≡◌ {A = ℕ} 0 1 = cc in absurd (omega arith)

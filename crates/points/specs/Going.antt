@@ -1,7 +1,8 @@
 -- For the contracts of functions that no other crate can name; a reader of the calls may leave this file out.
 -- For private contracts: a group of points on its way down.
-use Rattle.std.specs.Prelude.{ℕ, zero, suc, ◌+◌, ◌*◌, ◌<◌, ◌≤◌, ◌-◌, ◌/◌, ◌≡◌, Bool, true, false, cond, not, List, [], ◌∷◌, leb, eqb, Float, length, get_or, take, drop}
+use Rattle.std.specs.Prelude.{ℕ, zero, suc, ◌+◌, ◌*◌, ◌<◌, ◌≤◌, ◌-◌, ◌/◌, ◌%◌, ◌≡◌, Bool, true, false, cond, not, List, [], ◌∷◌, leb, eqb, Float, length, get_or, take, drop}
 use Rattle.std.specs.Float.{nan}
+use Rattle.std.specs.Int.{w64, trailing_zeros}
 use Rattle.std.specs.Float.Ieee.{le}
 use Rattle.format.specs.Contents.{code_of}
 use Rattle.math.specs.Vector.{vector}
@@ -9,13 +10,16 @@ use Rattle.math.specs.declared.vector.Vector3.{Vector3}
 use Rattle.math.specs.declared.vector.Axis.{Axis}
 use Rattle.math.specs.declared.vector.Axis.TheVariants.{X, Y, Z}
 use Rattle.math.specs.Plane as Pl
-use Rattle.walk.specs.Table.{Child, child_on}
+use Rattle.walk.specs.Table.{Child, node, child_on}
 use Rattle.nodes.specs.Tables.{End}
 use Rattle.nodes.specs.Fast.{table, onto_child, onto_word, child_of, node_of, word_on}
 use Rattle.nodes.specs.declared.table.HullTable.{HullTable}
 use Rattle.nodes.specs.declared.table.Tables.{Tables}
 use Rattle.nodes.specs.declared.read.Onto.{Onto}
 use Rattle.nodes.specs.declared.read.Words.{Words}
+use Rattle.nodes.specs.Fast.{is_render}
+use Rattle.nodes.specs.Walks.{Read}
+use Rattle.points.specs.declared.few.Given.{Given}
 use Rattle.ways.specs.Groups.{Meets, settled, onward, meets, byte_at, reads_at, fill, kept}
 use Rattle.points.specs.declared.one.Pair.{Pair}
 use Rattle.points.specs.declared.one.Passing.{Passing}
@@ -135,6 +139,30 @@ abbrev pub from : ℕ → ℕ → List ℕ
 from q zero = []
 from q (suc n) = q ∷ from (suc q) n
 
+-- a group as a number of 64 bits: the places of its bits, where n bits are left and the lowest stands for the point i
+unfoldable pub members_from : ℕ → ℕ → ℕ → List ℕ
+members_from zero i x = []
+members_from (suc n) i x = cond (eqb (x % 2) 1) (i ∷ members_from n (suc i) (x / 2)) (members_from n (suc i) (x / 2))
+
+abbrev pub members : ℕ → List ℕ
+members x = members_from 64 0 x
+
+-- the first of them
+abbrev pub first : ℕ → ℕ
+first x = trailing_zeros w64 x
+
+-- of a group those for which a test holds
+unfoldable pub chosen_from : (ℕ → Bool) → ℕ → ℕ → ℕ → ℕ
+chosen_from f zero i x = 0
+chosen_from f (suc n) i x = cond (f i) (x % 2) 0 + 2 * chosen_from f n (suc i) (x / 2)
+
+abbrev pub chosen : (ℕ → Bool) → ℕ → ℕ
+chosen f x = chosen_from f 64 0 x
+
+-- the nodes' and the planes' own bytes, of a file that has all of them
+abbrev pub Whole : Given → Type 0
+Whole g = Read g.s.now g.t g.sections.nodes.now g.sections.planes.now true × (g.sections.render ≡ is_render g.t.table)
+
 -- coordinates of some points, at most `most`, and a list with an entry for each of them
 pub record Asked (most : ℕ) (cs : List Float) (lent : ℕ) : Type 0 where
   pub some : 0 < length cs / 3
@@ -142,11 +170,11 @@ pub record Asked (most : ℕ) (cs : List Float) (lent : ℕ) : Type 0 where
   pub threes : length cs ≡ length cs / 3 * 3
   pub room : length cs / 3 ≤ lent
 
--- the lists that a call works with: some points, at most 1,024, and for each of them an entry of each list
-pub record Ready (cs : List Float) (ids aside out lent : ℕ) : Type 0 where
-  pub some : 0 < ids
-  pub few : ids ≤ 1024
-  pub threes : length cs ≡ ids * 3
-  pub as_wide : aside ≡ ids
-  pub as_long : out ≡ ids
-  pub room : ids ≤ lent
+-- each point of a call has its byte, and the list an entry for each of them
+pub record Done (s : List ℕ) (t : Tables) (cs : List Float) (root reads : ℕ) (bytes : List ℕ) (lent : ℕ) : Type 0 where
+  pub before : List ℕ
+  pub as_long : length before ≡ length bytes
+  pub threes : length cs ≡ length bytes * 3
+  pub few : length bytes ≤ 1024
+  pub room : length bytes ≤ lent
+  pub settled : Settles s t cs t.nodes.count (node root) (from 0 (length bytes)) before reads bytes

@@ -20,7 +20,7 @@ pub fn point_at(coords: &[f32], id: u16) -> Vector3
 }
 
 #[tactic(auto, using(crate::proofs::Meeting::front_is), unfolding(ways::specs::Groups::in_front))]
-fn in_front(coords: &[f32], plane: Hyperplane, id: u16) -> bool
+pub fn in_front(coords: &[f32], plane: Hyperplane, id: u16) -> bool
     ensures { result ≡ in_front (Going.point_at coords.now) plane id }
 {
     is_front(plane.point_side(point_at(coords, id)))
@@ -28,7 +28,7 @@ fn in_front(coords: &[f32], plane: Hyperplane, id: u16) -> bool
 
 // Whether a coordinate of a point is at least a distance.
 #[tactic(auto, unfolding(crate::specs::Going::reaches))]
-fn reaches(coords: &[f32], axis: u16, dist: f32, id: u16) -> bool
+pub fn reaches(coords: &[f32], axis: u16, dist: f32, id: u16) -> bool
     ensures { result ≡ Going.reaches coords.now axis dist id }
 {
     float_at(coords, (id as usize) * 3 + (axis as usize)) >= dist
@@ -55,7 +55,7 @@ fn part_by<F: Fn(u16) -> bool>(ids: &mut [u16], aside: &mut [u16], goes_front: F
 }
 
 // Which of a point's coordinates an axis is.
-fn axis_number(axis: Axis) -> u16
+pub fn axis_number(axis: Axis) -> u16
     ensures { result ≡ Going.axis_number axis }
 {
     axis as u16

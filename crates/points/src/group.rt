@@ -8,7 +8,8 @@ ghost use Rattle.points.specs.Going as Going;
 use crate::divide::{divide, settle};
 use crate::one::{settle_one, settle_two};
 use math::Hyperplane;
-use nodes::read::{Onto, Words, end_contents, plane_at, read_words};
+use nodes::lines::end_number;
+use nodes::read::{Onto, Words, plane_at, read_words};
 use nodes::table::Tables;
 
 // What a group meets there: the byte that settles its points (a contents code, or 0 where they are refused), or a node and its plane.
@@ -27,19 +28,15 @@ pub enum Down {
 }
 
 // The byte of an end: its contents code, or 0 where it has none. (A number, since it is kept in a list.)
-#[tactic(auto, unfolding(nodes::specs::Fast::contents_met, ways::specs::Groups::meets))]
 pub fn end_byte(s: &[u8], t: Tables, word: u16) -> u8
     ensures { Going.meeting_meets t.table (Meeting.Settled result) ≡ Going.met s.now t 0 (Onto.End word) }
 {
-    match end_contents(s, t, word) {
-        Ok(c) => c.code() as u8,
-        Err(_) => 0,
-    }
+    end_number(s, t, word) as u8
 }
 
 // The record of a node and its plane are read here, once for all points of the group.
 #[tactic(auto, unfolding(ways::specs::Groups::meets))]
-fn meet_child(s: &[u8], t: Tables, child: Onto, left: u32) -> Meeting
+pub fn meet_child(s: &[u8], t: Tables, child: Onto, left: u32) -> Meeting
     ensures { Going.meeting_meets t.table result ≡ Going.met s.now t left child }
 {
     match child {

@@ -4,17 +4,20 @@ ghost use Rattle.std.specs.Prelude.{◌≡◌, ◌≤◌, length};
 ghost use Rattle.format.specs.Answers.{answer_of};
 ghost use Rattle.format.specs.Listed.{listed};
 ghost use Rattle.hull.specs.Hull.{hull_table};
+ghost use Rattle.nodes.specs.Fast as Fast;
 ghost use Rattle.points.specs.Points as Points;
 ghost use Rattle.points.specs.Going as Going;
 
 use crate::divide::point_at;
+use crate::few;
 use crate::group::settle_group;
 use format::refusal::{Answer, Refusal};
 use format::section::BspData;
 use hull::collision::BspCollisionHull;
 use hull::point::contents_in;
 use nodes::read::Onto;
-use nodes::table::tables_of;
+use nodes::table::{Tables, tables_of};
+use nodes::whole::are_whole;
 
 // The list's entries are their own places.
 #[tactic(auto, using(crate::proofs::Lists::number_next))]
@@ -37,40 +40,27 @@ fn first_zero(bytes: &[u8]) -> usize
         .unwrap_or(bytes.len())
 }
 
-// The points, once they are known to be few enough for the list: their codes, or the refusal of the first that is refused.
-fn answer_all(
+// The codes of the points, once each has its byte; or the refusal of the first that is refused, whose byte is 0.
+fn told(
     s: &[u8],
-    map: BspData,
-    hull: BspCollisionHull,
+    t: Tables,
+    root: usize,
     coords: &[f32],
-    ids: &mut [u16],
-    aside: &mut [u16],
-    out: &mut [u8],
+    reads: u64,
+    bytes: &[u8],
     list: &mut [u8],
 ) -> Answer<u64>
-    requires { Going.Ready coords.now (length ids.old) (length aside.old) (length out.old) (length list.old) }
-    ensures { listed (answer_of result) list.new ≡ Points.answered (hull_table s.now map hull) hull.node_id coords.now list.old }
+    requires { Going.Done s.now t coords.now root reads bytes.now (length list.old) }
+    ensures { listed (answer_of result) list.new ≡ Points.answered (Fast.table s.now t) root coords.now list.old }
 {
-    let t = tables_of(map, hull.table, hull.mins, hull.maxs);
-    number(ids);
-    let reads = settle_group(
-        s,
-        t,
-        coords,
-        Onto::Node(hull.node_id),
-        t.nodes.count,
-        ids,
-        aside,
-        out,
-    );
-    let zero = first_zero(out);
-    let count = out.len();
+    let zero = first_zero(bytes);
+    let count = bytes.len();
     if zero < count {
-        contents_in(s, t, hull.node_id, point_at(coords, zero as u16))?;
+        contents_in(s, t, root, point_at(coords, zero as u16))?;
         // never: a point that is answered has a code
         return Err(Refusal::NotPoints);
     }
-    list[..count].copy_from_slice(out);
+    list[..count].copy_from_slice(bytes);
     Ok(reads)
 }
 
@@ -91,31 +81,75 @@ fn answer_one(
     Ok(visits)
 }
 
-// Some points, at most N: the entries to clear are as few as N says.
+// Some points, at most N: their numbers in a list, whose entries to clear are as few as N says.
 fn answer_up_to<const N: usize>(
+    s: &[u8],
+    t: Tables,
+    root: usize,
+    coords: &[f32],
+    list: &mut [u8],
+) -> Answer<u64>
+    requires { (N ≤ 1024) × Going.Asked N coords.now (length list.old) }
+    ensures { listed (answer_of result) list.new ≡ Points.answered (Fast.table s.now t) root coords.now list.old }
+{
+    let count = coords.len() / 3;
+    let mut numbers = [0u16; N];
+    let mut aside = [0u16; N];
+    let mut bytes = [0u8; N];
+    let ids = &mut numbers[..count];
+    number(ids);
+    let reads = settle_group(
+        s,
+        t,
+        coords,
+        Onto::Node(root),
+        t.nodes.count,
+        ids,
+        &mut aside[..count],
+        &mut bytes[..count],
+    );
+    told(s, t, root, coords, reads, &bytes[..count], list)
+}
+
+// At most 64 points: a bit each of one number, where the file has all nodes and planes.
+fn answer_few(s: &[u8], t: Tables, root: usize, coords: &[f32], list: &mut [u8]) -> Answer<u64>
+    requires { Going.Asked 64 coords.now (length list.old) }
+    ensures { listed (answer_of result) list.new ≡ Points.answered (Fast.table s.now t) root coords.now list.old }
+{
+    let whole = are_whole(t, s.len());
+    if !whole {
+        return answer_up_to::<64>(s, t, root, coords, list);
+    }
+    let given = few::lent(s, t, coords, whole);
+    let count = coords.len() / 3;
+    let mut bytes = [0u8; 64];
+    let ids = few::all(count);
+    let reads = few::settle(
+        &given,
+        Onto::Node(root),
+        t.nodes.count,
+        ids,
+        &mut bytes[..count],
+    );
+    told(s, t, root, coords, reads, &bytes[..count], list)
+}
+
+// Some points, at most 1,024.
+fn answer_some(
     s: &[u8],
     map: BspData,
     hull: BspCollisionHull,
     coords: &[f32],
     list: &mut [u8],
 ) -> Answer<u64>
-    requires { (N ≤ 1024) × Going.Asked N coords.now (length list.old) }
+    requires { Going.Asked 1024 coords.now (length list.old) }
     ensures { listed (answer_of result) list.new ≡ Points.answered (hull_table s.now map hull) hull.node_id coords.now list.old }
 {
-    let count = coords.len() / 3;
-    let mut ids = [0u16; N];
-    let mut aside = [0u16; N];
-    let mut out = [0u8; N];
-    answer_all(
-        s,
-        map,
-        hull,
-        coords,
-        &mut ids[..count],
-        &mut aside[..count],
-        &mut out[..count],
-        list,
-    )
+    let t = tables_of(map, hull.table, hull.mins, hull.maxs);
+    if coords.len() <= 192 {
+        return answer_few(s, t, hull.node_id, coords, list);
+    }
+    answer_up_to::<1024>(s, t, hull.node_id, coords, list)
 }
 
 // The contents codes of the points, in their order, at the front of the list, and how often a node was read: once for all points that
@@ -146,8 +180,5 @@ pub fn contents_at_points(
     if count == 1 {
         return answer_one(s, map, hull, coords, list);
     }
-    if count <= 32 {
-        return answer_up_to::<32>(s, map, hull, coords, list);
-    }
-    answer_up_to::<1024>(s, map, hull, coords, list)
+    answer_some(s, map, hull, coords, list)
 }

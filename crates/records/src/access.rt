@@ -10,7 +10,6 @@ use format::section::{BspData, BspFileSectionId};
 
 // The record of an index of a section, at its place, as `read` reads it there; any refusal of `read` becomes `Unreadable`. `one` is any words for
 // what `read` reads.
-#[tactic(auto, unfolding(crate::specs::Access::record_of))]
 pub fn record<T: Copy, F: FnOnce(&[u8], usize) -> Read<T>>(
     s: &[u8],
     map: BspData,

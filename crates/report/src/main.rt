@@ -72,7 +72,6 @@ fn put_counts(map: BspData) -> Text
 }
 
 // The report on what was read.
-#[tactic(auto, using(crate::proofs::Lines::alone), unfolding(crate::specs::Report::report_text, crate::specs::Report::told))]
 pub fn report(input: &[u8]) -> Text
     ensures { result.items ≡ report_text input.now }
 {

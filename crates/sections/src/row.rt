@@ -42,7 +42,6 @@ pub fn read_records<T: Copy, F: Fn(&[u8], usize) -> Read<T>>(
 }
 
 // A section of records, each read by `read`, and the section's end.
-#[tactic(auto, unfolding(crate::specs::Records::section))]
 pub fn check_records<T: Copy, F: Fn(&[u8], usize) -> Read<T>>(
     s: &[u8],
     section: BspFileSection,

@@ -1,4 +1,5 @@
--- A texture by its number in the file, on a map record, loaded or made by hand (Note 2): whether it is there, its name, width and height. It reads its own header alone.
+-- A texture by its number in the file, on a map record, loaded or made by hand (Note 2): whether it is there, its name, width and height. It reads
+-- its own header alone.
 use Rattle.std.specs.Prelude.{Option, Some, None, ℕ, ◌+◌, ◌*◌, cond, List, leb, ltb, take, drop}
 use Rattle.format.specs.Answer.{Answer, refused}
 use Rattle.format.specs.Step.{Step, ok, and_then}

@@ -10,26 +10,32 @@ use replay::Tally;
 use std::io;
 use std::io::Read;
 
+// The names of the kinds of cases, from kind 1 on.
+const KINDS: [&str; 13] = [
+    "loads",
+    "records",
+    "counts",
+    "entity texts",
+    "hulls",
+    "boxes",
+    "contents",
+    "leaf lookups",
+    "traces",
+    "visibility lists",
+    "nodes to contents",
+    "nodes to leaves",
+    "nodes of traces",
+];
+
 fn print_line(rt: &impl Print, name: &str, count: u64) -> io::Result<()> {
     println!(rt; "{name} {count}")
 }
 
 // How many cases of each kind ran, how many in all, and how many of them differed.
 fn print_tally(rt: &impl Print, tally: Tally) -> io::Result<()> {
-    let ran = tally.ran;
-    print_line(rt, "loads", ran[1])?;
-    print_line(rt, "records", ran[2])?;
-    print_line(rt, "counts", ran[3])?;
-    print_line(rt, "entity texts", ran[4])?;
-    print_line(rt, "hulls", ran[5])?;
-    print_line(rt, "boxes", ran[6])?;
-    print_line(rt, "contents", ran[7])?;
-    print_line(rt, "leaf lookups", ran[8])?;
-    print_line(rt, "traces", ran[9])?;
-    print_line(rt, "visibility lists", ran[10])?;
-    print_line(rt, "nodes to contents", ran[11])?;
-    print_line(rt, "nodes to leaves", ran[12])?;
-    print_line(rt, "nodes of traces", ran[13])?;
+    for kind in 0..13 {
+        print_line(rt, KINDS[kind], tally.ran[kind + 1])?;
+    }
     print_line(rt, "cases", tally.all)?;
     print_line(rt, "differ", tally.all.wrapping_sub(tally.agreed))
 }

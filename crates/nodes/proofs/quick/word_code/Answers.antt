@@ -1,11 +1,11 @@
 -- `word_code` meets its contract: the number is the code where it is one.
 -- Assumes nothing.
-use Rattle.std.proofs.Common.{sym}
-use Rattle.nodes.proofs.Quicks.{known, unknown}
+use Rattle.std.proofs.Common.{◌-◌, refl, sym, ap, ◌∙◌, cond}
+use Rattle.nodes.proofs.Quicks.{number_said}
 use Rattle.nodes.proofs.quick.word_code.Goals as goal
 
-pub returns-in-None : goal.returns-in-None
-returns-in-None c = unknown _ _ (sym c.contents_of.ensures) c.in-None.is
+pub returns-then-is_code : goal.returns-then-is_code
+returns-then-is_code c = let n = 65536 - c.args.word in ap (λ b. cond b n 0) (sym c.if-is_code.true) ∙ number_said n _ refl _ c.is_code.ensures
 
-pub returns-in-Some : goal.returns-in-Some
-returns-in-Some c = known _ _ (sym c.contents_of.ensures) _ c.in-Some.is
+pub returns-else-is_code : goal.returns-else-is_code
+returns-else-is_code c = let n = 65536 - c.args.word in ap (λ b. cond b n 0) (sym c.if-is_code.false) ∙ number_said n _ refl _ c.is_code.ensures

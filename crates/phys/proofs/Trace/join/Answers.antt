@@ -5,6 +5,7 @@ use mathlib.Core.Bool.{Bool, true, false, not}
 use Rattle.std.specs.Prelude.{ℕ, eqb}
 use borrow.Author.Tests.{ne_eqb, eqb-true, eqb-false}
 use denote.Enum.Bare.{sameb}
+use native.Mathlib.Omega.{arith}
 use Rattle.math.specs.Vector as Vec
 use Rattle.format.specs.Answer.{answer}
 use Rattle.format.specs.Contents as Contents
@@ -40,6 +41,10 @@ module _ (t u : Trace) (k : is_terminal t ≡ false) (e : Vec.same t.end.point u
   stopped : Contents.equal t.contents Solid ≡ false → answer t ≡ join t u
   unfolding join
   stopped p = simp (k, e, s, p)
+
+pub returns-then-eq : goal.returns-then-eq
+unfolding join
+returns-then-eq c = grind (arith, same_contents)
 
 pub returns-then-eq-2 : goal.returns-then-eq-2
 returns-then-eq-2 c = out_of_solid _ _ (sym c.is_terminal.ensures ∙ c.if-is_terminal.false) (here _ c.ne.ensures c.if-ne.false) (told _ _ c.eq.ensures c.if-eq.false)

@@ -32,7 +32,7 @@ returns-in_err-here-in-Crossing t c f u own =
     let x = c.in-Crossing in
     let s = point_of c.args.p.now in
     let e = point_of c.args.q.now in
-    let says = rw (c.point_of-from.ensures, c.point_of-to.ensures) at (c.go_down.ensures.says f u own) in
+    let says = c.go_down.ensures.says f u own in
     let sides = rw (c.point_of-from.ensures, c.point_of-to.ensures) at c.sides_in.ensures in
     rw (handed_on c.from_residual-in_err-here-in-Crossing.ensures.1)
     (no_plane (Fast.table f u) (node_of u.table x.w) s e x.a x.b x.below (axis_x x.a) x.n _ (plane_in f u x.w.plane)
@@ -47,7 +47,7 @@ here t c f u own =
     let g = two_sides_lem f u _ _ _ _ own _ (point_of z.p.now) (point_of z.q.now) c.sides_in.result (rw (c.point_of-from.ensures, c.point_of-to.ensures) at c.sides_in.ensures) _ _ c.in_ok-here-in-Crossing.was in
     record {
       h = g.0;
-      here = came f u (rw (c.point_of-from.ensures, c.point_of-to.ensures) at (c.go_down.ensures.says f u own)) (c.in_ok-c.was ∙ ap Ok c.in-Crossing.is) (omega arith) g.1
+      here = came f u (c.go_down.ensures.says f u own) (c.in_ok-c.was ∙ ap Ok c.in-Crossing.is) (omega arith) g.1
           (c.add-mid.ensures ∙ simp (c.scale.ensures, c.sub.ensures, c.point_of-from.ensures, c.point_of-to.ensures));
       near_side = g.2;
       far_side = g.3;
@@ -78,7 +78,7 @@ there t c f u own =
     let g = two_sides_lem f u _ _ _ _ own _ (point_of z.p.now) (point_of z.q.now) c.sides_in.result (rw (c.point_of-from.ensures, c.point_of-to.ensures) at c.sides_in.ensures) _ _ c.in_ok-here-in-Crossing.was in
     record {
       h = g.0;
-      here = came f u (rw (c.point_of-from.ensures, c.point_of-to.ensures) at (c.go_down.ensures.says f u own)) (c.in_ok-c.was ∙ ap Ok c.in-Crossing.is) (omega arith) g.1
+      here = came f u (c.go_down.ensures.says f u own) (c.in_ok-c.was ∙ ap Ok c.in-Crossing.is) (omega arith) g.1
           (c.add-mid.ensures ∙ simp (c.scale.ensures, c.sub.ensures, c.point_of-from.ensures, c.point_of-to.ensures));
       near_side = g.2;
       far_side = g.3;

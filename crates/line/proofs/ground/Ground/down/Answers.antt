@@ -11,19 +11,19 @@ use Rattle.line.proofs.ground.Ground.down.Goals.{then-a+else-not-b, else-a+else-
 use Rattle.line.proofs.ground.Ground.down.Goals as goal
 
 pub returns-then-not-b : goal.returns-then-not-b
-returns-then-not-b c =
+returns-then-not-b c x y =
     let inv = c.loop-left.invariant in
     let O = open_in c.args.self.now.lent c.requires c.is_render-render.ensures c.ends_in.ensures (not_none c.loop-left-test.true) (was_ok c.in_ok-w.ensures.value) in
     (crosses_here O (on_two _ _ true c.if-a.true c.if-not-b.true) inv.0 (λ root l. inv.1 root l _ _), look_either O refl ∙ inv.2)
 
 pub returns-then-b : goal.returns-then-b
-returns-then-b c =
+returns-then-b c x y =
     let inv = c.loop-left.invariant in
     let O = open_in c.args.self.now.lent c.requires c.is_render-render.ensures c.ends_in.ensures (not_none c.loop-left-test.true) (was_ok c.in_ok-w.ensures.value) in
     (crosses_here O (on_two _ _ false c.if-a.false c.if-b.true) inv.0 (λ root l. inv.1 root l _ _), look_either O refl ∙ inv.2)
 
 pub returns-then-word-ge32768 : goal.returns-then-word-ge32768
-returns-then-word-ge32768 c =
+returns-then-word-ge32768 c x y =
     let inv = c.loop-left.invariant in
     let O = open_in c.args.self.now.lent c.requires c.is_render-render.ensures c.ends_in.ensures (not_none c.loop-left-test.true) (was_ok c.in_ok-w.ensures.value) in
     let far = c.if-word-ge32768.true in

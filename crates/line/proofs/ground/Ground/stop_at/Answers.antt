@@ -7,5 +7,5 @@ use Rattle.line.proofs.ground.Ground.stop_at.Goals as goal
 
 pub returns : goal.returns
 returns c x K h is-h =
-    stops_there c.args.self.now c.args.set x K h is-h c.if-set.false (sym (ap answer_of (was_ok c.in_ok-plane.ensures.value)) ∙ c.plane_at.ensures) (sym (ap answer_of (was_ok c.in_ok-c.ensures.value)) ∙ c.contents_from.ensures)
+    stops_there c.args.self.now c.args.set x K h is-h c.if-set.false c.point_of-point.ensures (sym (ap answer_of (was_ok c.in_ok-plane.ensures.value)) ∙ c.plane_at.ensures) (sym (ap answer_of (was_ok c.in_ok-c.ensures.value)) ∙ c.contents_from.ensures)
     (alike _ _ c.eq.ensures c.if-eq.false) c.is_from_front.ensures c.plane_from.ensures c.with_plane-met.ensures c.ended.ensures
