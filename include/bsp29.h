@@ -16,7 +16,7 @@
  * Stack, measured on a chain of 512 nodes, the deepest there can be, and not proved: bsp_trace_nodes
  * needs up to 510,000 bytes, bsp_order_trace 460,000, bsp_trace_line 329,000, bsp_trace 362,000 (198,000
  * with the map record of a file that was loaded), bsp_accept 296,000, bsp_contents_box 263,000,
- * bsp_tree_check, bsp_hull_check and bsp_order 132,000; bsp_contents_points 18,000 for 64 points that
+ * bsp_tree_check, bsp_hull_check and bsp_order 132,000; bsp_contents_points 18,500 for 64 points that
  * leave a group one by one.
  * bsp_load, bsp_load_place, bsp_texture_frame and bsp_texture_static need up to 543,000 bytes,
  * bsp_texture_numbers 966,000 and bsp_record 1,011,000 for a texture info, whatever the nodes. The

@@ -39,23 +39,10 @@ use Rattle.nodes.specs.declared.read.Words.{Words as WordsT}
 use Rattle.nodes.specs.Walks.{made_from, node_and_dists, segment_answer}
 use Rattle.nodes.proofs.Entering.{planed}
 use Rattle.hull.specs.Traces.{crossed_at}
+use Rattle.hull.proofs.Descents.{differ, agree}
 use Rattle.entered.specs.Onward.{traced_list}
 use Rattle.entered.proofs.Steps.{child_goes}
 use Rattle.entered.proofs.Parts.{written_entered, written_held}
-
--- ---- the two sides by the distances
-
-differ : (x y : Bool) → not (beq x y) ≡ true → Pl.same_side (Pl.side_if x) (Pl.side_if y) ≡ false
-differ true true e = let z : ◌≡◌ {A = ℕ} 0 1 = cc in absurd (omega arith)
-differ true false e = refl
-differ false true e = refl
-differ false false e = let z : ◌≡◌ {A = ℕ} 0 1 = cc in absurd (omega arith)
-
-agree : (x y : Bool) → not (beq x y) ≡ false → Pl.same_side (Pl.side_if x) (Pl.side_if y) ≡ true
-agree true true e = refl
-agree true false e = let z : ◌≡◌ {A = ℕ} 0 1 = cc in absurd (omega arith)
-agree false true e = let z : ◌≡◌ {A = ℕ} 0 1 = cc in absurd (omega arith)
-agree false false e = refl
 
 -- ---- at a node
 

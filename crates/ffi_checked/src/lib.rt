@@ -12,7 +12,7 @@ use ffi_hull::layout;
 use format::refusal::{Answer, Refusal};
 use hull::collision::{BspCollisionHull, check_hull};
 use nodes::table::HullTable;
-use words::{LIST_TOO_SHORT, give_words, map_of, word_at_u64};
+use words::{LIST_TOO_SHORT, MAP_WORDS, give_words, map_of, word_at_u64};
 
 // The hull of a hull's words, with all its fields. 20: its table is above 2.
 #[tactic(auto, unfolding(nodes::specs::Tables::table_numbered, ffi_hull::specs::Layout::hull_from))]
@@ -31,7 +31,7 @@ fn hull_from(words: &[u64]) -> Answer<BspCollisionHull>
 pub fn hull_check(file: &[u8], map: &[u32], hull: &[u64], marks: &mut [u8], out: &mut [u64]) -> u32
     ensures { left result marks.new out.new ≡ Calls.bsp_hull_check file.now map.now hull.now marks.old out.old }
 {
-    if map.len() < 31 || hull.len() < layout::HULL_ASKED || out.len() < layout::HULL_WORDS {
+    if map.len() < MAP_WORDS || hull.len() < layout::HULL_ASKED || out.len() < layout::HULL_WORDS {
         return LIST_TOO_SHORT;
     }
     match hull_from(hull) {

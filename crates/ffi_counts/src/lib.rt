@@ -7,14 +7,14 @@ ghost use Rattle.ffi_counts.specs.Calls as Calls;
 
 use format::section::BspFileSectionId;
 use models::text::Part;
-use words::{LIST_TOO_SHORT, NO_SUCH_RECORD, give, give_words, map_of};
+use words::{LIST_TOO_SHORT, MAP_WORDS, NO_SUCH_RECORD, give, give_words, map_of};
 
 // How many records a section has. 22: a map of fewer than 31 words or an empty list; 20: a number above 14.
 #[tactic(auto, unfolding(crate::specs::Calls::bsp_count))]
 pub fn count(map: &[u32], section: u32, out: &mut [u64]) -> u32
     ensures { written result out.new ≡ Calls.bsp_count map.now section out.old }
 {
-    if map.len() < 31 || out.is_empty() {
+    if map.len() < MAP_WORDS || out.is_empty() {
         return LIST_TOO_SHORT;
     }
     let data = map_of(map);
@@ -36,7 +36,7 @@ fn part_words(part: Part) -> [u64; 2]
 pub fn entities(file: &[u8], map: &[u32], out: &mut [u64]) -> u32
     ensures { written result out.new ≡ Calls.bsp_entities file.now map.now out.old }
 {
-    if map.len() < 31 || out.len() < 2 {
+    if map.len() < MAP_WORDS || out.len() < 2 {
         return LIST_TOO_SHORT;
     }
     give_words(

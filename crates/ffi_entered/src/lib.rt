@@ -9,7 +9,7 @@ ghost use Rattle.ffi_entered.specs.Calls as Calls;
 use entered::traced::nodes_of_trace;
 use entered::walked::{nodes_to_leaf, nodes_to_point};
 use ffi_hull::layout;
-use words::{LIST_TOO_SHORT, give_number};
+use words::{LIST_TOO_SHORT, MAP_WORDS, give_number};
 
 // The nodes entered on the way to the contents at a point of a hull, at the front of `list`, and their count. 22: a map of fewer than 31
 // words, a hull of fewer than 9, a point of fewer than 3 floats or no word for the count; 20: a hull of no table; 22 again, last of all: a
@@ -46,7 +46,7 @@ pub fn find_leaf_nodes(
 ) -> u32
     ensures { left result list.new out.new ≡ Calls.bsp_find_leaf_nodes file.now map.now root point.now list.old out.old }
 {
-    if map.len() < 31 || point.len() < 3 || out.is_empty() {
+    if map.len() < MAP_WORDS || point.len() < 3 || out.is_empty() {
         return LIST_TOO_SHORT;
     }
     let m = layout::walked_map(map);

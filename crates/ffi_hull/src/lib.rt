@@ -6,7 +6,7 @@ ghost use Rattle.words.specs.Words.{written};
 ghost use Rattle.ffi_hull.specs.Calls as Calls;
 
 use hull::collision::BspCollisionHull;
-use words::{LIST_TOO_SHORT, give_words, map_of};
+use words::{LIST_TOO_SHORT, MAP_WORDS, give_words, map_of};
 
 pub mod layout;
 
@@ -16,7 +16,7 @@ pub mod layout;
 pub fn hull_of_model(file: &[u8], map: &[u32], model: u64, index: u64, hull: &mut [u64]) -> u32
     ensures { written result hull.new ≡ Calls.bsp_hull file.now map.now model index hull.old }
 {
-    if map.len() < 31 || hull.len() < layout::HULL_WORDS {
+    if map.len() < MAP_WORDS || hull.len() < layout::HULL_WORDS {
         return LIST_TOO_SHORT;
     }
     give_words(

@@ -4,14 +4,14 @@
 ghost use Rattle.std.specs.Prelude.{◌≡◌, get_or};
 ghost use Rattle.math.specs.Vector as Vec;
 ghost use Rattle.math.specs.Plane as Pl;
-ghost use Rattle.ffi_math.specs.FloatWords as Words;
+ghost use Rattle.ffi_math.specs.FloatWords as FloatWords;
 
 use math::{Alignment, Hyperplane, HyperplaneSide, LinePlaneIntersect, PointIntersection, Vector3};
 use words::kind_number;
 
 #[tactic(auto, unfolding(crate::specs::FloatWords::axis_plane))]
 fn axis_plane(axis: u32, dist: f32) -> Hyperplane
-    ensures { result ≡ Words.axis_plane axis dist }
+    ensures { result ≡ FloatWords.axis_plane axis dist }
 {
     if axis == 0 {
         return Hyperplane::axis_x(dist);
@@ -24,7 +24,7 @@ fn axis_plane(axis: u32, dist: f32) -> Hyperplane
 
 #[tactic(auto, unfolding(crate::specs::FloatWords::plane_given))]
 pub fn plane_given(kind: u32, nx: f32, ny: f32, nz: f32, dist: f32) -> Hyperplane
-    ensures { result ≡ Words.plane_given kind nx ny nz dist }
+    ensures { result ≡ FloatWords.plane_given kind nx ny nz dist }
 {
     if kind == 0 {
         return Hyperplane::axis_x(dist);
@@ -47,7 +47,7 @@ pub fn plane_given(kind: u32, nx: f32, ny: f32, nz: f32, dist: f32) -> Hyperplan
 }
 
 fn side_word(side: HyperplaneSide) -> u32
-    ensures { result ≡ Words.side_word side }
+    ensures { result ≡ FloatWords.side_word side }
 {
     side as u32
 }
@@ -55,7 +55,7 @@ fn side_word(side: HyperplaneSide) -> u32
 // Word number `word` of a plane.
 #[tactic(auto, unfolding(crate::specs::FloatWords::plane_words))]
 pub fn plane_word(plane: Hyperplane, word: u32) -> u32
-    ensures { result ≡ get_or (Words.plane_words plane) word 0 }
+    ensures { result ≡ get_or (FloatWords.plane_words plane) word 0 }
 {
     let alignment = plane.alignment;
     let normal = plane.normal();
@@ -72,7 +72,7 @@ pub fn plane_word(plane: Hyperplane, word: u32) -> u32
 // Word number `word` of a crossing at a point.
 #[tactic(auto, unfolding(crate::specs::FloatWords::point_words))]
 fn point_word(crossing: PointIntersection, word: u32) -> u32
-    ensures { result ≡ get_or (Words.point_words crossing) word 0 }
+    ensures { result ≡ get_or (FloatWords.point_words crossing) word 0 }
 {
     let plane = crossing.plane;
     match word {
@@ -87,7 +87,7 @@ fn point_word(crossing: PointIntersection, word: u32) -> u32
 
 // Word number `word` of what a segment does.
 fn crossing_word(crossing: LinePlaneIntersect, word: u32) -> u32
-    ensures { result ≡ get_or (Words.crossing_words crossing) word 0 }
+    ensures { result ≡ get_or (FloatWords.crossing_words crossing) word 0 }
 {
     match crossing {
         LinePlaneIntersect::NoIntersection(side) => { if word == 1 { side_word(side) } else { 0 } }
@@ -97,14 +97,14 @@ fn crossing_word(crossing: LinePlaneIntersect, word: u32) -> u32
 
 #[unsafe(no_mangle)]
 pub extern "C" fn plane_axis_word(axis: u32, dist: f32, word: u32) -> u32
-    ensures { result ≡ get_or (Words.plane_words (Words.axis_plane axis dist)) word 0 }
+    ensures { result ≡ get_or (FloatWords.plane_words (FloatWords.axis_plane axis dist)) word 0 }
 {
     plane_word(axis_plane(axis, dist), word)
 }
 
 #[unsafe(no_mangle)]
 pub extern "C" fn plane_new_word(nx: f32, ny: f32, nz: f32, dist: f32, word: u32) -> u32
-    ensures { result ≡ get_or (Words.plane_words (Pl.new_plane (Vec.vector nx ny nz) dist)) word 0 }
+    ensures { result ≡ get_or (FloatWords.plane_words (Pl.new_plane (Vec.vector nx ny nz) dist)) word 0 }
 {
     plane_word(
         Hyperplane::new(
@@ -121,7 +121,7 @@ pub extern "C" fn plane_new_word(nx: f32, ny: f32, nz: f32, dist: f32, word: u32
 
 #[unsafe(no_mangle)]
 pub extern "C" fn plane_from_normal_word(nx: f32, ny: f32, nz: f32, dist: f32, word: u32) -> u32
-    ensures { result ≡ get_or (Words.plane_words (Pl.from_normal (Vec.vector nx ny nz) dist)) word 0 }
+    ensures { result ≡ get_or (FloatWords.plane_words (Pl.from_normal (Vec.vector nx ny nz) dist)) word 0 }
 {
     plane_word(
         Hyperplane::from_normal(
@@ -145,7 +145,7 @@ pub extern "C" fn plane_negate_word(
     dist: f32,
     word: u32,
 ) -> u32
-    ensures { result ≡ get_or (Words.plane_words (Pl.negated (Words.plane_given kind nx ny nz dist))) word 0 }
+    ensures { result ≡ get_or (FloatWords.plane_words (Pl.negated (FloatWords.plane_given kind nx ny nz dist))) word 0 }
 {
     plane_word(plane_given(kind, nx, ny, nz, dist).negate(), word)
 }
@@ -161,7 +161,7 @@ pub extern "C" fn plane_point_dist(
     py: f32,
     pz: f32,
 ) -> f32
-    ensures { result ≡ Pl.point_dist (Words.plane_given kind nx ny nz dist) (Vec.vector px py pz) }
+    ensures { result ≡ Pl.point_dist (FloatWords.plane_given kind nx ny nz dist) (Vec.vector px py pz) }
 {
     plane_given(kind, nx, ny, nz, dist).point_dist(Vector3 {
         x: px,
@@ -181,7 +181,7 @@ pub extern "C" fn plane_point_side(
     py: f32,
     pz: f32,
 ) -> u32
-    ensures { result ≡ Words.side_word (Pl.point_side (Words.plane_given kind nx ny nz dist) (Vec.vector px py pz)) }
+    ensures { result ≡ FloatWords.side_word (Pl.point_side (FloatWords.plane_given kind nx ny nz dist) (Vec.vector px py pz)) }
 {
     side_word(plane_given(kind, nx, ny, nz, dist).point_side(Vector3 {
         x: px,
@@ -205,7 +205,7 @@ pub extern "C" fn plane_crossing_word(
     ez: f32,
     word: u32,
 ) -> u32
-    ensures { result ≡ get_or (Words.crossing_words (Pl.line_segment (Words.plane_given kind nx ny nz dist) (Vec.vector sx sy sz) (Vec.vector ex ey ez))) word 0 }
+    ensures { result ≡ get_or (FloatWords.crossing_words (Pl.line_segment (FloatWords.plane_given kind nx ny nz dist) (Vec.vector sx sy sz) (Vec.vector ex ey ez))) word 0 }
 {
     let plane = plane_given(kind, nx, ny, nz, dist);
     let start = Vector3 {

@@ -6,7 +6,7 @@ ghost use Rattle.format.specs.Answers.{answer_of};
 ghost use Rattle.math.specs.Vector as Vec;
 ghost use Rattle.phys.specs.Trace as Tr;
 ghost use Rattle.words.specs.Words.{flag_word};
-ghost use Rattle.ffi_math.specs.TraceWords as Traces;
+ghost use Rattle.ffi_math.specs.TraceWords as TraceWords;
 ghost use Rattle.ffi_math.specs.FloatWords.{coordinate_of};
 
 use crate::planes::{plane_given, plane_word};
@@ -20,7 +20,7 @@ use phys::{Trace, TraceEnd, TraceEndBoundary, TraceEndKind, TraceStart};
 use words::word_at;
 
 fn float_at(words: &[u32], at: usize) -> f32
-    ensures { result ≡ Traces.float_at words.now at }
+    ensures { result ≡ TraceWords.float_at words.now at }
 {
     from_bits(word_at(words, at))
 }
@@ -28,7 +28,7 @@ fn float_at(words: &[u32], at: usize) -> f32
 // (Other words: a float of 32 bits each; `vector_at` of `ffi_hull` takes words of 64.)
 fn point_at(words: &[u32], at: usize) -> Vector3
     requires { at ≤ 13 }
-    ensures { result ≡ Traces.point_at words.now at }
+    ensures { result ≡ TraceWords.point_at words.now at }
 {
     Vector3 {
         x: float_at(words, at),
@@ -39,21 +39,21 @@ fn point_at(words: &[u32], at: usize) -> Vector3
 
 #[tactic(auto, unfolding(crate::specs::TraceWords::contents_given))]
 fn contents_given(words: &[u32]) -> BspLeafContents
-    ensures { result ≡ Traces.contents_given words.now }
+    ensures { result ≡ TraceWords.contents_given words.now }
 {
     contents_of(word_at(words, 0)).unwrap_or(BspLeafContents::Empty)
 }
 
 #[tactic(auto, unfolding(crate::specs::TraceWords::start_given))]
 fn start_given(words: &[u32]) -> TraceStart
-    ensures { result ≡ Traces.start_given words.now }
+    ensures { result ≡ TraceWords.start_given words.now }
 {
     TraceStart::new(point_at(words, 2), float_at(words, 5))
 }
 
 #[tactic(auto, unfolding(crate::specs::TraceWords::end_given))]
 fn end_given(words: &[u32]) -> TraceEnd
-    ensures { result ≡ Traces.end_given words.now }
+    ensures { result ≡ TraceWords.end_given words.now }
 {
     let point = point_at(words, 6);
     if word_at(words, 9) == 0 {
@@ -71,7 +71,7 @@ fn end_given(words: &[u32]) -> TraceEnd
 
 #[tactic(auto, unfolding(crate::specs::TraceWords::trace_given))]
 fn trace_given(words: &[u32]) -> Trace
-    ensures { result ≡ Traces.trace_given words.now }
+    ensures { result ≡ TraceWords.trace_given words.now }
 {
     Trace {
         start: start_given(words),
@@ -84,7 +84,7 @@ fn trace_given(words: &[u32]) -> Trace
 // Word number `word` of an end on a plane.
 #[tactic(auto, unfolding(crate::specs::TraceWords::boundary_words))]
 fn boundary_word(boundary: TraceEndBoundary, word: u32) -> u32
-    ensures { result ≡ get_or (Traces.boundary_words boundary) word 0 }
+    ensures { result ≡ get_or (TraceWords.boundary_words boundary) word 0 }
 {
     let plane = boundary.plane;
     match word {
@@ -96,7 +96,7 @@ fn boundary_word(boundary: TraceEndBoundary, word: u32) -> u32
 
 // Word number `word` of how a trace ends.
 fn kind_word(kind: TraceEndKind, word: u32) -> u32
-    ensures { result ≡ get_or (Traces.kind_words kind) word 0 }
+    ensures { result ≡ get_or (TraceWords.kind_words kind) word 0 }
 {
     match kind {
         TraceEndKind::Terminal => 0,
@@ -107,7 +107,7 @@ fn kind_word(kind: TraceEndKind, word: u32) -> u32
 // Word number `word` of a trace's end.
 #[tactic(auto, unfolding(crate::specs::TraceWords::end_words))]
 fn end_word(end: TraceEnd, word: u32) -> u32
-    ensures { result ≡ get_or (Traces.end_words end) word 0 }
+    ensures { result ≡ get_or (TraceWords.end_words end) word 0 }
 {
     let kind = end.kind;
     match word {
@@ -127,7 +127,7 @@ fn flag_word(flag: bool) -> u32
 // Word number `word` of a trace.
 #[tactic(auto, unfolding(crate::specs::TraceWords::trace_words))]
 fn trace_word(trace: Trace, word: u32) -> u32
-    ensures { result ≡ get_or (Traces.trace_words trace) word 0 }
+    ensures { result ≡ get_or (TraceWords.trace_words trace) word 0 }
 {
     let contents = trace.contents;
     let start = trace.start;
@@ -145,7 +145,7 @@ fn trace_word(trace: Trace, word: u32) -> u32
 
 // Word number `word` of what `join` answers.
 fn joined_word(joined: Answer<Trace>, word: u32) -> u32
-    ensures { result ≡ get_or (Traces.joined_words (answer_of joined)) word 0 }
+    ensures { result ≡ get_or (TraceWords.joined_words (answer_of joined)) word 0 }
 {
     match joined {
         Ok(trace) => {
@@ -161,7 +161,7 @@ fn joined_word(joined: Answer<Trace>, word: u32) -> u32
 
 #[unsafe(no_mangle)]
 pub extern "C" fn trace_new_word(trace: &[u32], word: u32) -> u32
-    ensures { result ≡ get_or (Traces.trace_words (Tr.new_trace (Traces.start_given trace.now) (Traces.end_given trace.now) (Traces.contents_given trace.now))) word 0 }
+    ensures { result ≡ get_or (TraceWords.trace_words (Tr.new_trace (TraceWords.start_given trace.now) (TraceWords.end_given trace.now) (TraceWords.contents_given trace.now))) word 0 }
 {
     trace_word(
         Trace::new(start_given(trace), end_given(trace), contents_given(trace)),
@@ -171,70 +171,70 @@ pub extern "C" fn trace_new_word(trace: &[u32], word: u32) -> u32
 
 #[unsafe(no_mangle)]
 pub extern "C" fn trace_join_word(first: &[u32], second: &[u32], word: u32) -> u32
-    ensures { result ≡ get_or (Traces.joined_words (Tr.join (Traces.trace_given first.now) (Traces.trace_given second.now))) word 0 }
+    ensures { result ≡ get_or (TraceWords.joined_words (Tr.join (TraceWords.trace_given first.now) (TraceWords.trace_given second.now))) word 0 }
 {
     joined_word(trace_given(first).join(trace_given(second)), word)
 }
 
 #[unsafe(no_mangle)]
 pub extern "C" fn trace_adjust_word(trace: &[u32], x: f32, y: f32, z: f32, word: u32) -> u32
-    ensures { result ≡ get_or (Traces.trace_words (Tr.adjust (Traces.trace_given trace.now) (Vec.vector x y z))) word 0 }
+    ensures { result ≡ get_or (TraceWords.trace_words (Tr.adjust (TraceWords.trace_given trace.now) (Vec.vector x y z))) word 0 }
 {
     trace_word(trace_given(trace).adjust(Vector3 { x, y, z }), word)
 }
 
 #[unsafe(no_mangle)]
 pub extern "C" fn trace_start_point(trace: &[u32], part: u32) -> f32
-    ensures { result ≡ coordinate_of (Traces.trace_given trace.now).start.point part }
+    ensures { result ≡ coordinate_of (TraceWords.trace_given trace.now).start.point part }
 {
     part_of(trace_given(trace).start_point(), part)
 }
 
 #[unsafe(no_mangle)]
 pub extern "C" fn trace_end_point(trace: &[u32], part: u32) -> f32
-    ensures { result ≡ coordinate_of (Traces.trace_given trace.now).end.point part }
+    ensures { result ≡ coordinate_of (TraceWords.trace_given trace.now).end.point part }
 {
     part_of(trace_given(trace).end_point(), part)
 }
 
 #[unsafe(no_mangle)]
 pub extern "C" fn trace_ratio(trace: &[u32]) -> f32
-    ensures { result ≡ Tr.ratio (Traces.trace_given trace.now) }
+    ensures { result ≡ Tr.ratio (TraceWords.trace_given trace.now) }
 {
     trace_given(trace).ratio()
 }
 
 #[unsafe(no_mangle)]
 pub extern "C" fn trace_is_terminal(trace: &[u32]) -> bool
-    ensures { result ≡ Tr.is_terminal (Traces.trace_given trace.now) }
+    ensures { result ≡ Tr.is_terminal (TraceWords.trace_given trace.now) }
 {
     trace_given(trace).is_terminal()
 }
 
 #[unsafe(no_mangle)]
 pub extern "C" fn trace_all_solid(trace: &[u32]) -> bool
-    ensures { result ≡ Tr.all_solid (Traces.trace_given trace.now) }
+    ensures { result ≡ Tr.all_solid (TraceWords.trace_given trace.now) }
 {
     trace_given(trace).all_solid()
 }
 
 #[unsafe(no_mangle)]
 pub extern "C" fn trace_start_solid(trace: &[u32]) -> bool
-    ensures { result ≡ (Traces.trace_given trace.now).start_solid }
+    ensures { result ≡ (TraceWords.trace_given trace.now).start_solid }
 {
     trace_given(trace).start_solid()
 }
 
 #[unsafe(no_mangle)]
 pub extern "C" fn trace_in_open(trace: &[u32]) -> bool
-    ensures { result ≡ Tr.in_open (Traces.trace_given trace.now) }
+    ensures { result ≡ Tr.in_open (TraceWords.trace_given trace.now) }
 {
     trace_given(trace).in_open()
 }
 
 #[unsafe(no_mangle)]
 pub extern "C" fn trace_in_water(trace: &[u32]) -> bool
-    ensures { result ≡ Tr.in_water (Traces.trace_given trace.now) }
+    ensures { result ≡ Tr.in_water (TraceWords.trace_given trace.now) }
 {
     trace_given(trace).in_water()
 }

@@ -16,14 +16,16 @@ use ordered::contents::contents_in_order;
 use ordered::tracing::trace_in_order;
 use phys::Trace;
 use walk_words::{contents_words, trace_words};
-use words::{LIST_TOO_SHORT, NO_SUCH_RECORD, give_number, give_words, map_of, section_at};
+use words::{
+    LIST_TOO_SHORT, MAP_WORDS, NO_SUCH_RECORD, give_number, give_words, map_of, section_in,
+};
 
 // The section of the planes, from a map record's words; the others are left empty.
 fn planes_map(words: &[u32]) -> BspData
     ensures { result ≡ Private.planes_map words.now }
 {
     BspData {
-        planes: section_at(words, 2),
+        planes: section_in(words, 2),
         ..BspData::default()
     }
 }
@@ -42,7 +44,7 @@ pub fn order(
 ) -> u32
     ensures { Calls.ordering result marks.new list.new out.new ≡ Calls.bsp_order file.now map.now table root marks.old list.old out.old }
 {
-    if map.len() < 31 || out.is_empty() {
+    if map.len() < MAP_WORDS || out.is_empty() {
         return LIST_TOO_SHORT;
     }
     if 2 <= table {
@@ -66,7 +68,7 @@ pub fn contents(
 ) -> u32
     ensures { written result out.new ≡ Calls.bsp_order_contents file.now map.now list.now root point.now out.old }
 {
-    if map.len() < 31 || point.len() < 3 || out.len() < 2 {
+    if map.len() < MAP_WORDS || point.len() < 3 || out.len() < 2 {
         return LIST_TOO_SHORT;
     }
     let p = layout::first_point(point);
@@ -96,7 +98,7 @@ pub fn trace(
 ) -> u32
     ensures { written result out.new ≡ Calls.bsp_order_trace file.now map.now list.now root segment.now out.old }
 {
-    if map.len() < 31 || segment.len() < 6 || out.len() < 17 {
+    if map.len() < MAP_WORDS || segment.len() < 6 || out.len() < 17 {
         return LIST_TOO_SHORT;
     }
     let a = layout::first_point(segment);

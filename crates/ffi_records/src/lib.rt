@@ -16,7 +16,9 @@ use records::leaf::leaf;
 use records::node::{collision_node, render_node};
 use records::plane::{plane, vertex};
 use textures::access::texture_info;
-use words::{LIST_TOO_SHORT, NO_SUCH_RECORD, give_number, give_words, map_of, plane_words};
+use words::{
+    LIST_TOO_SHORT, MAP_WORDS, NO_SUCH_RECORD, give_number, give_words, map_of, plane_words,
+};
 
 // The record of an index, in the words of its section. 22: a map of fewer than 31 words or a list of fewer than 20; 20: a section that has
 // no records here.
@@ -24,7 +26,7 @@ use words::{LIST_TOO_SHORT, NO_SUCH_RECORD, give_number, give_words, map_of, pla
 pub fn record(file: &[u8], map: &[u32], section: u32, index: u64, out: &mut [u64]) -> u32
     ensures { written result out.new ≡ Calls.bsp_record file.now map.now section index out.old }
 {
-    if map.len() < 31 {
+    if map.len() < MAP_WORDS {
         return LIST_TOO_SHORT;
     }
     if out.len() < 20 {

@@ -7,7 +7,7 @@ ghost use Rattle.words.specs.Words.{written};
 ghost use Rattle.ffi_sizes.specs.Calls as Calls;
 
 use ffi_hull::layout::{HULL_WORDS, hull_words};
-use words::{LIST_TOO_SHORT, give_words, map_of};
+use words::{LIST_TOO_SHORT, MAP_WORDS, give_words, map_of};
 
 mod layout;
 
@@ -35,7 +35,7 @@ pub fn hull_sized(
 ) -> u32
     ensures { written result hull.new ≡ Calls.bsp_hull_sized file.now map.now sizes.now model index hull.old }
 {
-    if map.len() < 31 || sizes.len() < layout::SIZES_WORDS || hull.len() < HULL_WORDS {
+    if map.len() < MAP_WORDS || sizes.len() < layout::SIZES_WORDS || hull.len() < HULL_WORDS {
         return LIST_TOO_SHORT;
     }
     let own = layout::sizes_in(sizes);

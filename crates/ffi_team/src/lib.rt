@@ -6,7 +6,7 @@ ghost use Rattle.std.specs.Prelude.{◌≡◌};
 ghost use Rattle.words.specs.Words.{left};
 ghost use Rattle.ffi_team.specs.Calls as Calls;
 
-use words::{LIST_TOO_SHORT, give_number, map_of};
+use words::{LIST_TOO_SHORT, MAP_WORDS, give_number, map_of};
 
 // The leaves that one of the players sees, at the front of `list`, and their count. 22: a map of fewer than 31 words or no word for the
 // count; 22 again, last of all: a list of too few entries.
@@ -21,7 +21,7 @@ pub fn pvs_team(
 ) -> u32
     ensures { left result list.new out.new ≡ Calls.bsp_pvs_team file.now map.now leaves.now leaf_count list.old out.old }
 {
-    if map.len() < 31 || out.is_empty() {
+    if map.len() < MAP_WORDS || out.is_empty() {
         return LIST_TOO_SHORT;
     }
     give_number(

@@ -9,7 +9,7 @@ ghost use Rattle.ffi_textures.specs.Calls as Calls;
 use texture_list::answer::BspTexture;
 use texture_numbers::texture_numbers;
 use textures::access::{frame_texture, static_texture};
-use words::{LIST_TOO_SHORT, give_number, give_words, map_of};
+use words::{LIST_TOO_SHORT, MAP_WORDS, give_number, give_words, map_of};
 
 // The words of a texture: whether it is there, its name, its width and height; zeros where it is not.
 fn texture_words(texture: Option<BspTexture>) -> [u64; 5]
@@ -33,7 +33,7 @@ fn texture_words(texture: Option<BspTexture>) -> [u64; 5]
 pub fn frame(file: &[u8], map: &[u32], number: u64, group: u32, place: u64, out: &mut [u64]) -> u32
     ensures { written result out.new ≡ Calls.bsp_texture_frame file.now map.now number group place out.old }
 {
-    if map.len() < 31 || out.is_empty() {
+    if map.len() < MAP_WORDS || out.is_empty() {
         return LIST_TOO_SHORT;
     }
     give_number(frame_texture(file, map_of(map), number, group, place), out)
@@ -45,7 +45,7 @@ pub fn frame(file: &[u8], map: &[u32], number: u64, group: u32, place: u64, out:
 pub fn static_number(file: &[u8], map: &[u32], number: u64, out: &mut [u64]) -> u32
     ensures { written result out.new ≡ Calls.bsp_texture_static file.now map.now number out.old }
 {
-    if map.len() < 31 || out.is_empty() {
+    if map.len() < MAP_WORDS || out.is_empty() {
         return LIST_TOO_SHORT;
     }
     give_number(static_texture(file, map_of(map), number), out)
@@ -56,7 +56,7 @@ pub fn static_number(file: &[u8], map: &[u32], number: u64, out: &mut [u64]) -> 
 pub fn texture(file: &[u8], map: &[u32], index: u64, out: &mut [u64]) -> u32
     ensures { written result out.new ≡ Calls.bsp_texture file.now map.now index out.old }
 {
-    if map.len() < 31 || out.len() < 5 {
+    if map.len() < MAP_WORDS || out.len() < 5 {
         return LIST_TOO_SHORT;
     }
     give_words(
@@ -71,7 +71,7 @@ pub fn texture(file: &[u8], map: &[u32], index: u64, out: &mut [u64]) -> u32
 pub fn numbers(file: &[u8], map: &[u32], list: &mut [u32], out: &mut [u64]) -> u32
     ensures { left result list.new out.new ≡ Calls.bsp_texture_numbers file.now map.now list.old out.old }
 {
-    if map.len() < 31 || out.is_empty() {
+    if map.len() < MAP_WORDS || out.is_empty() {
         return LIST_TOO_SHORT;
     }
     give_number(texture_numbers(file, map_of(map), list), out)

@@ -7,7 +7,7 @@ ghost use Rattle.words.specs.Words.{left};
 ghost use Rattle.ffi_tree.specs.Calls as Calls;
 
 use nodes::table::HullTable;
-use words::{LIST_TOO_SHORT, NO_SUCH_RECORD, give_number, map_of};
+use words::{LIST_TOO_SHORT, MAP_WORDS, NO_SUCH_RECORD, give_number, map_of};
 
 // The tree check from a root of a node table: the tree's height. 22: a map of fewer than 31 words or no word for the height; 20: a table
 // above 2.
@@ -22,7 +22,7 @@ pub fn tree_check(
 ) -> u32
     ensures { left result marks.new out.new ≡ Calls.bsp_tree_check file.now map.now table root marks.old out.old }
 {
-    if map.len() < 31 || out.is_empty() {
+    if map.len() < MAP_WORDS || out.is_empty() {
         return LIST_TOO_SHORT;
     }
     match HullTable::numbered(u64::from(table)) {

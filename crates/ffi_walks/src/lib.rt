@@ -2,8 +2,8 @@
 // A call's lists stand one by one, as in `ffi`: the interface for C has no records.
 #![tactic(auto)]
 
-ghost use Rattle.std.specs.Prelude.{◌≡◌, true, false};
-ghost use Rattle.words.specs.Words.{written};
+ghost use Rattle.std.specs.Prelude.{◌≡◌, ◌≤◌, true, false, length};
+ghost use Rattle.words.specs.Words.{written, give};
 ghost use Rattle.math.specs.Vector as Vec;
 ghost use Rattle.ffi_hull.specs.Layout as Layout;
 ghost use Rattle.ffi_walks.specs.Calls as Calls;
@@ -18,7 +18,7 @@ use math::Vector3;
 use nodes::quick::{end_code, walk_quick};
 use nodes::table::{HullTable, tables_of};
 use walk_words::contents_words;
-use words::{LIST_TOO_SHORT, give, give_words};
+use words::{LIST_TOO_SHORT, MAP_WORDS, give_words};
 
 // The code of the contents and the visits, where the file has all nodes and planes and the walk is answered. The tables are not handed on, so
 // that they stay in registers; and each call that asks this has it in its own code, since one that calls it takes 1.08 to 1.2 of the time.
@@ -83,6 +83,17 @@ fn leaf_words(found: (usize, u64)) -> [u64; 2]
     [leaf as u64, visits]
 }
 
+// Two words at the front of a list that has room for them. (`give` asks the length again.)
+#[inline(always)]
+fn put_two(words: [u64; 2], out: &mut [u64]) -> u32
+    requires { 2 ≤ length out.old }
+    ensures { written result out.new ≡ give words out.old }
+{
+    out[0] = words[0];
+    out[1] = words[1];
+    0
+}
+
 // The leaf by `find_leaf_from`, whatever the file. (A call, as `any_contents`.)
 #[inline(never)]
 fn any_leaf(file: &[u8], map: &[u32], root: usize, x: f32, y: f32, z: f32, out: &mut [u64]) -> u32
@@ -99,11 +110,12 @@ fn any_leaf(file: &[u8], map: &[u32], root: usize, x: f32, y: f32, z: f32, out: 
 // coming back.)
 #[inline(never)]
 fn leaf_at(file: &[u8], map: &[u32], root: usize, x: f32, y: f32, z: f32, out: &mut [u64]) -> u32
+    requires { 2 ≤ length out.old }
     ensures { written result out.new ≡ Private.leaf_told file.now (Layout.walked_map map.now) root (Vec.vector x y z) out.old }
 {
     let m = layout::walked_map(map);
     if let Some(found) = quick_leaf(file, m, root, Vector3 { x, y, z }) {
-        return give(&leaf_words(found), out);
+        return put_two(leaf_words(found), out);
     }
     any_leaf(file, map, root, x, y, z, out)
 }
@@ -142,12 +154,13 @@ fn contents_from(
     z: f32,
     out: &mut [u64],
 ) -> u32
+    requires { 2 ≤ length out.old }
     ensures { written result out.new ≡ Private.contents_told file.now (Layout.walked_map map.now) (Layout.node_hull render root) (Vec.vector x y z) out.old }
 {
     let m = layout::walked_map(map);
     let h = layout::node_hull(render, root);
     if let Some((code, visits)) = quick_contents(file, m, h, Vector3 { x, y, z }) {
-        return give(&[code as u64, visits], out);
+        return put_two([code as u64, visits], out);
     }
     any_contents(file, map, render, root, x, y, z, out)
 }
@@ -163,6 +176,7 @@ fn contents_drawn(
     z: f32,
     out: &mut [u64],
 ) -> u32
+    requires { 2 ≤ length out.old }
     ensures { written result out.new ≡ Private.contents_told file.now (Layout.walked_map map.now) (Layout.node_hull true root) (Vec.vector x y z) out.old }
 {
     contents_from(file, map, true, root, x, y, z, out)
@@ -178,6 +192,7 @@ fn contents_clipped(
     z: f32,
     out: &mut [u64],
 ) -> u32
+    requires { 2 ≤ length out.old }
     ensures { written result out.new ≡ Private.contents_told file.now (Layout.walked_map map.now) (Layout.node_hull false root) (Vec.vector x y z) out.old }
 {
     contents_from(file, map, false, root, x, y, z, out)
@@ -204,7 +219,7 @@ pub fn contents(file: &[u8], map: &[u32], hull: &[u64], point: &[f32], out: &mut
 {
     if let Ok((_, h)) = layout::asked(map, hull, point, 3, out, 2) {
         let p = layout::first_point(point);
-        let its = &map[..31];
+        let its = &map[..MAP_WORDS];
         let root = h.node_id;
         let table = h.table;
         match table {
@@ -222,9 +237,9 @@ pub fn contents(file: &[u8], map: &[u32], hull: &[u64], point: &[f32], out: &mut
 pub fn find_leaf(file: &[u8], map: &[u32], root: u64, point: &[f32], out: &mut [u64]) -> u32
     ensures { written result out.new ≡ Calls.bsp_find_leaf file.now map.now root point.now out.old }
 {
-    if map.len() < 31 || point.len() < 3 || out.len() < 2 {
+    if map.len() < MAP_WORDS || point.len() < 3 || out.len() < 2 {
         return LIST_TOO_SHORT;
     }
     let p = layout::first_point(point);
-    leaf_at(file, &map[..31], root as usize, p.x, p.y, p.z, out)
+    leaf_at(file, &map[..MAP_WORDS], root as usize, p.x, p.y, p.z, out)
 }

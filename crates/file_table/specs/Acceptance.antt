@@ -3,28 +3,25 @@
 use Rattle.std.specs.Prelude.{ℕ, List, [], ◌∷◌, ◌++◌, replicate}
 use Rattle.format.specs.Answer.{refused}
 use Rattle.format.specs.declared.section.BspData.{BspData}
-use Rattle.format.specs.declared.section.BspFileSection.{BspFileSection}
+use Rattle.trial_table.specs.Trials.{word, section_with}
 use Rattle.accept.specs.Accept.{passes, Judged, judged, accept}
 
--- the bytes of a number in 16 and in 32 bits, below 256
+-- the bytes of a number in 16 bits, below 256 (in 32: `word`)
 abbrev pub w16 : ℕ → List ℕ
 w16 n = n ∷ 0 ∷ []
-
-abbrev pub w32 : ℕ → List ℕ
-w32 n = n ∷ 0 ∷ 0 ∷ 0 ∷ []
 
 -- One face (plane 0, texture info 0, the first three entries of the list of edges); two leaves, of which leaf 1 has the row at 0 and one face; one model with
 -- the roots 0, one leaf and one face; one render node whose children are leaves 1 and 0; one clip node, Empty and Solid; three entries of the list of edges,
 -- all edge 0; one edge, whose vertices are 0; one entry of the list of faces; the row 1.
 abbrev pub file : List ℕ
 file =
-    w16 0 ++ w16 0 ++ w32 0 ++ w16 3 ++ w16 0 ++ w32 0 ++ replicate 4 255
+    w16 0 ++ w16 0 ++ word 0 ++ w16 3 ++ w16 0 ++ word 0 ++ replicate 4 255
     ++ (254 ∷ 255 ∷ 255 ∷ 255 ∷ []) ++ replicate 4 255 ++ replicate 20 0
-    ++ replicate 4 255 ++ w32 0 ++ replicate 12 0 ++ w16 0 ++ w16 1 ++ replicate 4 0
-    ++ replicate 36 0 ++ replicate 16 0 ++ w32 1 ++ w32 0 ++ w32 1
-    ++ w32 0 ++ (254 ∷ 255 ∷ 255 ∷ 255 ∷ []) ++ replicate 12 0 ++ w16 0 ++ w16 0
-    ++ w32 0 ++ (255 ∷ 255 ∷ 254 ∷ 255 ∷ [])
-    ++ w32 0 ++ w32 0 ++ w32 0
+    ++ replicate 4 255 ++ word 0 ++ replicate 12 0 ++ w16 0 ++ w16 1 ++ replicate 4 0
+    ++ replicate 36 0 ++ replicate 16 0 ++ word 1 ++ word 0 ++ word 1
+    ++ word 0 ++ (254 ∷ 255 ∷ 255 ∷ 255 ∷ []) ++ replicate 12 0 ++ w16 0 ++ w16 0
+    ++ word 0 ++ (255 ∷ 255 ∷ 254 ∷ 255 ∷ [])
+    ++ word 0 ++ word 0 ++ word 0
     ++ w16 0 ++ w16 0
     ++ w16 0
     ++ (1 ∷ [])
@@ -44,26 +41,23 @@ pub record Sizes : Type 0 where
   pub render : ℕ
   pub clip : ℕ
 
-abbrev pub part : ℕ → ℕ → BspFileSection
-part offset size = record { offset = offset; size = size }
-
 abbrev pub map : Sizes → BspData
 map z = record {
-  entities = part 0 0;
-  planes = part 0 z.planes;
-  textures = part 0 0;
-  vertices = part 0 z.vertices;
-  visibility = part 190 z.row;
-  render_nodes = part 140 z.render;
-  texinfo = part 0 z.infos;
-  faces = part z.faces_at z.faces;
-  lightmaps = part 0 0;
-  collision_nodes = part 164 z.clip;
-  leaves = part 20 z.leaves;
-  facelist = part 188 z.face_list;
-  edges = part 184 z.edges;
-  edgelist = part 172 z.edge_list;
-  models = part 76 64;
+  entities = section_with 0 0;
+  planes = section_with 0 z.planes;
+  textures = section_with 0 0;
+  vertices = section_with 0 z.vertices;
+  visibility = section_with 190 z.row;
+  render_nodes = section_with 140 z.render;
+  texinfo = section_with 0 z.infos;
+  faces = section_with z.faces_at z.faces;
+  lightmaps = section_with 0 0;
+  collision_nodes = section_with 164 z.clip;
+  leaves = section_with 20 z.leaves;
+  facelist = section_with 188 z.face_list;
+  edges = section_with 184 z.edges;
+  edgelist = section_with 172 z.edge_list;
+  models = section_with 76 64;
   texture_count = 0;
 }
 

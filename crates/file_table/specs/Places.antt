@@ -1,12 +1,8 @@
 -- Where three files are refused, or that they load, by the call for C: beside what its definition says, what the file was made for.
 -- proofs/Places.antt computes them.
-use Rattle.std.specs.Prelude.{ℕ, List, [], ◌∷◌, ◌++◌, replicate}
-use Rattle.trial_table.specs.Trials.{word, smallest, furnished}
+use Rattle.std.specs.Prelude.{ℕ, List, [], ◌∷◌, replicate}
+use Rattle.trial_table.specs.Trials.{smallest, two_leaves}
 use Rattle.ffi_place.specs.Calls.{bsp_load_place}
-
--- the 193-byte map with two leaves from 193 on, of which the second, at 221, has no contents code
-abbrev pub two_leaves : List ℕ
-two_leaves = furnished (replicate 56 0 ++ (word 193 ++ (word 56 ++ replicate 24 0))) (replicate 4 255 ++ (replicate 24 0 ++ (249 ∷ replicate 3 255 ++ replicate 24 0)))
 
 -- the four words of a place
 abbrev pub place_in : List ℕ → List ℕ

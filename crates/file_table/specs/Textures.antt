@@ -5,10 +5,13 @@ use Rattle.format.specs.declared.section.BspFileSection.{BspFileSection}
 use Rattle.trial_table.specs.Trials.{word}
 use Rattle.textures.specs.Section.{textures}
 
--- the count, the offset 8, a header whose name is + and a letter, sides of 8 and four picture offsets of 40, and a picture of one byte
+-- the count, the offset 8, a header of a name of 16 bytes, sides of 8 and four picture offsets of 40, and a picture of one byte
+abbrev pub with_name : List ℕ → List ℕ
+with_name name = word 1 ++ (word 8 ++ (name ++ (word 8 ++ (word 8 ++ (word 40 ++ (word 40 ++ (word 40 ++ (word 40 ++ (7 ∷ [])))))))))
+
+-- one whose name is + and a letter
 abbrev pub named : ℕ → List ℕ
-named letter =
-    word 1 ++ (word 8 ++ (43 ∷ letter ∷ (replicate 14 0 ++ (word 8 ++ (word 8 ++ (word 40 ++ (word 40 ++ (word 40 ++ (word 40 ++ (7 ∷ []))))))))))
+named letter = with_name (43 ∷ letter ∷ replicate 14 0)
 
 abbrev pub section_of : ℕ → BspFileSection
 section_of size = record { offset = 0; size = size }
@@ -32,4 +35,7 @@ trials =
     ∷ (textures (named 74) (section_of 49) gives refused 15)
     -- +k is no frame
     ∷ (textures (named 107) (section_of 49) gives refused 14)
+    -- after a zero the bytes of a name may be anything: +0, a zero and 200; before it they are ASCII
+    ∷ (textures (with_name (43 ∷ 48 ∷ 0 ∷ 200 ∷ replicate 12 0)) (section_of 49) gives ok 1 49)
+    ∷ (textures (with_name (43 ∷ 48 ∷ 200 ∷ replicate 13 0)) (section_of 49) gives refused 13)
     ∷ []

@@ -1,7 +1,7 @@
 -- A contents code that a file has negated is looked up by its distance from -1, which is in range for every number.
 -- Assumes nothing.
 use Rattle.std.specs.Prelude.{Some, None}
-use Prim.Native.Nat.{ℕ, zero, suc, ◌+◌, ◌^◌, ◌<◌, ◌≤◌, zero-le}
+use Prim.Native.Nat.{ℕ, zero, suc, ◌+◌, ◌^◌, ◌<◌, zero-le}
 use mathlib.Core.Path.{◌≡◌, refl, sym, ap, ◌∙◌, subst}
 use mathlib.Core.Bool.{Bool, true, false}
 use native.Mathlib.Omega.{arith}
@@ -9,10 +9,10 @@ use native.Mathlib.Numerals.{add-one}
 use native.Mathlib.Nat.{not-suc-le-zero}
 use borrow.Author.Tests.{ltb-true, ltb-false, lt-ltb, le-ltb, ne_eqb}
 use lib.Dec.{T, ltb}
-use lib.IntN.{ℤ, pos, negsuc, nat_abs, ◌-ℤ◌}
-use lib.Signed.{lt_z, mag, non_neg}
+use lib.IntN.{ℤ, pos, negsuc, nat_abs}
+use lib.Signed.{lt_z, mag}
 use mir.Syntax.{Width}
-use mir.Val.{SFits, Fits, to_z, of_z, bits, hbits}
+use mir.Val.{SFits, to_z, hbits}
 use mir.Facts.{to_z-of_z}
 use lib.ListN.{get_or}
 use Rattle.format.specs.Layout as Layout
@@ -36,31 +36,6 @@ code_stands Current180 = refl
 code_stands Current270 = refl
 code_stands CurrentUp = refl
 code_stands CurrentDown = refl
-
--- -1 - z of a negative z
-less : (z : ℤ) → lt_z z (pos 0) ≡ true → negsuc 0 -ℤ z ≡ pos (mag z)
-less (pos n) e = absurd (not-suc-le-zero (ltb-true n 0 e))
-less (negsuc zero) e = refl
-less (negsuc (suc k)) e = simp (le-ltb (suc (suc k)) 1 (omega arith)) (ap pos (omega arith))
-
-module _ (w : Width) (z : ℤ) (fit : SFits w z) where
-  pub less_is : lt_z (to_z w (of_z w z)) (pos 0) ≡ true → negsuc 0 -ℤ to_z w (of_z w z) ≡ pos (mag z)
-  less_is e = rw (to_z-of_z fit) (less z (rw (to_z-of_z fit) at e))
-
-  pub less_fits : lt_z (to_z w (of_z w z)) (pos 0) ≡ true → SFits w (negsuc 0 -ℤ to_z w (of_z w z))
-  less_fits e = rw (less_is e) (record { sfits = fit.sfits })
-
-  -- the number of the difference, cast to unsigned
-  pub cast_is : lt_z (to_z w (of_z w z)) (pos 0) ≡ true → to_z w (of_z w (negsuc 0 -ℤ to_z w (of_z w z))) ≡ pos (mag z)
-  cast_is e = to_z-of_z (less_fits e) ∙ less_is e
-
-  pub less_cast : (w' : Width) → 2 ^ hbits w ≤ 2 ^ bits w' → lt_z (to_z w (of_z w z)) (pos 0) ≡ true
-      → T (non_neg (to_z w (of_z w (negsuc 0 -ℤ to_z w (of_z w z))))) × Fits w' (nat_abs (to_z w (of_z w (negsuc 0 -ℤ to_z w (of_z w z)))))
-  less_cast w' h e = rw (cast_is e) (tt, record { fits = omega (arith, fit.sfits) })
-
-  -- and as what the difference is
-  pub less_of : lt_z (to_z w (of_z w z)) (pos 0) ≡ true → to_z w (of_z w (negsuc 0 -ℤ to_z w (of_z w z))) ≡ negsuc 0 -ℤ z
-  less_of e = cast_is e ∙ sym (less z (rw (to_z-of_z fit) at e))
 
 -- how far a number below 0 is from it
 pub abs_is : (z : ℤ) → lt_z z (pos 0) ≡ true → nat_abs z ≡ mag z + 1

@@ -50,9 +50,6 @@ module _ (id : BspFileSectionId) (z : BspFileSection) (n i : ℕ) {count : ℕ} 
     above e = simp (← is-count, lt-leb _ _ h, ← is_within, e)
 
     module _ {k : ℕ} (is-k : k ≡ element_size id) where
-      pub before_end : i * k + k ≤ z.size
-      before_end = rw is-k (ends_within id z i (omega arith))
-
       module _ (e : within ≡ true) where
         pub outside : n < z.offset + i * k + k → refused 23 ≡ place id z n i
         unfolding place

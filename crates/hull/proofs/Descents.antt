@@ -62,13 +62,13 @@ module _ (go : ℕ → Outcome TraceT) (here : BspLeafContents → TraceT) (v : 
 
 -- ---- the two sides by the distances
 
-differ : (x y : Bool) → not (beq x y) ≡ true → Pl.same_side (Pl.side_if x) (Pl.side_if y) ≡ false
+pub differ : (x y : Bool) → not (beq x y) ≡ true → Pl.same_side (Pl.side_if x) (Pl.side_if y) ≡ false
 differ true true e = let z : ◌≡◌ {A = ℕ} 0 1 = cc in absurd (omega arith)
 differ true false e = refl
 differ false true e = refl
 differ false false e = let z : ◌≡◌ {A = ℕ} 0 1 = cc in absurd (omega arith)
 
-agree : (x y : Bool) → not (beq x y) ≡ false → Pl.same_side (Pl.side_if x) (Pl.side_if y) ≡ true
+pub agree : (x y : Bool) → not (beq x y) ≡ false → Pl.same_side (Pl.side_if x) (Pl.side_if y) ≡ true
 agree true true e = refl
 agree true false e = let z : ◌≡◌ {A = ℕ} 0 1 = cc in absurd (omega arith)
 agree false true e = let z : ◌≡◌ {A = ℕ} 0 1 = cc in absurd (omega arith)

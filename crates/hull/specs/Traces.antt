@@ -1,7 +1,7 @@
 -- For the contracts of functions below the calls; a reader of the calls may leave this file out.
 -- The parts of a trace: the child that is met on a side, the traces of a leaf, the near part joined with the far one, and a trace taken up again at
 -- a crossing, with the nodes entered before.
-use Rattle.std.specs.Prelude.{ℕ, suc, ◌≤◌, ◌≡◌, Bool, true, false, cond, not, ◌||◌, ◌&&◌, List, Float, Result, Ok, Err}
+use Rattle.std.specs.Prelude.{ℕ, suc, ◌≤◌, ◌≡◌, Bool, true, false, cond, not, ◌||◌, ◌&&◌, List, Float, Result, Ok, Err, Option, Some, None}
 use Rattle.format.specs.Answer as Ans
 use Rattle.format.specs.Answer.{Answer, answer}
 use Rattle.format.specs.Refusal.{number_of}
@@ -57,6 +57,11 @@ went_trace f t s g = Tr.trace s (end_of f t g) g.contents g.start_solid
 abbrev pub way_answer : List ℕ → Tables → TraceStart → Result Went Refusal → Answer (TraceT × ℕ)
 way_answer f t s (Ok g) = answer (went_trace f t s g, g.visits)
 way_answer f t s (Err e) = Ans.refused (number_of e)
+
+-- the same where something is said at once
+abbrev pub way_once : List ℕ → Tables → TraceStart → Option (Result Went Refusal) → Option (Answer (TraceT × ℕ))
+way_once f t s (Some r) = Some (way_answer f t s r)
+way_once f t s None = None
 
 -- all in one leaf
 abbrev pub ended_in : Vector3 → BspLeafContents → ℕ → Went

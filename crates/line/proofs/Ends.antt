@@ -71,7 +71,7 @@ module _ (q : Vector3) where
   with_other (suc (suc (suc (suc (suc (suc (suc (suc n)))))))) h = absurd (omega arith)
 
 -- the tests of a code, as those of contents
-is_solid : (c : BspLeafContents) (n : ℕ) (b : Bool) → n ≡ code_of c → eqb n 2 ≡ b → Contents.equal c Solid ≡ b
+pub is_solid : (c : BspLeafContents) (n : ℕ) (b : Bool) → n ≡ code_of c → eqb n 2 ≡ b → Contents.equal c Solid ≡ b
 unfolding Contents.equal
 is_solid c n b e q = ap (λ (x : ℕ). eqb x 2) (sym e) ∙ q
 

@@ -31,7 +31,7 @@ use Rattle.walk.specs.Walk.{Entered, enter, meet, with_node}
 use Rattle.nodes.specs.Tables.{End, is_box}
 use Rattle.nodes.specs.Fast.{child_of, end_of, point_of, node_of, word_on, plane_in, place_in, node_in, node_at, node_size, is_render, render_node_here, clip_node_here, contents_met}
 use Rattle.nodes.specs.Fast as Fast
-use Rattle.nodes.specs.Walks.{Read, MadeOf, made_from, child_by_distance, node_and_dists, segment_answer, are_whole, is_whole}
+use Rattle.nodes.specs.Walks.{Read, MadeOf, made_from, child_by_distance, onward_answer, node_and_dists, segment_answer, are_whole, is_whole}
 use Rattle.nodes.specs.declared.table.HullTable.{HullTable}
 use Rattle.nodes.specs.declared.table.HullTable.TheVariants.{Render, Clip, Box}
 use Rattle.nodes.specs.declared.table.Part.{Part}
@@ -39,19 +39,20 @@ use Rattle.nodes.specs.declared.table.Tables.{Tables}
 use Rattle.nodes.specs.declared.read.Words.{Words as WordsT}
 use Rattle.nodes.proofs.Entering.{child_is}
 use Rattle.line.specs.Line.{line_answer, fraction_at, plane_from, with_plane, Went, onward, stopped, refused, stretch, unset, near_part, far_part, point_at, crossing, into, tenth, contents_on, contents_at, contents_from, backed_off, back_off, into_leaf, on_child, blocked, beyond, past, line_from}
-use Rattle.line.specs.Private.{Cut, Keeps, Kept, from_front, ended, Crossed, Resumes, Blocks, Follows, word_went, word_look, past_waiting, Stand, Tip, part_from, stands, from_start, beyond_it, stand_went, Ended, Met, Turned, Arrives, AtOnce, Stops, all_went, seen_line}
+use Rattle.line.specs.Private.{Cut, Keeps, Kept, from_front, ended, Resumes, Blocks, Follows, word_went, word_look, past_waiting, Stand, Tip, part_from, stands, from_start, beyond_it, stand_went, Reaches, Met, Turned, Arrives, AtOnce, Stops, all_went, seen_line}
 use Rattle.line.specs.declared.ground.Ground.{Ground}
 use Rattle.line.specs.declared.state.Stretch.{Stretch}
 use Rattle.line.specs.declared.state.LineTrace.{LineTrace}
 use Rattle.line.specs.declared.state.LinePlane.{LinePlane}
 use Rattle.line.specs.declared.through.Mark.{Mark}
+use Rattle.line.specs.declared.through.Reached.TheVariants as N
 use Rattle.line.specs.declared.through.Turn.{Turn}
 use Rattle.line.specs.declared.through.Turn.TheVariants as U
 use Rattle.line.specs.declared.through.Came.{Came}
 use Rattle.line.specs.declared.through.Came.TheVariants as C
 use Rattle.line.proofs.States.{pick_true, pick_false}
 use Rattle.line.proofs.Seen.{Made, Opened, opened, note_read}
-use Rattle.line.proofs.Looks.{look_outside, look_step, word_node, word_end, goes, to_node, to_end}
+use Rattle.line.proofs.Looks.{look_outside, look_step, word_node, word_end, goes}
 use Rattle.line.proofs.Lines.{other_side, blocked_by}
 use Rattle.line.proofs.Backs.{back_open}
 
@@ -95,6 +96,14 @@ open_in {f} {t} {whole = whole} R on is_render_lem {i} {k} {p} {q} is-r z {w} {a
     let h : i < t.nodes.count = entered_within f t i x.0 (not_box t (length f) (sym R.told ∙ on)) x.1 in
     opened (made ∙ note_read (node_and_dists p q) f t i k h z)
 
+pub look_in_whole : (p : Vector3) {f : List ℕ} {t : Tables} {n m : List ℕ} {whole : Bool} → Read f t n m whole → whole ≡ true → {render : Bool} → render ≡ is_render t.table
+    → {i k : ℕ} {r : Result ℕ Refusal} → MadeOf (child_by_distance p) render n m i (λ t. onward_answer t r)
+    → (k ≡ 0 → ⊥) → {word : ℕ} → r ≡ Ok word → Made (child_by_distance p) f t i k (child_of t.table word)
+look_in_whole p {f} {t} {whole = whole} R on is_render_lem {i} {k} is-r z {word} e =
+    let made : answer (child_of t.table word) ≡ made_from (child_by_distance p) f t i = sym (ap (onward_answer t.table) e) ∙ is-r.1 f t whole R on is_render_lem in
+    let x = mapped_answer (child_by_distance p) (enter (Fast.table f t) i) (child_of t.table word) (sym made) in
+    record { in_range = entered_within f t i x.0 (not_box t (length f) (sym R.told ∙ on)) x.1; left = z; node = x.0; entered = x.1; is_made = x.2 }
+
 -- what a look makes of it
 module _ {f : List ℕ} {t : Tables} {i k : ℕ} {p q : Vector3} {w : WordsT} {a b : Float} (O : Opened f t i k p q w a b) {word : ℕ} (is_word : word ≡ word_on w (Ieee.le zero32 a)) where
   looks : Made (child_by_distance p) f t i k (child_of t.table word)
@@ -106,14 +115,25 @@ module _ {f : List ℕ} {t : Tables} {i k : ℕ} {p q : Vector3} {w : WordsT} {a
     is_made = ap (λ (d : Float). child_on (node_of t.table w) (Pl.from_dist d)) O.first ∙ child_is t.table w (Ieee.le zero32 a) ∙ ap (child_of t.table) (sym is_word);
   }
 
-  pub look_on : word < 32768 → contents_from (Fast.table f t) (k - 1) word p ≡ contents_from (Fast.table f t) k i p
-  look_on h = to_node f t k i p word looks h
-
-  pub look_met : 32768 ≤ word → contents_met f t word ≡ contents_from (Fast.table f t) k i p
-  look_met h = to_end f t k i p word looks h
-
   pub look_either : word_look f t (k - 1) word p ≡ contents_from (Fast.table f t) k i p
   look_either = sym (goes f t k i p word looks)
+
+-- ---- a child by its word: a node, or an end
+
+module _ (f : List ℕ) (t : Tables) (left : ℕ) (word : ℕ) where
+  pub node_went : word < 32768 → (root : ℕ) (s : Stretch) (l : LineTrace) → line_from (Fast.table f t) root left word s l ≡ word_went f t root left word s l
+  node_went h root s l = sym (ap (λ (y : Child End). on_child (Fast.table f t) (λ n s l. line_from (Fast.table f t) root left n s l) y s l) (word_node t.table word h))
+
+  pub node_look : word < 32768 → (p : Vector3) → contents_from (Fast.table f t) left word p ≡ word_look f t left word p
+  node_look h p = sym (ap (contents_on (Fast.table f t) (λ n. contents_from (Fast.table f t) left n p)) (word_node t.table word h))
+
+  pub end_went : 32768 ≤ word → (root : ℕ) (s : Stretch) (l : LineTrace) → into_leaf (Fast.table f t) l (contents_met f t word) ≡ word_went f t root left word s l
+  unfolding contents_met
+  end_went h root s l = sym (ap (λ (y : Child End). on_child (Fast.table f t) (λ n s l. line_from (Fast.table f t) root left n s l) y s l) (word_end t.table word h))
+
+  pub end_look : 32768 ≤ word → (p : Vector3) → contents_met f t word ≡ word_look f t left word p
+  unfolding contents_met
+  end_look h p = sym (ap (contents_on (Fast.table f t) (λ n. contents_from (Fast.table f t) left n p)) (word_end t.table word h))
 
 -- ---- a look with more calls left
 
@@ -242,37 +262,26 @@ module _ (f : List ℕ) (t : Tables) (root : ℕ) where
           (ap (λ (y : Child End). on_child T (λ n s l. line_from T root left n s l) y s l) (word_end t.table word far) ∙ ap (into_leaf T l) met ∙ ap onward (sym is_m))
           ((F c found).1 z)
 
-    -- a node: where the way down from it comes to
-    module _ (near : word < 32768) where
-      abbrev here : Went
-      here = line_from T root left word s l
+    -- where the way down comes to
+    pub reach_end : (to : ℕ) → Reaches f t word left s (Some (N.End to)) → Follows f t root xs left s to l x looked all
+    unfolding contents_met
+    reach_end to N c e =
+        let k = F c (sym N.2 ∙ sym (ap (contents_on T (λ n. contents_from T left n s.start)) (word_end t.table to N.0)) ∙ e) in
+        (k.0, λ z. subst (λ (y : Went). Resumes f t root xs y all) (sym (N.1 root l) ∙ sym (ap (λ (y : Child End). on_child T (λ n s l. line_from T root left n s l) y s l) (word_end t.table to N.0))) (k.1 z))
 
-      at_node_lem : word_went f t root left word s l ≡ here
-      at_node_lem = ap (λ (y : Child End). on_child T (λ n s l. line_from T root left n s l) y s l) (word_node t.table word near)
-
-      look_node : word_look f t left word s.start ≡ contents_from T left word s.start
-      look_node = ap (contents_on T (λ n. contents_from T left n s.start)) (word_node t.table word near)
-
-      pub reach_end : (to : ℕ) → (32768 ≤ to) × ((root : ℕ) (l : LineTrace) → into_leaf T l (contents_met f t to) ≡ line_from T root left word s l) × (contents_met f t to ≡ contents_from T left word s.start)
-          → Follows f t root xs left s to l x looked all
-      unfolding contents_met
-      reach_end to N c e =
-          let k = F c (look_node ∙ sym N.2 ∙ sym (ap (contents_on T (λ n. contents_from T left n s.start)) (word_end t.table to N.0)) ∙ e) in
-          (k.0, λ z. subst (λ (y : Went). Resumes f t root xs y all) (at_node_lem ∙ sym (N.1 root l) ∙ sym (ap (λ (y : Child End). on_child T (λ n s l. line_from T root left n s l) y s l) (word_end t.table to N.0))) (k.1 z))
-
-      module _ (most : left ≤ 512) (w : WordsT) (a b : Float) (below : ℕ) (N : Crossed f t word left s w a b below × (word_look f t below (word_on w (Ieee.le zero32 a)) s.start ≡ contents_from T left word s.start)) where
-        pub reach_plane : (k : Float) → k ≡ crossing a b → (y : Cut) → y ≡ record { w = w; left = below; a = a; k = k; part = s } → (part : Stretch) → part ≡ near_part s k → (to : ℕ) → to ≡ word_on w (Ieee.le zero32 a)
-            → Follows f t root (y ∷ xs) below part to l x looked all
-        reach_plane k is-k y is_y part is-part to is-to =
-            rw (is_y, is-part, is-to) (λ c e.
-            let j = F c (look_node ∙ sym N.1 ∙ e) in
-            (j.0, λ z. (omega (arith, N.0.falls, most), (N.0.plane, (N.0.read, subst (λ (v : Went). Resumes f t root xs v all) (at_node_lem ∙ passing) (j.1 z))))))
-          where
-            passing : here ≡ past T (λ n s l. line_from T root below n s l) root (node_of t.table w) N.0.plane s (Pl.from_dist a) k (word_went f t root below (word_on w (Ieee.le zero32 a)) (near_part s k) l)
-            passing =
-                sym (N.0.says root l) ∙ sym (pick_false _ _ _ N.0.differ)
-                ∙ ap (λ (v : Float). past T (λ n s l. line_from T root below n s l) root (node_of t.table w) N.0.plane s (Pl.from_dist a) v (on_child T (λ n s l. line_from T root below n s l) (child_on (node_of t.table w) (Pl.from_dist a)) (near_part s v) l)) (sym is-k)
-                ∙ ap (λ (v : Child End). past T (λ n s l. line_from T root below n s l) root (node_of t.table w) N.0.plane s (Pl.from_dist a) k (on_child T (λ n s l. line_from T root below n s l) v (near_part s k) l)) (child_is t.table w (Ieee.le zero32 a))
+    module _ (most : left ≤ 512) (w : WordsT) (a b : Float) (below : ℕ) (N : Reaches f t word left s (Some (N.Crossing w a b below))) where
+      pub reach_plane : (k : Float) → k ≡ crossing a b → (y : Cut) → y ≡ record { w = w; left = below; a = a; k = k; part = s } → (part : Stretch) → part ≡ near_part s k → (to : ℕ) → to ≡ word_on w (Ieee.le zero32 a)
+          → Follows f t root (y ∷ xs) below part to l x looked all
+      reach_plane k is-k y is_y part is-part to is-to =
+          rw (is_y, is-part, is-to) (λ c e.
+          let j = F c (sym N.1 ∙ e) in
+          (j.0, λ z. (omega (arith, N.0.falls, most), (N.0.plane, (N.0.read, subst (λ (v : Went). Resumes f t root xs v all) passing (j.1 z))))))
+        where
+          passing : word_went f t root left word s l ≡ past T (λ n s l. line_from T root below n s l) root (node_of t.table w) N.0.plane s (Pl.from_dist a) k (word_went f t root below (word_on w (Ieee.le zero32 a)) (near_part s k) l)
+          passing =
+              sym (N.0.says root l) ∙ sym (pick_false _ _ _ N.0.differ)
+              ∙ ap (λ (v : Float). past T (λ n s l. line_from T root below n s l) root (node_of t.table w) N.0.plane s (Pl.from_dist a) v (on_child T (λ n s l. line_from T root below n s l) (child_on (node_of t.table w) (Pl.from_dist a)) (near_part s v) l)) (sym is-k)
+              ∙ ap (λ (v : Child End). past T (λ n s l. line_from T root below n s l) root (node_of t.table w) N.0.plane s (Pl.from_dist a) k (on_child T (λ n s l. line_from T root below n s l) v (near_part s k) l)) (child_is t.table w (Ieee.le zero32 a))
 
 -- what is read past the list's end
 abbrev pub blank : Mark
@@ -350,11 +359,10 @@ looked_at false b e = e
 
 module _ {f : List ℕ} {t : Tables} {root : ℕ} {whole : Stretch} {at : Stand} {l : LineTrace} {y : Mark} {looked : Bool} {all : Went} {ys : List Mark} where
   -- where the line stands once it has come to an end
-  at_end : Standing f t root whole ys at l y looked all → {w : ℕ} → Ended f t at w
+  at_end : Standing f t root whole ys at l y looked all → {w : ℕ} → Reaches f t at.word at.left at.part (Some (N.End w))
       → (32768 ≤ w) × Standing f t root whole ys (record { word = w; left = at.left; part = at.part }) l y looked all
-  at_end S {w} (inl e) = (rw e.1 e.0, subst (λ (v : ℕ). Standing f t root whole ys (record { word = v; left = at.left; part = at.part }) l y looked all) (sym e.1) S)
-  at_end S {w} (inr e) = (
-    e.1.0,
+  at_end S {w} e = (
+    e.0,
     record {
       xs = S.xs;
       its_planes = S.its_planes;
@@ -363,12 +371,12 @@ module _ {f : List ℕ} {t : Tables} {root : ℕ} {whole : Stretch} {at : Stand}
       end_is = S.end_is;
       x = S.x;
       passed = S.passed;
-      follows = reach_end f t root S.xs at.left at.part at.word l S.x looked all S.follows e.0 w e.1;
+      follows = reach_end f t root S.xs at.left at.part at.word l S.x looked all S.follows w e;
     },
   )
 
 -- a turn comes to what is met at the end that it comes to
-pub turned : (f : List ℕ) (t : Tables) (at : Stand) (n : ℕ) (looked : Bool) (w : ℕ) → Ended f t at w → (r : Option Turn) → Met f t w n looked r → Turned f t at n looked r
+pub turned : (f : List ℕ) (t : Tables) (at : Stand) (n : ℕ) (looked : Bool) (w : ℕ) → Reaches f t at.word at.left at.part (Some (N.End w)) → (r : Option Turn) → Met f t w n looked r → Turned f t at n looked r
 turned f t at n looked w e (Some (U.Into m)) k = (w, (e, k))
 turned f t at n looked w e (Some U.Blocked) k = (w, (e, k))
 turned f t at n looked w e (Some (U.Crossing _ _ _ _)) k = absurd k
@@ -405,18 +413,18 @@ module _ {f : List ℕ} {t : Tables} {root : ℕ} {whole : Stretch} {at : Stand}
       crossing_lem = rw e at K₀
 
       pub fewer_left : left ≤ 512
-      fewer_left = omega (arith, crossing_lem.1.1.1.2.0.falls, most)
+      fewer_left = omega (arith, crossing_lem.1.1.2.0.falls, most)
 
       put : n ≤ length stack → 0 < n → {z : Mark} → Keeps w front left near z → (x₀ : Mark) → at.part.from ≡ x₀.at → at.part.start ≡ point_of x₀.point
           → (left ≤ 512) × Standing f t root whole (drop (n - 1) (set stack (n - 1) z)) (stands (word_on w front) left x₀ z) (seen_line q seen) y looked all
       put more room {z} Z x₀ from_is start_is =
           let C = crossing_lem in
-          let a = C.1.0 in
-          let b = C.1.1.0 in
+          let a = C.0 in
+          let b = C.1.0 in
           let k = crossing a b in
           let cut : Cut = record { w = w; left = left; a = a; k = k; part = at.part } in
-          let in_front_lem = C.1.1.1.0 in
-          let is_near = C.1.1.1.1 in
+          let in_front_lem = C.1.1.0 in
+          let is_near = C.1.1.1 in
           let part_is : part_from x₀ z ≡ near = rw (← from_is, ← start_is, Z.at_is, Z.point_is, is_near) refl in
           let here : Kept cut z = subst (λ (s : Stretch). Keeps w (Ieee.le zero32 a) left s z) is_near (subst (λ (c : Bool). Keeps w c left near z) in_front_lem Z) in (
             fewer_left,
@@ -430,7 +438,7 @@ module _ {f : List ℕ} {t : Tables} {root : ℕ} {whole : Stretch} {at : Stand}
               passed = S.passed;
               follows =
                   subst (λ (s : Stretch). Follows f t root (cut ∷ S.xs) left s (word_on w front) (seen_line q seen) S.x looked all) (sym part_is)
-                  (reach_plane f t root S.xs at.left at.part at.word (seen_line q seen) S.x looked all S.follows C.0 most w a b left C.1.1.1.2 k refl cut refl near is_near (word_on w front) (ap (word_on w) in_front_lem));
+                  (reach_plane f t root S.xs at.left at.part at.word (seen_line q seen) S.x looked all S.follows most w a b left C.1.1.2 k refl cut refl near is_near (word_on w front) (ap (word_on w) in_front_lem));
             },
           )
 
@@ -501,17 +509,17 @@ module _ (g : Ground) (p q : Vector3) (h : g.root < 32768) where
   abbrev first : Stand
   first = from_start g.root p q
 
-  whole_line_lem : stand_went g first ≡ all_went g p q
+  whole_line_lem : stand_went g first ≡ all_went g.s.now g.t g.root p q
   whole_line_lem = from_root g (stretch zero32 one32 p q) (unset q) h
 
   module _ {r : Came} (is-r : Arrives g first (Some r)) where
-    pub came_through : {e : Vector3} {m : ℕ} → r ≡ C.Through e m → {l : LineTrace} → l ≡ seen_line e m → answer l ≡ line_answer (all_went g p q)
+    pub came_through : {e : Vector3} {m : ℕ} → r ≡ C.Through e m → {l : LineTrace} → l ≡ seen_line e m → answer l ≡ line_answer (all_went g.s.now g.t g.root p q)
     came_through e is_l = ap line_answer (ap onward is_l ∙ rw e at is-r ∙ whole_line_lem)
 
-    pub came_blocked : {y : Mark} {e : Vector3} {m : ℕ} → r ≡ C.Blocked y e m → {l : LineTrace} → l ≡ seen_line e m → (o : Option LineTrace) → Stops g y l o → AtOnce (line_answer (all_went g p q)) o
+    pub came_blocked : {y : Mark} {e : Vector3} {m : ℕ} → r ≡ C.Blocked y e m → {l : LineTrace} → l ≡ seen_line e m → (o : Option LineTrace) → Stops g y l o → AtOnce (line_answer (all_went g.s.now g.t g.root p q)) o
     came_blocked {y} {e} {m} z {l} is_l o h = let I : Arrives g first (Some (C.Blocked y e m)) = rw z at is-r in by o h I
       where
-        by : (o : Option LineTrace) → Stops g y l o → Arrives g first (Some (C.Blocked y e m)) → AtOnce (line_answer (all_went g p q)) o
+        by : (o : Option LineTrace) → Stops g y l o → Arrives g first (Some (C.Blocked y e m)) → AtOnce (line_answer (all_went g.s.now g.t g.root p q)) o
         by None h I = tt
         by (Some k) h I =
             let (x, (K, (hp, (is-h, B)))) = I in

@@ -23,13 +23,13 @@ use Rattle.math.specs.declared.plane.HyperplaneSide.{HyperplaneSide}
 use Rattle.walk.specs.Table.{Child, Node, Table, child_on}
 use Rattle.walk.specs.Walk.{enter}
 use Rattle.nodes.specs.Tables.{End}
-use Rattle.nodes.specs.Fast.{node_of, word_on, plane_in, contents_met}
+use Rattle.nodes.specs.Fast.{node_of, child_of, word_on, contents_met}
 use Rattle.nodes.specs.Fast as Fast
 use Rattle.nodes.specs.declared.table.Tables.{Tables}
 use Rattle.nodes.specs.declared.read.Words.{Words as WordsT}
-use Rattle.nodes.proofs.Entering.{child_node, child_end}
+use Rattle.nodes.proofs.Entering.{child_is, child_node, child_end}
 use Rattle.line.specs.Line.{Went, onward, refused, near_part, far_part, point_at, crossing, into, plane_from, with_plane, contents_below, back_off, into_leaf, on_child, blocked, beyond, past, across, line_at, line_from}
-use Rattle.line.specs.Private.{went_of, Crossed, Beyond, child_at, contents_beside, child_went, far_went}
+use Rattle.line.specs.Private.{went_of, Crossed, Beyond, child_at, contents_beside, child_went, far_went, word_went}
 use Rattle.line.specs.declared.ground.Ground.{Ground}
 use Rattle.line.specs.declared.state.Stretch.{Stretch}
 use Rattle.line.specs.declared.state.LinePlane.{LinePlane}
@@ -147,6 +147,10 @@ module _ {f : List ℕ} {t : Tables} {k i : ℕ} (root : ℕ) (s : Stretch) (l :
     on_child_lem : on_child (Fast.table f t) (onto f t root (k - 1)) (child_at t w (Ieee.le zero32 a)) s l ≡ line_from (Fast.table f t) root k i s l
     on_child_lem = pick_true _ _ _ (same_is (Ieee.le zero32 a) (Ieee.le zero32 b) same) ∙ enters
 
+    pub to_child : word_went f t root (k - 1) word s l ≡ line_from (Fast.table f t) root k i s l
+    to_child =
+        sym (ap (λ (c : Child End). on_child (Fast.table f t) (onto f t root (k - 1)) c s l) (child_is t.table w (Ieee.le zero32 a) ∙ ap (child_of t.table) (sym is_word))) ∙ on_child_lem
+
     pub goes_on : word < 32768 → line_from (Fast.table f t) root (k - 1) word s l ≡ line_from (Fast.table f t) root k i s l
     goes_on h = sym (ap (λ (c : Child End). on_child (Fast.table f t) (onto f t root (k - 1)) c s l) (child_node t.table w (Ieee.le zero32 a) word is_word h)) ∙ on_child_lem
 
@@ -158,8 +162,8 @@ module _ {f : List ℕ} {t : Tables} {k i : ℕ} (root : ℕ) (s : Stretch) (l :
 
 -- a crossing, as it is met at the node i
 pub crosses_here : {f : List ℕ} {t : Tables} {k i : ℕ} {s : Stretch} {w : WordsT} {a b : Float} → Opened f t i k s.start s.end w a b
-    → not (beq (Ieee.le zero32 a) (Ieee.le zero32 b)) ≡ true → {j n : ℕ} → k ≤ n → ((root : ℕ) (l : LineTrace) → line_from (Fast.table f t) root k i s l ≡ line_from (Fast.table f t) root n j s l)
-    → Crossed f t j n s w a b (k - 1)
+    → not (beq (Ieee.le zero32 a) (Ieee.le zero32 b)) ≡ true → {n : ℕ} → k ≤ n → {all : ℕ → LineTrace → Went} → ((root : ℕ) (l : LineTrace) → line_from (Fast.table f t) root k i s l ≡ all root l)
+    → Crossed f t n s w a b (k - 1) all
 crosses_here {s = s} {a = a} {b = b} O d h same = record {
   plane = O.plane;
   read = O.read;
@@ -210,7 +214,7 @@ module _ (g : Ground) (w : WordsT) (front : Bool) (s : Stretch) (k : Float) (l :
 
 -- ---- at a crossing
 
-module _ (g : Ground) (l : LineTrace) {k i : ℕ} {s : Stretch} {w : WordsT} {a b : Float} {left : ℕ} (C : Crossed g.s.now g.t i k s w a b left) where
+module _ (g : Ground) (l : LineTrace) {k : ℕ} {s : Stretch} {w : WordsT} {a b : Float} {left : ℕ} {all : ℕ → LineTrace → Went} (C : Crossed g.s.now g.t k s w a b left all) where
   abbrev T₁ : Table End BspLeafContents
   T₁ = Fast.table g.s.now g.t
 
@@ -224,7 +228,7 @@ module _ (g : Ground) (l : LineTrace) {k i : ℕ} {s : Stretch} {w : WordsT} {a 
   front = Ieee.le zero32 a
 
   abbrev whole : Went
-  whole = line_from T₁ g.root k i s l
+  whole = all g.root l
 
   module _ {x : Float} (is_x : x ≡ crossing a b) where
     passed : (near : Went) → near ≡ child_went g.s.now g.t g.root left w front (near_part s x) l → past T₁ go₁ g.root nd C.plane s (Pl.side_if front) x near ≡ whole

@@ -1,6 +1,6 @@
 -- For the contracts of functions that no other crate can name; a reader of the calls may leave this file out.
 -- What the parts of the whole-line trace answer, in the terms of Line.antt.
-use Rattle.std.specs.Prelude.{Result, Ok, Err, Option, Some, None, ℕ, suc, ◌/◌, ◌%◌, ◌<◌, ◌≤◌, ◌≡◌, cond, true, false, Bool, not, ◌&&◌, List, [], ◌∷◌, ltb, leb, eqb, ◌⊎◌, Float}
+use Rattle.std.specs.Prelude.{Result, Ok, Err, Option, Some, None, ℕ, suc, ◌/◌, ◌%◌, ◌<◌, ◌≤◌, ◌≡◌, cond, true, false, Bool, not, ◌&&◌, List, [], ◌∷◌, ltb, leb, eqb, Float}
 use Rattle.std.specs.Float.Ieee as Ieee
 use Rattle.math.specs.Vector as Vec
 use Rattle.math.specs.Vector.{zero32, one32}
@@ -50,21 +50,21 @@ went_of (Err e) = refused (number_of e)
 unfoldable pub node_for : {X : Type 0} → (Entered End → X) → List ℕ → Tables → ℕ → ℕ → Answer X
 node_for make f t i left = cond (ltb i t.nodes.count) (cond (eqb left 0) (Ans.refused 32) (made_from make f t i)) (Ans.refused 30)
 
--- a node whose plane the part s crosses, met on the way down from the node i with k calls left: its words, the distances of the ends of s
--- from its plane, the calls left below it; whatever is set before it, what becomes of s at this node is what becomes of s at the node i
-pub record Crossed (f : List ℕ) (t : Tables) (i k : ℕ) (s : Stretch) (w : Words) (a b : Float) (left : ℕ) : Type 0 where
+-- a node whose plane the part s crosses, met on a way down with k calls left: its words, the distances of the ends of s from its plane, the calls
+-- left below it; whatever is set before it, what becomes of s at this node is `all`
+pub record Crossed (f : List ℕ) (t : Tables) (k : ℕ) (s : Stretch) (w : Words) (a b : Float) (left : ℕ) (all : ℕ → LineTrace → Went) : Type 0 where
   pub plane : Hyperplane
   pub read : Fast.plane_in f t w.plane ≡ answer plane
   pub falls : suc left ≤ k
   pub differ : Pl.same_side (Pl.from_dist a) (Pl.from_dist b) ≡ false
   pub says : (root : ℕ) (l : LineTrace)
       → across (Fast.table f t) (λ n s l. line_from (Fast.table f t) root left n s l) root (Fast.node_of t.table w) plane s a b l
-      ≡ line_from (Fast.table f t) root k i s l
+      ≡ all root l
 
 -- where the way down of the part s from the node i, with k calls left, comes to
 abbrev pub Comes : List ℕ → Tables → ℕ → ℕ → Stretch → Result Descent Refusal → Type 0
 Comes f t i k s (Ok (D.Leaf c)) = (root : ℕ) (l : LineTrace) → onward (into c l) ≡ line_from (Fast.table f t) root k i s l
-Comes f t i k s (Ok (D.Crossing w a b left)) = Crossed f t i k s w a b left
+Comes f t i k s (Ok (D.Crossing w a b left)) = Crossed f t k s w a b left (λ root l. line_from (Fast.table f t) root k i s l)
 Comes f t i k s (Err e) = (root : ℕ) (l : LineTrace) → refused (number_of e) ≡ line_from (Fast.table f t) root k i s l
 
 -- the child of a node on a side
@@ -92,10 +92,14 @@ Beyond g w front s k l r =
     ≡ beyond (Fast.table g.s.now g.t) go g.root (Fast.node_of g.t.table w) h s (Pl.side_if front) k l (contents_beside g.s.now g.t w (not front) (point_at s k))
 
 -- the whole line from the root
-abbrev pub all_went : Ground → Vector3 → Vector3 → Went
-all_went g p q = line_from (Fast.table g.s.now g.t) g.root 512 g.root (stretch zero32 one32 p q) (unset q)
+abbrev pub all_went : List ℕ → Tables → ℕ → Vector3 → Vector3 → Went
+all_went f t root p q = line_from (Fast.table f t) root 512 root (stretch zero32 one32 p q) (unset q)
 
 -- ---- the whole line in one loop (`follow`)
+
+-- the file has all nodes and planes, and a word below 2^15 for each node
+abbrev pub Worded : Ground → Type 0
+Worded g = (g.whole ≡ true) × (g.t.nodes.count ≤ 32768)
 
 -- where the line stands: at a child, by its word, with the calls left and a part
 pub record Stand : Type 0 where
@@ -124,15 +128,15 @@ word_went f t root left word s l = on_child (Fast.table f t) (λ n s l. line_fro
 abbrev pub word_look : List ℕ → Tables → ℕ → ℕ → Vector3 → Answer BspLeafContents
 word_look f t left word p = contents_on (Fast.table f t) (λ n. contents_from (Fast.table f t) left n p) (Fast.child_of t.table word)
 
--- where the way down of the part s from the node i, with k calls left, comes to: what becomes of s there, and what a look from where s starts
--- finds, are what they are at the node i
+-- where the way down of the part s from a child, by its word i, with k calls left, comes to: what becomes of s there, and what a look from where s
+-- starts finds, are what they are at the child
 abbrev pub Reaches : List ℕ → Tables → ℕ → ℕ → Stretch → Option Reached → Type 0
 Reaches f t i k s (Some (N.End w)) =
     (32768 ≤ w)
-    × ((root : ℕ) (l : LineTrace) → into_leaf (Fast.table f t) l (Fast.contents_met f t w) ≡ line_from (Fast.table f t) root k i s l)
-    × (Fast.contents_met f t w ≡ contents_from (Fast.table f t) k i s.start)
+    × ((root : ℕ) (l : LineTrace) → into_leaf (Fast.table f t) l (Fast.contents_met f t w) ≡ word_went f t root k i s l)
+    × (Fast.contents_met f t w ≡ word_look f t k i s.start)
 Reaches f t i k s (Some (N.Crossing w a b left)) =
-    Crossed f t i k s w a b left × (word_look f t left (word_on w (Ieee.le zero32 a)) s.start ≡ contents_from (Fast.table f t) k i s.start)
+    Crossed f t k s w a b left (λ root l. word_went f t root k i s l) × (word_look f t left (word_on w (Ieee.le zero32 a)) s.start ≡ word_look f t k i s.start)
 Reaches f t i k s None = Unit {0}
 
 -- a plane that a part of the line crosses at k: the node's words, the calls left below it, the distance of the part's start
@@ -204,17 +208,12 @@ Met f t w n looked (Some U.Blocked) = (c : BspLeafContents) × ((answer c ≡ Fa
 Met f t w n looked (Some (U.Crossing x front left near)) = ⊥
 Met f t w n looked None = Unit {0}
 
--- the end that the line comes to from where it stands: it stands at it, or its way down comes to it
-abbrev pub Ended : List ℕ → Tables → Stand → ℕ → Type 0
-Ended f t at w = ((32768 ≤ at.word) × (w ≡ at.word)) ⊎ ((at.word < 32768) × Reaches f t at.word at.left at.part (Some (N.End w)))
-
 -- one turn of the line: on to a plane that it crosses; into the leaf of the end that it comes to, or it is blocked there
 abbrev pub Turned : List ℕ → Tables → Stand → ℕ → Bool → Option Turn → Type 0
 Turned f t at n looked (Some (U.Crossing w front left near)) =
-    (at.word < 32768)
-    × ((a : Float) × ((b : Float) × ((front ≡ Ieee.le zero32 a) × (near ≡ near_part at.part (crossing a b)) × Reaches f t at.word at.left at.part (Some (N.Crossing w a b left)))))
-Turned f t at n looked (Some (U.Into m)) = (w : ℕ) × (Ended f t at w × Met f t w n looked (Some (U.Into m)))
-Turned f t at n looked (Some U.Blocked) = (w : ℕ) × (Ended f t at w × Met f t w n looked (Some U.Blocked))
+    (a : Float) × ((b : Float) × ((front ≡ Ieee.le zero32 a) × (near ≡ near_part at.part (crossing a b)) × Reaches f t at.word at.left at.part (Some (N.Crossing w a b left))))
+Turned f t at n looked (Some (U.Into m)) = (w : ℕ) × (Reaches f t at.word at.left at.part (Some (N.End w)) × Met f t w n looked (Some (U.Into m)))
+Turned f t at n looked (Some U.Blocked) = (w : ℕ) × (Reaches f t at.word at.left at.part (Some (N.End w)) × Met f t w n looked (Some U.Blocked))
 Turned f t at n looked None = Unit {0}
 
 -- what becomes of the line from where it stands, and where it comes to

@@ -2,11 +2,10 @@
 // point that is looked for beyond a plane is where the far part starts, so the first end that the far part comes to is what the look finds, and
 // no look is taken before it. Nothing is said where a record or a leaf is refused, no call is left or the list is full.
 ghost use Rattle.std.specs.Prelude.{◌≡◌, true, ◌&&◌, ◌<◌, ◌≤◌, eqb, Float};
-ghost use Rattle.format.specs.Contents.{code_of};
 ghost use Rattle.math.specs.declared.vector.Vector3.{Vector3};
-ghost use Rattle.nodes.specs.Fast.{contents_met, point_of};
+ghost use Rattle.nodes.specs.Fast.{contents_met, point_of, table};
 ghost use Rattle.nodes.specs.Quick.{code_or, word_contents};
-ghost use Rattle.line.specs.Line.{into, stretch};
+ghost use Rattle.line.specs.Line.{contents_from, into, stretch};
 ghost use Rattle.line.specs.Private as Private;
 
 use crate::ground::Ground;
@@ -162,27 +161,38 @@ pub fn seen_line(end: Vector3, seen: u32) -> LineTrace
 }
 
 impl<'a> Ground<'a> {
-    // Down from a node, with so many calls left, its own included, as long as the part lies on one side of each plane.
+    // Down from a child, by its word, with so many calls left, as long as the part lies on one side of each plane. A word that is no node of the
+    // table is found by the reader's own test of the number, which also tells an end: so each child is tested once.
     // `descend` of `tracing` goes down by any table, record by record, tells which refusal ends it, and reads the leaf. One function for both would
     // have to be told how a node is read and what becomes of a refusal and of an end, and would be no plainer. (The far end is tested after the near
     // one: where the two sides are compared with each other, they are put into numbers first, which takes ten instructions a node.)
-    // That the bytes are there is asked of this and the two below: a `Sections` would say it, and costs a line 1 to 3%.
-    fn down(&self, top: usize, calls: u32, p: &[f32; 3], q: &[f32; 3]) -> Option<Reached>
-        requires { self.now.whole ≡ true }
+    // That the bytes are there is asked of this and those below: a `Sections` would say it, and costs a line 1 to 3%.
+    #[inline(always)]
+    fn down(&self, top: u16, calls: u32, p: &[f32; 3], q: &[f32; 3]) -> Option<Reached>
+        requires { Private.Worded self.now }
         ensures { (x y : Float) → Private.Reaches self.now.s.now self.now.t top calls (stretch x y (point_of p.now) (point_of q.now)) result }
     {
         let t = self.t;
         let table = t.table;
-        let render = table.is_render();
         let sections = Sections {
             nodes: self.nodes,
             planes: self.planes,
-            render,
+            render: table.is_render(),
         };
-        let mut node = top;
-        for left in (0..calls).rev() {
-            let (w, a, b) = sections.ends_in(node, p, q).ok()?;
-            let word = if a >= 0.0 {
+        let mut word = top;
+        let mut left = calls;
+        loop {
+            let Ok((w, a, b)) = sections.ends_in(word as usize, p, q) else {
+                if word < 32768 {
+                    return None;
+                }
+                return Some(Reached::End(word));
+            };
+            if left == 0 {
+                return None;
+            }
+            left -= 1;
+            word = if a >= 0.0 {
                 if !(b >= 0.0) {
                     return Some(Reached::Crossing(w, a, b, left));
                 }
@@ -193,12 +203,7 @@ impl<'a> Ground<'a> {
                 }
                 w.on(false)
             };
-            if 32768 <= word {
-                return Some(Reached::End(word));
-            }
-            node = word as usize;
         }
-        None
     }
 
     // The code of the contents of an end, 0 where it is refused: no code is 0.
@@ -212,6 +217,36 @@ impl<'a> Ground<'a> {
             return end_number(self.s, self.t, word);
         }
         clip_code(word)
+    }
+
+    // The code of the contents at a point from the root, 0 where nothing is said.
+    #[inline(always)]
+    pub fn code_from_root(&self, point: &[f32; 3]) -> u32
+        requires { Private.Worded self.now × (self.now.root < 32768) }
+        ensures { 0 < result → result ≡ code_or (contents_from (table self.now.s.now self.now.t) 512 self.now.root (point_of point.now)) }
+    {
+        let t = self.t;
+        let table = t.table;
+        let sections = Sections {
+            nodes: self.nodes,
+            planes: self.planes,
+            render: table.is_render(),
+        };
+        let mut word = self.root as u16;
+        let mut left: u32 = 512;
+        loop {
+            let Ok(next) = sections.look_in(word as usize, point) else {
+                if word < 32768 {
+                    return 0;
+                }
+                return self.code_at(word);
+            };
+            if left == 0 {
+                return 0;
+            }
+            left -= 1;
+            word = next;
+        }
     }
 
     // An end, with what was met before; `looked`: it is what the look beyond a plane finds.
@@ -242,28 +277,25 @@ impl<'a> Ground<'a> {
         seen: u32,
         looked: bool,
     ) -> Option<Turn>
-        requires { (self.now.whole ≡ true) × (seen < 8) }
+        requires { Private.Worded self.now × (seen < 8) }
         ensures { Private.Turned self.now.s.now self.now.t (Private.stands at left x.now y.now) seen looked result }
     {
-        let mut word = at;
-        if at < 32768 {
-            match self.down(at as usize, left, &x.point, &y.point)? {
-                Reached::End(end) => word = end,
-                Reached::Crossing(w, a, b, below) => {
-                    let near = x.part_to(y).near_part(crossing(a, b));
-                    return Some(Turn::Crossing(w, a >= 0.0, below, near));
-                }
+        match self.down(at, left, &x.point, &y.point)? {
+            Reached::End(word) => self.meet_end(word, seen, looked),
+            Reached::Crossing(w, a, b, below) => {
+                let near = x.part_to(y).near_part(crossing(a, b));
+                Some(Turn::Crossing(w, a >= 0.0, below, near))
             }
         }
-        self.meet_end(word, seen, looked)
     }
 
     // The line from a child on. A tree of 32,767 nodes has fewer ends and planes than there are turns. (Ten places and the first that is used, and no
     // list that grows: there is no heap, and ten are cleared without a call. The last is the line's end, the others the planes that wait. Where the
     // line was to go is read there again: handed on it takes a register.)
     #[tactic(auto, using(crate::proofs::Follows::fewer_left, crate::proofs::Follows::few_met))]
+    #[inline(always)]
     pub fn follow(&self, root: u16, start: Vector3, end: Vector3) -> Option<Came>
-        requires { self.now.whole ≡ true }
+        requires { Private.Worded self.now }
         ensures { Private.Arrives self.now (Private.from_start root start end) result }
     {
         let mut marks = [tip(0.0, Vector3::new(0.0, 0.0, 0.0)); 10];

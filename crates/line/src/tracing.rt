@@ -1,6 +1,6 @@
 // The whole-line trace through a hull.
 // The file, its map record and the hull stand apart as in `hull`.
-ghost use Rattle.std.specs.Prelude.{◌≡◌};
+ghost use Rattle.std.specs.Prelude.{◌≡◌, ◌<◌};
 ghost use Rattle.format.specs.Answer.{answer};
 ghost use Rattle.format.specs.Answers.{answer_of};
 ghost use Rattle.math.specs.Plane as Pl;
@@ -20,7 +20,7 @@ use hull::collision::BspCollisionHull;
 use math::Vector3;
 use nodes::lines::point_of;
 use nodes::read::{Words, end_contents, plane_at};
-use nodes::table::tables_of;
+use nodes::table::{Tables, tables_of};
 use nodes::whole::{are_whole, node_bytes, plane_bytes};
 
 // How a call ends: tracing may go on, or it stops. (As `ControlFlow`, with names: in an `Answer` its `?` would not do.)
@@ -189,26 +189,26 @@ impl<'a> Ground<'a> {
 
     // What a line is that is blocked at a plane, with what is set before: it ends there, where that point is not solid from the root; where it is,
     // nothing is said.
+    #[inline(always)]
     fn stop_at(&self, x: Mark, set: LineTrace) -> Option<LineTrace>
+        requires { Private.Worded self.now × (self.now.root < 32768) }
         ensures { Private.Stops self.now x set result }
     {
         if set.all_solid {
             return Some(set);
         }
-        let plane = plane_at(self.s, self.t, (x.held / 4294967296) as usize).ok()?;
-        let point = point_of(&x.point);
-        let c = self.contents_from(self.root, point).ok()?;
-        if c == BspLeafContents::Solid {
+        let code = self.code_from_root(&x.point);
+        if code == 0 || code == 2 {
             return None;
         }
+        let plane = plane_at(self.s, self.t, (x.held / 4294967296) as usize).ok()?;
         let met = set.with_plane(plane_from(plane, x.is_from_front()));
-        Some(met.ended(x.at, point))
+        Some(met.ended(x.at, point_of(&x.point)))
     }
 
-    // The whole line record by record. (Where the line starts and ends stands with the rest: handed on, it would be kept through the loop that is
-    // tried before.)
+    // The whole line record by record.
     fn line_any(&self) -> Answer<Going>
-        ensures { Private.went_of result ≡ Private.all_went self.now self.now.start self.now.end }
+        ensures { Private.went_of result ≡ Private.all_went self.now.s.now self.now.t self.now.root self.now.start self.now.end }
     {
         let part = Stretch {
             from: 0.0,
@@ -219,15 +219,13 @@ impl<'a> Ground<'a> {
         self.line_from(self.root, 512, part, LineTrace::unset(self.end))
     }
 
-    // The whole line in one loop, where that can be and says it.
+    // The whole line in one loop, where that says it.
     #[tactic(auto, using(crate::proofs::Follows::came_through))]
     #[inline(always)]
     fn line_quick(&self) -> Option<LineTrace>
-        ensures { Private.AtOnce (Line.line_answer (Private.all_went self.now self.now.start self.now.end)) result }
+        requires { Private.Worded self.now × (self.now.root < 32768) }
+        ensures { Private.AtOnce (Line.line_answer (Private.all_went self.now.s.now self.now.t self.now.root self.now.start self.now.end)) result }
     {
-        if !self.whole || 32768 <= self.root {
-            return None;
-        }
         match self.follow(self.root as u16, self.start, self.end)? {
             Came::Through(q, seen) => Some(seen_line(q, seen)),
             Came::Blocked(x, q, seen) => self.stop_at(x, seen_line(q, seen)),
@@ -235,7 +233,61 @@ impl<'a> Ground<'a> {
     }
 }
 
-// The whole-line trace from start to end through a hull: in one loop, or record by record where that says nothing.
+// The whole line by any table, record by record: a call, in which what it goes by is put together anew, so that the way before it keeps none of it.
+#[cold]
+#[inline(never)]
+fn line_by_records(
+    s: &[u8],
+    t: Tables,
+    root: usize,
+    start: Vector3,
+    end: Vector3,
+) -> Answer<LineTrace>
+    ensures { answer_of result ≡ Line.line_answer (Private.all_went s.now t root start end) }
+{
+    let whole = are_whole(t, s.len());
+    let g = Ground {
+        s,
+        nodes: node_bytes(s, t, whole),
+        planes: plane_bytes(s, t, whole),
+        root,
+        t,
+        start,
+        end,
+        whole,
+    };
+    match g.line_any()? {
+        Going::On(line) => Ok(line),
+        Going::Stopped(line) => Ok(line),
+    }
+}
+
+// The whole line at once: where the file has all nodes and planes, and a word for each node, and one loop says it.
+#[inline(always)]
+fn line_at_once(s: &[u8], t: Tables, root: usize, start: Vector3, end: Vector3) -> Option<LineTrace>
+    ensures { Private.AtOnce (Line.line_answer (Private.all_went s.now t root start end)) result }
+{
+    let whole = are_whole(t, s.len());
+    let nodes = t.nodes;
+    if !whole || 32768 <= root || 32768 < nodes.count {
+        return None;
+    }
+    let g = Ground {
+        s,
+        nodes: node_bytes(s, t, whole),
+        planes: plane_bytes(s, t, whole),
+        root,
+        t,
+        start,
+        end,
+        whole,
+    };
+    g.line_quick()
+}
+
+// The whole-line trace from start to end through a hull: in one loop, or record by record where that says nothing. (For that the tables are copied:
+// handed on as they are, they would be written to memory in each call. In line, so that the call for C can have one for each kind of nodes.)
+#[inline(always)]
 pub fn trace_line(
     s: &[u8],
     map: BspData,
@@ -245,24 +297,10 @@ pub fn trace_line(
 ) -> Answer<LineTrace>
     ensures { answer_of result ≡ Line.whole_line (Hull.hull_table s.now map hull) hull.node_id start end }
 {
-    let table = hull.table;
-    let t = tables_of(map, table, hull.mins, hull.maxs);
-    let whole = are_whole(t, s.len());
-    let g = Ground {
-        s,
-        nodes: node_bytes(s, t, whole),
-        planes: plane_bytes(s, t, whole),
-        root: hull.node_id,
-        t,
-        start,
-        end,
-        whole,
-    };
-    if let Some(line) = g.line_quick() {
+    let t = tables_of(map, hull.table, hull.mins, hull.maxs);
+    if let Some(line) = line_at_once(s, t, hull.node_id, start, end) {
         return Ok(line);
     }
-    match g.line_any()? {
-        Going::On(line) => Ok(line),
-        Going::Stopped(line) => Ok(line),
-    }
+    let tables = t;
+    line_by_records(s, tables, hull.node_id, start, end)
 }

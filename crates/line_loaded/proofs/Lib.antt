@@ -1,2 +1,3 @@
 -- What specs/ says, proved.
 pub mod EveryLine
+pub mod Trials

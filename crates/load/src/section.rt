@@ -6,7 +6,7 @@ ghost use Rattle.records.specs.Edge.{edge_at, edge_index_at};
 ghost use Rattle.records.specs.Plane.{plane_at};
 ghost use Rattle.records.specs.Triple.{vector_at};
 ghost use Rattle.sections.specs.Answers.{position_step};
-ghost use Rattle.sections.specs.Records as Row;
+ghost use Rattle.sections.specs.Records as Records;
 ghost use Rattle.load.specs.Entities.{text_of, entities};
 
 use format::refusal::{Answer, Refusal};
@@ -45,35 +45,35 @@ pub fn check_entities(s: &[u8], section: BspFileSection) -> Answer<usize>
 
 #[tactic(auto, using(sections::proofs::Plain::plain_section_lem, crate::proofs::Untested::plain_plane))]
 pub fn check_planes(s: &[u8], section: BspFileSection) -> Answer<usize>
-    ensures { position_step result ≡ Row.section plane_at Id.Planes s.now section }
+    ensures { position_step result ≡ Records.section plane_at Id.Planes s.now section }
 {
     check_plain(s, section, BspFileSectionId::Planes)
 }
 
 #[tactic(auto, using(sections::proofs::Plain::plain_section_lem, crate::proofs::Untested::plain_vector))]
 pub fn check_vertices(s: &[u8], section: BspFileSection) -> Answer<usize>
-    ensures { position_step result ≡ Row.section vector_at Id.Vertices s.now section }
+    ensures { position_step result ≡ Records.section vector_at Id.Vertices s.now section }
 {
     check_plain(s, section, BspFileSectionId::Vertices)
 }
 
 #[tactic(auto, using(sections::proofs::Plain::plain_section_lem, sections::proofs::Plain::plain_u16))]
 pub fn check_facelist(s: &[u8], section: BspFileSection) -> Answer<usize>
-    ensures { position_step result ≡ Row.section u16_at Id.FaceList s.now section }
+    ensures { position_step result ≡ Records.section u16_at Id.FaceList s.now section }
 {
     check_plain(s, section, BspFileSectionId::FaceList)
 }
 
 #[tactic(auto, using(sections::proofs::Plain::plain_section_lem, crate::proofs::Untested::plain_edge))]
 pub fn check_edges(s: &[u8], section: BspFileSection) -> Answer<usize>
-    ensures { position_step result ≡ Row.section edge_at Id.Edges s.now section }
+    ensures { position_step result ≡ Records.section edge_at Id.Edges s.now section }
 {
     check_plain(s, section, BspFileSectionId::Edges)
 }
 
 #[tactic(auto, using(sections::proofs::Plain::plain_section_lem, crate::proofs::Untested::plain_edge_index))]
 pub fn check_edgelist(s: &[u8], section: BspFileSection) -> Answer<usize>
-    ensures { position_step result ≡ Row.section edge_index_at Id.EdgeList s.now section }
+    ensures { position_step result ≡ Records.section edge_index_at Id.EdgeList s.now section }
 {
     check_plain(s, section, BspFileSectionId::EdgeList)
 }

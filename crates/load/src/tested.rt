@@ -6,7 +6,7 @@ ghost use Rattle.records.specs.Leaf.{leaf_at};
 ghost use Rattle.models.specs.Model.{file_model_at};
 ghost use Rattle.records.specs.Node.{render_node_at, collision_node_at};
 ghost use Rattle.sections.specs.Answers.{position_step};
-ghost use Rattle.sections.specs.Records as Row;
+ghost use Rattle.sections.specs.Records as Records;
 ghost use Rattle.load.specs.Tested.{textured, texinfos, faces, outside, references_at, leaf_references};
 
 use faces::face::read_face;
@@ -22,7 +22,7 @@ use sections::row::{check_records, read_records};
 // A step of loading is one line over `check_records`: its section and its reader. Each has a name of its own, since `load` and `place` both take
 // it, and so each section and its reader stand together once.
 pub fn check_render_nodes(s: &[u8], section: BspFileSection) -> Answer<usize>
-    ensures { position_step result ≡ Row.section render_node_at Id.RenderNodes s.now section }
+    ensures { position_step result ≡ Records.section render_node_at Id.RenderNodes s.now section }
 {
     check_records(s, section, BspFileSectionId::RenderNodes, read_render_node)
 }
@@ -59,7 +59,7 @@ pub fn check_faces(s: &[u8], map: BspData) -> Answer<usize>
 }
 
 pub fn check_collision_nodes(s: &[u8], section: BspFileSection) -> Answer<usize>
-    ensures { position_step result ≡ Row.section collision_node_at Id.CollisionNodes s.now section }
+    ensures { position_step result ≡ Records.section collision_node_at Id.CollisionNodes s.now section }
 {
     check_records(
         s,
@@ -70,13 +70,13 @@ pub fn check_collision_nodes(s: &[u8], section: BspFileSection) -> Answer<usize>
 }
 
 pub fn check_leaves(s: &[u8], section: BspFileSection) -> Answer<usize>
-    ensures { position_step result ≡ Row.section leaf_at Id.Leaves s.now section }
+    ensures { position_step result ≡ Records.section leaf_at Id.Leaves s.now section }
 {
     check_records(s, section, BspFileSectionId::Leaves, read_leaf)
 }
 
 pub fn check_models(s: &[u8], section: BspFileSection) -> Answer<usize>
-    ensures { position_step result ≡ Row.section file_model_at Id.Models s.now section }
+    ensures { position_step result ≡ Records.section file_model_at Id.Models s.now section }
 {
     check_records(s, section, BspFileSectionId::Models, read_file_model)
 }

@@ -64,7 +64,7 @@ crossing_is h s e x q = go (Pl.same_side (Pl.from_dist (Pl.point_dist h s)) (Pl.
 
 -- ---- the theorem
 
-same_refl : (s : HyperplaneSide) → Pl.same_side s s ≡ true
+pub same_refl : (s : HyperplaneSide) → Pl.same_side s s ≡ true
 same_refl Positive = refl
 same_refl Negative = refl
 

@@ -1,6 +1,6 @@
 -- Laws of models: the leaves before one, and that no leaf range wraps.
 -- Assumes nothing.
-use Rattle.std.proofs.Common.{◌≡◌, ℕ, zero, suc, ◌+◌, ◌-◌, ◌*◌, ◌%◌, ◌^◌, ◌<◌, ◌≤◌, List, refl, ap, mod-eq_of_lt, suc-mul, add-one, arith, leb-true}
+use Rattle.std.proofs.Common.{◌≡◌, ℕ, zero, suc, ◌+◌, ◌-◌, ◌*◌, ◌^◌, ◌<◌, ◌≤◌, List, refl, ap, mod-eq_of_lt, suc-mul, add-one, arith, leb-true}
 use Rattle.format.specs.Answer.{Answer, answer, refused, then_answer}
 use Rattle.format.specs.Step.{Step, ok, refused as stopped, and_then}
 use Rattle.format.specs.Field.{i32_at, index_at}

@@ -1,6 +1,6 @@
 -- The bytes through the first zero byte, and where the text lies.
 -- Assumes nothing.
-use Rattle.std.proofs.Common.{◌≡◌, ℕ, suc, ◌+◌, ◌-◌, ◌<◌, ◌≤◌, min, Bool, true, false, cond, not, eqb, leb, ltb, Option, Some, None, List, [], ◌∷◌, length, get_or, take, drop, position, ◌==◌, sym, refl, zero-le, arith, length-drop, leb-false}
+use Rattle.std.proofs.Common.{◌≡◌, ℕ, suc, ◌+◌, ◌-◌, ◌<◌, ◌≤◌, min, Bool, true, false, cond, not, eqb, leb, ltb, Some, None, List, [], ◌∷◌, length, take, drop, ◌==◌, refl, arith, length-drop, leb-false}
 use native.Mathlib.Nat.{add-sub_cancel_left}
 use Rattle.std.specs.List.{position_or_len}
 use borrow.Author.Tests.{ltb-true, ltb-false}

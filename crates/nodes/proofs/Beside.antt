@@ -1,8 +1,8 @@
 -- Each way through a step of two walks side by side, and the two together.
 -- Assumes nothing.
 use Rattle.std.proofs.Common.{Ok, Err, Some}
-use Rattle.std.specs.Prelude.{Result}
-use Rattle.std.proofs.Common.{◌≡◌, ℕ, suc, ◌+◌, ◌-◌, ◌/◌, ◌<◌, ◌≤◌, Bool, true, false, cond, ltb, leb, ◌⊎◌, List, length, sym, refl, ap, ◌∙◌, inl, inr, arith, ltb-false, ltb-true, le-ltb, lt-ltb, leb-false, leb-true}
+use Rattle.std.specs.Prelude.{Result, Option, None}
+use Rattle.std.proofs.Common.{◌≡◌, ℕ, suc, ◌+◌, ◌-◌, ◌/◌, ◌<◌, ◌≤◌, Bool, true, false, cond, ltb, List, length, sym, refl, ap, ◌∙◌, arith, ltb-false, ltb-true, le-ltb, lt-ltb}
 use Rattle.format.specs.Answer as Ans
 use Rattle.format.specs.Answer.{Answer, answer}
 use Rattle.format.specs.Refusal.{number_of}
@@ -14,8 +14,10 @@ use Rattle.walk.proofs.Steps.{walk_outside, walk_spent}
 use Rattle.nodes.specs.Tables.{End}
 use Rattle.nodes.specs.Fast.{end_of, is_render, node_size, table}
 use Rattle.nodes.specs.Walks.{ends, are_whole, made_from, child_toward, onward_answer, Read}
-use Rattle.nodes.specs.Lanes.{landed, both, walk_two, rest, counted, ended, Steps, StepsIn, TwoIn}
-use Rattle.nodes.specs.Answers.{two_answer}
+use Rattle.nodes.specs.Lanes.{landed, both, walk_two, rest, counted, both_go, Steps, StepsIn, TwoIn, GoesOn}
+use Rattle.nodes.specs.Answers.{one_answer, two_answer}
+use Rattle.nodes.specs.Quick.{or_nothing}
+use Rattle.nodes.specs.declared.lanes.Lane.{Lane}
 use Rattle.nodes.specs.declared.table.Tables.{Tables}
 use Rattle.nodes.proofs.Making.{nodes_counted}
 use Rattle.nodes.proofs.Stepping.{at_first, step_refused, step_node, step_end}
@@ -97,43 +99,50 @@ rest_first s t p w = go (ltb w 32768)
     go true = at_first (ends (table s t)) p t.nodes.count w
     go false = refl
 
-pub both_ended : (a b : ℕ) → ended a b ≡ true → (32768 ≤ a) × (32768 ≤ b)
-unfolding ended
-both_ended a b e = go (leb 32768 a) refl e
+pub both_nodes : (a b : ℕ) → both_go a b ≡ true → (a < 32768) × (b < 32768)
+unfolding both_go
+both_nodes a b e = go (ltb a 32768) refl e
   where
-    go : (x : Bool) → leb 32768 a ≡ x → cond x (leb 32768 b) false ≡ true → (32768 ≤ a) × (32768 ≤ b)
-    go true q z = (leb-true 32768 a q, leb-true 32768 b z)
+    go : (x : Bool) → ltb a 32768 ≡ x → cond x (ltb b 32768) false ≡ true → (a < 32768) × (b < 32768)
+    go true q z = (ltb-true a 32768 q, ltb-true b 32768 z)
     go false q z = let y : ◌≡◌ {A = ℕ} 0 1 = cc in absurd (omega arith)
-
-one_goes : (a b : ℕ) → ended a b ≡ false → (a < 32768) ⊎ (b < 32768)
-unfolding ended
-one_goes a b e = go (leb 32768 a) refl e
-  where
-    go : (x : Bool) → leb 32768 a ≡ x → cond x (leb 32768 b) false ≡ false → (a < 32768) ⊎ (b < 32768)
-    go true q z = inr (leb-false 32768 b z)
-    go false q z = inl (leb-false 32768 a q)
 
 pub visit_node : (w v : ℕ) → w < 32768 → v + 1 ≡ counted w v
 unfolding counted
 visit_node w v h = simp (lt-ltb w 32768 h)
 
-pub visit_end : (w v : ℕ) → 32768 ≤ w → v ≡ counted w v
-unfolding counted
-visit_end w v h = simp (le-ltb w 32768 h)
+-- an answer, or none, of the first of two is one of the two
+pub both_told : {A : Type 0} (x y : Answer A) → both (or_nothing x) (or_nothing y) ≡ both x y
+both_told (answer a) (answer b) = refl
+both_told (answer a) (Ans.refused n) = refl
+both_told (Ans.refused n) y = refl
 
-few_after : (k w v : ℕ) → v ≤ k → (w < 32768 → v < k) → counted w v ≤ k
-few_after k w v l f = go (ltb w 32768) refl
-  where
-    go : (x : Bool) → ltb w 32768 ≡ x → counted w v ≤ k
-    go true e = omega (arith, visit_node w v (ltb-true w 32768 e), f (ltb-true w 32768 e))
-    go false e = omega (arith, visit_end w v (ltb-false w 32768 e), l)
+-- one walk, by the bytes nb of the nodes and mb of the planes
+module _ (nb mb : List ℕ) (render : Bool) (count : ℕ) (p : Vector3) (first before : ℕ) where
+  -- the walk from the word w on, after v visits, is that from the first word on
+  pub record Along (w v : ℕ) : Type 0 where
+    pub same : (s : List ℕ) (t : Tables) → Read s t nb mb true → render ≡ is_render t.table → count ≡ t.nodes.count → rest s t p first before ≡ rest s t p w v
+    pub one : w < 65536
+    pub few : v ≤ count
 
-more : (w v : ℕ) → v ≤ counted w v
-more w v = go (ltb w 32768) refl
-  where
-    go : (x : Bool) → ltb w 32768 ≡ x → v ≤ counted w v
-    go true e = omega (arith, visit_node w v (ltb-true w 32768 e))
-    go false e = omega (arith, visit_end w v (ltb-false w 32768 e))
+  pub along_first : first < 65536 → before ≤ count → Along first before
+  along_first f g = record { same = λ s t w k l. refl; one = f; few = g }
+
+  module _ (w v : ℕ) (g : Along w v) where
+    pub along_ends : 32768 ≤ w → GoesOn nb mb render count p first before (λ t. one_answer t (Some (record { word = w; visits = v })))
+    along_ends h s t x k l = sym (ap or_nothing (g.same s t x k l ∙ rest_end s t p w v h))
+
+    module _ (c : ℕ) (f : StepsIn nb mb render count p w v c) where
+      pub along_stops : 65536 ≤ c → GoesOn nb mb render count p first before (λ t. one_answer t None)
+      along_stops z s t x k l = let y = (f s t true x refl k l).stops z in sym (ap or_nothing (g.same s t x k l ∙ y.1))
+
+      pub along_on : w < 32768 → c < 65536 → v < count → Along c (v + 1)
+      along_on h i m =
+          record {
+            same = λ s t x k l. g.same s t x k l ∙ (f s t true x refl k l).goes i ∙ ap (λ (n : ℕ). rest s t p c n) (sym (visit_node w v h));
+            one = i;
+            few = omega (arith, m);
+          }
 
 -- by the bytes nb of the nodes and mb of the planes
 module _ (nb mb : List ℕ) (render : Bool) (count : ℕ) (p q : Vector3) (first second : ℕ) where
@@ -163,33 +172,42 @@ module _ (nb mb : List ℕ) (render : Bool) (count : ℕ) (p q : Vector3) (first
       }
 
   module _ (a b m n : ℕ) (g : Beside a b m n) where
-    pub beside_ends : 32768 ≤ a → 32768 ≤ b → TwoIn nb mb render count first second p q (λ t. two_answer t (Some ((record { word = a; visits = m }), (record { word = b; visits = n }))))
-    beside_ends f h s t w k l = sym (g.same s t w k l ∙ rw (rest_end s t p a m f, rest_end s t q b n h))
+    -- each of them goes on alone
+    module _ (x y : Option Lane) (f : GoesOn nb mb render count p a m (λ t. one_answer t x)) (h : GoesOn nb mb render count q b n (λ t. one_answer t y)) where
+      told : (s : List ℕ) (t : Tables) → Read s t nb mb true → render ≡ is_render t.table → count ≡ t.nodes.count → both (one_answer t.table x) (one_answer t.table y) ≡ both (landed s t p first) (landed s t q second)
+      told s t w k l = rw (f s t w k l, h s t w k l) (both_told (rest s t p a m) (rest s t q b n) ∙ sym (g.same s t w k l))
+
+      pub none_second : y ≡ None → TwoIn nb mb render count first second p q (λ t. Ans.refused 0)
+      none_second e s t w k l = go (one_answer t.table x) ∙ ap (λ (z : Option Lane). both (one_answer t.table x) (one_answer t.table z)) (sym e) ∙ told s t w k l
+        where
+          go : (z : Answer (End × ℕ)) → Ans.refused 0 ≡ both z (Ans.refused 0)
+          go (answer v) = refl
+          go (Ans.refused v) = refl
+
+      pub both_some : (u v : Lane) → x ≡ Some u → y ≡ Some v → TwoIn nb mb render count first second p q (λ t. two_answer t (Some (u, v)))
+      both_some u v d e s t w k l = ap (λ (z : Option Lane). both (one_answer t.table z) (one_answer t.table (Some v))) (sym d) ∙ ap (λ (z : Option Lane). both (one_answer t.table x) (one_answer t.table z)) (sym e) ∙ told s t w k l
+
+    pub none_first : (x : Option Lane) → GoesOn nb mb render count p a m (λ t. one_answer t x) → x ≡ None → TwoIn nb mb render count first second p q (λ t. Ans.refused 0)
+    none_first x f e s t w k l =
+        ap (λ (z : Answer (End × ℕ)). both z (or_nothing (rest s t q b n))) (ap (one_answer t.table) (sym e) ∙ f s t w k l)
+        ∙ both_told (rest s t p a m) (rest s t q b n) ∙ sym (g.same s t w k l)
+
+    pub stops_first : (c : ℕ) → StepsIn nb mb render count p a m c → 65536 ≤ c → TwoIn nb mb render count first second p q (λ t. Ans.refused 0)
+    stops_first c f z s t w k l = let y = (f s t true w refl k l).stops z in sym (g.same s t w k l ∙ both_first (rest s t p a m) (rest s t q b n) y.0 y.1)
 
     module _ (c d : ℕ) (f : StepsIn nb mb render count p a m c) (h : StepsIn nb mb render count q b n d) where
-      pub stops_first : 65536 ≤ c → TwoIn nb mb render count first second p q (λ t. Ans.refused 0)
-      stops_first z s t w k l = let y = (f s t true w refl k l).stops z in sym (g.same s t w k l ∙ both_first (rest s t p a m) (rest s t q b n) y.0 y.1)
-
       pub stops_second : 65536 ≤ d → TwoIn nb mb render count first second p q (λ t. Ans.refused 0)
       stops_second z s t w k l = let y = (h s t true w refl k l).stops z in sym (g.same s t w k l ∙ both_second (rest s t p a m) (rest s t q b n) y.0 y.1)
 
-      module _ (i : c < 65536) (j : d < 65536) (f' : a < 32768 → c < 65536 → m < count) (h' : b < 32768 → d < 65536 → n < count) where
-        pub beside_on : Beside c d (counted a m) (counted b n)
-        beside_on =
-            record {
-              same = λ s t w k l. g.same s t w k l ∙ rw ((f s t true w refl k l).goes i, (h s t true w refl k l).goes j);
-              one = i;
-              other = j;
-              few = few_after count a m g.few (λ z. f' z i);
-              fewer = few_after count b n g.fewer (λ z. h' z j);
-            }
-
-        pub beside_less : ended a b ≡ false → (count - counted a m) + (count - counted b n) < (count - m) + (count - n)
-        beside_less e = go (one_goes a b e)
-          where
-            go : (a < 32768) ⊎ (b < 32768) → (count - counted a m) + (count - counted b n) < (count - m) + (count - n)
-            go (inl z) = omega (arith, visit_node a m z, f' z i, more b n)
-            go (inr z) = omega (arith, visit_node b n z, h' z j, more a m)
+      pub beside_on : a < 32768 → b < 32768 → c < 65536 → d < 65536 → m < count → n < count → Beside c d (m + 1) (n + 1)
+      beside_on k l i j u v =
+          record {
+            same = λ s t w y z. g.same s t w y z ∙ rw ((f s t true w refl y z).goes i, (h s t true w refl y z).goes j, ← visit_node a m k, ← visit_node b n l);
+            one = i;
+            other = j;
+            few = omega (arith, u);
+            fewer = omega (arith, v);
+          }
 
 -- the same of a file
 module _ (s : List ℕ) (t : Tables) (p q : Vector3) (first second : ℕ) where

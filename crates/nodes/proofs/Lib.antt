@@ -12,6 +12,7 @@ pub mod Entering
 mod Making
 mod Stepping
 mod Beside
+mod Eights
 mod Quicks
 mod AnyTables
 pub mod Equal

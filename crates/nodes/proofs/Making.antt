@@ -196,9 +196,6 @@ module _ (s : List ℕ) (t : Tables) (n m : List ℕ) (b : Bool) (read : Read s 
     nodes_counted = rw is-k (by_size (is_render t.table) t.nodes.count (length n) nodes_length)
 
     module _ (i : ℕ) where
-      pub node_inside : i < t.nodes.count → i * node_size k + node_size k ≤ length n
-      node_inside l = rw (is-k, nodes_length) (record_inside s t.nodes (node_size (is_render t.table)) (whole_nodes s t is_whole).1 i l)
-
       module _ {X : Type 0} (make : Entered End → X) where
         whole_made : i < t.nodes.count → (x : Answer X) → MadeIn make k n m (i * node_size k) x → x ≡ made_from make s t i
         whole_made l x g =

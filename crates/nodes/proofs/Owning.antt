@@ -21,7 +21,8 @@ use Rattle.nodes.specs.Tables.{is_box, leaf_contents}
 use Rattle.nodes.specs.Fast.{Within, u32, is_render, node_size, end_of, coded, place_in, plane_in, plane_of_index, leaf_contents_here, contents_met}
 use Rattle.nodes.specs.Fast as Fast
 use Rattle.nodes.specs.Walks.{all_bytes}
-use Rattle.nodes.specs.Owned.{two_sides, plane_of, coded_answer, end_among, Owned}
+use Rattle.nodes.specs.Owned.{two_sides, plane_of, end_among, Owned}
+use Rattle.nodes.specs.Quick.{said, word_contents}
 use Rattle.nodes.specs.declared.table.HullTable.{HullTable}
 use Rattle.nodes.specs.declared.table.HullTable.TheVariants.{Render, Clip, Box}
 use Rattle.nodes.specs.declared.table.Tables.{Tables}
@@ -122,13 +123,13 @@ module _ (s : List ℕ) (t : Tables) (render : Bool) (n m l : List ℕ) (own : O
   at_leaf w true q = leaf_there (65535 - w) (ltb-true (65535 - w) t.leaves.count q)
   at_leaf w false q = refl
 
-  by_coded : (k : Option BspLeafContents) → coded_answer k ≡ meet (Fast.table s t) (coded k)
+  by_coded : (k : Option BspLeafContents) → said k ≡ meet (Fast.table s t) (coded k)
   unfolding meet
   by_coded (Some c) = refl
   by_coded None = refl
 
   by_table : (w : ℕ) (tab : HullTable) → is_box tab ≡ false
-      → cond (is_render tab) (cond (ltb (65535 - w) (length l / 28)) (leaf_contents_here l ((65535 - w) * 28)) (Ans.refused 30)) (coded_answer (contents_of (65536 - w)))
+      → cond (is_render tab) (cond (ltb (65535 - w) (length l / 28)) (leaf_contents_here l ((65535 - w) * 28)) (Ans.refused 30)) (word_contents w)
       ≡ meet (Fast.table s t) (end_of tab w)
   unfolding meet
   by_table w Render e = rw leaves_counted (at_leaf w (ltb (65535 - w) t.leaves.count) refl)

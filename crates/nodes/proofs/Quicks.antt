@@ -1,8 +1,8 @@
 -- Each way through a walk by the bytes of whole sections, which says nothing where the walk is refused; and the code of the contents at an end.
 -- Assumes nothing.
-use Rattle.std.specs.Prelude.{Option, Some, None, Result, Ok, Err}
+use Rattle.std.specs.Prelude.{Option, Some, None, IfSome, Result, Ok, Err}
 use Rattle.std.specs.Borrow.{Bor}
-use Rattle.std.proofs.Common.{◌≡◌, ℕ, zero, suc, ◌+◌, ◌-◌, ◌*◌, ◌/◌, ◌%◌, ◌<◌, ◌≤◌, Bool, true, false, cond, not, eqb, ltb, ◌⊎◌, inl, inr, List, length, get_or, sym, refl, ap, ◌∙◌, subst, arith, ltb-false, ltb-true, lt-ltb, le-ltb, ne_eqb}
+use Rattle.std.proofs.Common.{◌≡◌, ℕ, zero, suc, ◌+◌, ◌-◌, ◌*◌, ◌/◌, ◌%◌, ◌^◌, ◌<◌, ◌≤◌, Bool, true, false, cond, not, eqb, ltb, ◌⊎◌, inl, inr, List, length, get_or, sym, refl, ap, ◌∙◌, subst, arith, ltb-false, ltb-true, lt-ltb, le-ltb, ne_eqb}
 use Rattle.format.specs.Answer as Ans
 use Rattle.format.specs.Answer.{Answer, answer, then_answer}
 use Rattle.format.specs.Code.{contents_of}
@@ -13,13 +13,13 @@ use Rattle.format.proofs.Codes.{high}
 use Rattle.format.specs.declared.refusal.Refusal.{Refusal}
 use Rattle.math.specs.Plane as Pl
 use Rattle.math.specs.declared.vector.Vector3.{Vector3}
-use Rattle.walk.specs.Walk.{with_visits, meet, walk}
+use Rattle.walk.specs.Walk.{with_visits, meet}
 use Rattle.walk.specs.Private.{after}
 use Rattle.walk.proofs.Steps.{walk_outside, walk_spent}
-use Rattle.nodes.specs.Tables.{file_table}
+use Rattle.nodes.specs.Tables.{End, file_table}
 use Rattle.nodes.specs.Fast.{u32, coded, end_of, is_invalid, is_render, leaf_contents_here, node_size, place_in, plane_here, table, contents_met}
 use Rattle.nodes.specs.Walks.{are_whole, ends, child_toward, found_answer, made_from, MadeIn, node_bytes, onward_answer, plane_bytes, word_at}
-use Rattle.nodes.specs.Quick.{code_or, end_code, leaves_by, or_nothing, part_with, quick_answer, quick_in, QuickIn, quick_walk, WalkedIn, said, tables_by, Whole, word_contents}
+use Rattle.nodes.specs.Quick.{code_or, end_code, leaves_by, or_nothing, part_with, quick_answer, quick_in, QuickIn, quick_walk, rest_in, RestIn, WalkedIn, said, tables_by, Whole, word_contents}
 use Rattle.nodes.specs.declared.read.Words.{Words}
 use Rattle.nodes.specs.declared.table.HullTable.{HullTable}
 use Rattle.nodes.specs.declared.table.Tables.{Tables}
@@ -38,19 +38,30 @@ told tab w v h l =
     let r : (w * 4294967296 + v) % 4294967296 ≡ v = omega arith in
     rw (ne_eqb (w * 4294967296 + v) 0 (λ e. omega (arith, e, h)), q, r)
 
+-- what holds of whatever is said
+pub of_some : {A : Type 0} (P : A → Type 0) (o : Option A) (x : A) → o ≡ Some x → IfSome o P → P x
+of_some {A = A} P o x e h = subst (λ (y : Option A). IfSome y P) e h
+
 -- ---- a walk
 
--- the walk from the root on is the walk from the node i, where v nodes were entered before
-abbrev pub Stands : List ℕ → List ℕ → Bool → ℕ → Vector3 → ℕ → ℕ → Type 0
-Stands n m render root p i v =
-    (s : List ℕ) (t : Tables) → Whole s t n m render → quick_in s t root p ≡ or_nothing (after v (walk (ends (table s t)) (t.nodes.count - v) i p))
+-- what is asked is the walk from the node i, where v nodes were entered before
+abbrev pub Stands : List ℕ → List ℕ → Bool → (List ℕ → Tables → Answer (End × ℕ)) → Vector3 → ℕ → ℕ → Type 0
+Stands n m render asked p i v = (s : List ℕ) (t : Tables) → Whole s t n m render → asked s t ≡ rest_in s t i v p
 
-module _ (n m : List ℕ) (render : Bool) (root : ℕ) (p : Vector3) where
+-- a number says what is asked
+abbrev Says : List ℕ → List ℕ → Bool → (List ℕ → Tables → Answer (End × ℕ)) → ℕ → Type 0
+Says n m render asked r = (s : List ℕ) (t : Tables) → Whole s t n m render → quick_answer t.table r ≡ asked s t
+
+-- a walk from a root on, and one from a node on
+abbrev pub from_root : ℕ → Vector3 → List ℕ → Tables → Answer (End × ℕ)
+from_root root p s t = quick_in s t root p
+
+abbrev pub from_node : ℕ → ℕ → Vector3 → List ℕ → Tables → Answer (End × ℕ)
+from_node i v p s t = rest_in s t i v p
+
+module _ (n m : List ℕ) (render : Bool) (p : Vector3) where
   abbrev count : ℕ
   count = length n / node_size render
-
-  pub first : Stands n m render root p root 0
-  first s t w = ap or_nothing (at_first (ends (table s t)) p t.nodes.count root)
 
   module _ (s : List ℕ) (t : Tables) (w : Whole s t n m render) where
     counted : count ≡ t.nodes.count
@@ -59,52 +70,61 @@ module _ (n m : List ℕ) (render : Bool) (root : ℕ) (p : Vector3) where
     made : (i : ℕ) → i < count → (r : Result ℕ Refusal) → MadeIn (child_toward p) render n m (i * node_size render) (onward_answer (file_table render) r) → onward_answer t.table r ≡ made_from (child_toward p) s t i
     made i h r e = whole_answer s t n m true w.its refl render w.table_is i (child_toward p) (omega (arith, h, counted)) (λ x. onward_answer x r) e
 
-  pub no_root : count ≤ root → QuickIn n m render root p 0
-  no_root h s t w = sym (ap (λ o. or_nothing (with_visits o)) (walk_outside (ends (table s t)) p t.nodes.count root (omega (arith, h, counted s t w))))
+  module _ (root : ℕ) where
+    pub first : Stands n m render (from_root root p) p root 0
+    first s t w = ap or_nothing (at_first (ends (table s t)) p t.nodes.count root)
 
-  -- where the nodes may be more than the words
-  pub few_walked : count < 32768 → (r : ℕ) → QuickIn n m render root p r → WalkedIn n m render root p r
-  few_walked h r u s t w = u s t w ∙ sym (ap (λ b. cond b (quick_in s t root p) (Ans.refused 0)) (lt-ltb t.nodes.count 32768 (omega (arith, h, counted s t w))))
+    pub no_root : count ≤ root → QuickIn n m render root p 0
+    no_root h s t w = sym (ap (λ o. or_nothing (with_visits o)) (walk_outside (ends (table s t)) p t.nodes.count root (omega (arith, h, counted s t w))))
 
-  pub many_walked : 32768 ≤ count → WalkedIn n m render root p 0
-  many_walked h s t w = sym (ap (λ b. cond b (quick_in s t root p) (Ans.refused 0)) (le-ltb t.nodes.count 32768 (omega (arith, h, counted s t w))))
+    -- where the nodes may be more than the words
+    pub few_walked : count < 32768 → (r : ℕ) → QuickIn n m render root p r → WalkedIn n m render root p r
+    few_walked h r u s t w = u s t w ∙ sym (ap (λ b. cond b (quick_in s t root p) (Ans.refused 0)) (lt-ltb t.nodes.count 32768 (omega (arith, h, counted s t w))))
 
-  module _ (i v : ℕ) (st : Stands n m render root p i v) (h : i < count) where
-    pub spent : count ≤ v → QuickIn n m render root p 0
-    spent g s t w =
-        sym (st s t w ∙ ap (λ o. or_nothing (after v o)) (walk_spent (ends (table s t)) p (t.nodes.count - v) i (omega (arith, g, counted s t w)) (omega (arith, h, counted s t w))))
+    pub many_walked : 32768 ≤ count → WalkedIn n m render root p 0
+    many_walked h s t w = sym (ap (λ b. cond b (quick_in s t root p) (Ans.refused 0)) (le-ltb t.nodes.count 32768 (omega (arith, h, counted s t w))))
 
-    module _ (g : v < count) (f : Result (Words × Bor (List ℕ)) Refusal) (is-f : MadeIn (λ y. y) render n m (i * node_size render) (found_answer (file_table render) f)) where
-      pub refused_here : (x : Refusal) → f ≡ Err x → QuickIn n m render root p 0
-      refused_here x q s t w =
-          sym (st s t w ∙ ap or_nothing (step_refused s t p v (t.nodes.count - v) (t.nodes.count - (v + 1)) i (omega (arith, g, counted s t w)) (omega (arith, h, counted s t w)) (Err x) (made s t w i h (Err x) (none_of (child_toward p) render n m (i * node_size render) f is-f x q)) x refl))
+  module _ (asked : List ℕ → Tables → Answer (End × ℕ)) (i v : ℕ) (st : Stands n m render asked p i v) where
+    -- what is left of the walk is said by a walk of its own
+    pub handed_on : (r : ℕ) → RestIn n m render i v p r → Says n m render asked r
+    handed_on r u s t w = u s t w ∙ sym (st s t w)
 
-      module _ (y : Words) (b : Bor (List ℕ)) (is_y : f ≡ Ok (y, b)) (x : ℕ) (is_x : x ≡ word_at y (Pl.point_side (plane_here b.now 0) p)) where
-        abbrev r : Result ℕ Refusal
-        r = Ok x
+    module _ (h : i < count) where
+      pub spent : count ≤ v → Says n m render asked 0
+      spent g s t w =
+          sym (st s t w ∙ ap (λ o. or_nothing (after v o)) (walk_spent (ends (table s t)) p (t.nodes.count - v) i (omega (arith, g, counted s t w)) (omega (arith, h, counted s t w))))
 
-        abbrev q : r ≡ Ok x
-        q = refl
+      module _ (g : v < count) (f : Result (Words × Bor (List ℕ)) Refusal) (is-f : MadeIn (λ y. y) render n m (i * node_size render) (found_answer (file_table render) f)) where
+        pub refused_here : (x : Refusal) → f ≡ Err x → Says n m render asked 0
+        refused_here x q s t w =
+            sym (st s t w ∙ ap or_nothing (step_refused s t p v (t.nodes.count - v) (t.nodes.count - (v + 1)) i (omega (arith, g, counted s t w)) (omega (arith, h, counted s t w)) (Err x) (made s t w i h (Err x) (none_of (child_toward p) render n m (i * node_size render) f is-f x q)) x refl))
 
-        is-r : MadeIn (child_toward p) render n m (i * node_size render) (onward_answer (file_table render) r)
-        is-r = made_toward p render n m (i * node_size render) f is-f y b is_y x is_x
+        module _ (y : Words) (b : Bor (List ℕ)) (is_y : f ≡ Ok (y, b)) (x : ℕ) (is_x : x ≡ word_at y (Pl.point_side (plane_here b.now 0) p)) where
+          abbrev r : Result ℕ Refusal
+          r = Ok x
 
-        goes : (s : List ℕ) (t : Tables) → Whole s t n m render → x < 32768 → quick_in s t root p ≡ or_nothing (after (v + 1) (walk (ends (table s t)) (t.nodes.count - (v + 1)) x p))
-        goes s t w l =
-            st s t w ∙ ap or_nothing (step_node s t p v (t.nodes.count - v) (t.nodes.count - (v + 1)) i (omega (arith, g, counted s t w)) (omega (arith, h, counted s t w)) r (made s t w i h r is-r) x q l)
+          abbrev q : r ≡ Ok x
+          q = refl
 
-        pub on_to : x < 32768 → Stands n m render root p x (v + 1)
-        on_to l s t w = goes s t w l
+          is-r : MadeIn (child_toward p) render n m (i * node_size render) (onward_answer (file_table render) r)
+          is-r = made_toward p render n m (i * node_size render) f is-f y b is_y x is_x
 
-        by_word : v + 1 < 4294967296 → count ≤ x → (b : Bool) → ltb x 32768 ≡ b → QuickIn n m render root p (cond b 0 (x * 4294967296 + (v + 1)))
-        by_word f l true e s t w =
-            sym (goes s t w (ltb-true x 32768 e) ∙ ap (λ o. or_nothing (after (v + 1) o)) (walk_outside (ends (table s t)) p (t.nodes.count - (v + 1)) x (omega (arith, l, counted s t w))))
-        by_word f l false e s t w =
-            told t.table x (v + 1) (ltb-false x 32768 e) f
-            ∙ sym (st s t w ∙ ap or_nothing (step_end s t p v (t.nodes.count - v) (t.nodes.count - (v + 1)) i (omega (arith, g, counted s t w)) (omega (arith, h, counted s t w)) r (made s t w i h r is-r) x q (v + 1) (ltb-false x 32768 e) (omega arith) (omega (arith, f))))
+          goes : (s : List ℕ) (t : Tables) → Whole s t n m render → x < 32768 → asked s t ≡ rest_in s t x (v + 1) p
+          goes s t w l =
+              st s t w ∙ ap or_nothing (step_node s t p v (t.nodes.count - v) (t.nodes.count - (v + 1)) i (omega (arith, g, counted s t w)) (omega (arith, h, counted s t w)) r (made s t w i h r is-r) x q l)
 
-        pub stops : v + 1 < 4294967296 → count ≤ x → (k : ℕ) → k ≡ cond (ltb x 32768) 0 (x * 4294967296 + (v + 1)) → QuickIn n m render root p k
-        stops f l k e = rw e (by_word f l (ltb x 32768) refl)
+          pub on_to : x < 32768 → Stands n m render asked p x (v + 1)
+          on_to l s t w = goes s t w l
+
+          by_word : v + 1 < 4294967296 → count ≤ x → (b : Bool) → ltb x 32768 ≡ b → Says n m render asked (cond b 0 (x * 4294967296 + (v + 1)))
+          by_word f l true e s t w =
+              sym (goes s t w (ltb-true x 32768 e) ∙ ap (λ o. or_nothing (after (v + 1) o)) (walk_outside (ends (table s t)) p (t.nodes.count - (v + 1)) x (omega (arith, l, counted s t w))))
+          by_word f l false e s t w =
+              told t.table x (v + 1) (ltb-false x 32768 e) f
+              ∙ sym (st s t w ∙ ap or_nothing (step_end s t p v (t.nodes.count - v) (t.nodes.count - (v + 1)) i (omega (arith, g, counted s t w)) (omega (arith, h, counted s t w)) r (made s t w i h r is-r) x q (v + 1) (ltb-false x 32768 e) (omega arith) (omega (arith, f))))
+
+          pub stops : v + 1 < 4294967296 → count ≤ x → (k : ℕ) → k ≡ cond (ltb x 32768) 0 (x * 4294967296 + (v + 1)) → Says n m render asked k
+          stops f l k e = rw e (by_word f l (ltb x 32768) refl)
 
 -- ---- the tables of some numbers
 
@@ -177,8 +197,8 @@ code_is (suc (suc (suc (suc (suc (suc (suc (suc (suc (suc (suc (suc (suc (suc (s
 abbrev is_coded : ℕ → Bool
 is_coded n = not (is_invalid (contents_of n))
 
--- the codes below 15 are those that are not 0 or 7 past a multiple of 8
-pub coded_low : (n : ℕ) → n < 15 → cond (eqb (n % 8) 0) false (ltb (n % 8) 7) ≡ is_coded n
+-- the codes below 15 are the bits of 32382
+pub coded_low : (n : ℕ) → n < 15 → eqb (32382 / 2 ^ n % 2) 1 ≡ is_coded n
 unfolding contents_of
 coded_low zero h = refl
 coded_low (suc zero) h = refl

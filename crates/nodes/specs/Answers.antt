@@ -10,3 +10,7 @@ use Rattle.nodes.specs.declared.lanes.Lane.{Lane}
 abbrev pub two_answer : HullTable → Option (Lane × Lane) → Answer ((End × ℕ) × (End × ℕ))
 two_answer t (Some (a, b)) = answer (lane_end t a, lane_end t b)
 two_answer t None = refused 0
+
+abbrev pub one_answer : HullTable → Option Lane → Answer (End × ℕ)
+one_answer t (Some l) = answer (lane_end t l)
+one_answer t None = refused 0

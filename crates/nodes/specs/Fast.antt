@@ -145,6 +145,10 @@ is_invalid None = true
 unfoldable pub invalid : ℕ → Bool
 invalid w = cond (nat_lt w 32768) false (is_invalid (contents_of (65536 - w)))
 
+-- one of two words, of which the second counts 65536 times
+abbrev pub either_invalid : ℕ → Bool
+either_invalid n = cond (invalid (n % 65536)) true (invalid (n / 65536))
+
 abbrev pub words_answer : HullTable → Result Words Refusal → Answer (Node End)
 words_answer t (Ok w) = answer (node_of t w)
 words_answer t (Err e) = refused (number_of e)

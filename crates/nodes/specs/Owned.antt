@@ -1,10 +1,9 @@
 -- For the contracts of functions below the calls; a reader of the calls may leave this file out.
 -- What a trace reads from the bytes of planes and leaves (`sides_in`, `end_in`), and the bytes of a table that is whole, leaves too.
-use Rattle.std.specs.Prelude.{Result, Ok, Err, Option, Some, None, ◌≡◌, ℕ, ◌-◌, ◌*◌, ◌/◌, Bool, true, false, cond, List, length, nat_lt}
+use Rattle.std.specs.Prelude.{Result, Ok, Err, ◌≡◌, ℕ, ◌-◌, ◌*◌, ◌/◌, Bool, true, false, cond, List, length, nat_lt}
 use Rattle.format.specs.Answer.{Answer, answer, refused}
 use Rattle.format.specs.Refusal.{number_of}
 use Rattle.format.specs.declared.refusal.Refusal.{Refusal}
-use Rattle.format.specs.Code.{contents_of}
 use Rattle.format.specs.declared.contents.BspLeafContents.{BspLeafContents}
 use Rattle.math.specs.Plane as Pl
 use Rattle.math.specs.declared.vector.Vector3.{Vector3}
@@ -12,6 +11,7 @@ use Rattle.math.specs.declared.plane.Hyperplane.{Hyperplane}
 use Rattle.math.specs.declared.plane.HyperplaneSide.{HyperplaneSide}
 use Rattle.nodes.specs.Fast.{is_render, leaf_contents_here}
 use Rattle.nodes.specs.Numbered.{plane_numbered}
+use Rattle.nodes.specs.Quick.{word_contents}
 use Rattle.nodes.specs.Walks.{is_whole, are_whole, bytes_of, Read}
 use Rattle.nodes.specs.declared.table.Tables.{Tables}
 
@@ -32,14 +32,10 @@ abbrev pub plane_of : List ℕ → ℕ → Answer Hyperplane
 plane_of m i = plane_numbered m (length m / 20) i
 
 -- the contents of the end that a word stands for, by the bytes of the leaves
-abbrev pub coded_answer : Option BspLeafContents → Answer BspLeafContents
-coded_answer (Some c) = answer c
-coded_answer None = refused 23
-
 unfoldable pub end_among : Bool → List ℕ → ℕ → Answer BspLeafContents
 end_among render l w =
     cond render (cond (nat_lt (65535 - w) (length l / 28)) (leaf_contents_here l ((65535 - w) * 28)) (refused 30))
-    (coded_answer (contents_of (65536 - w)))
+    (word_contents w)
 
 -- all nodes, planes and leaves lie in n bytes
 abbrev pub all_whole : Tables → ℕ → Bool

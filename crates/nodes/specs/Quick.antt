@@ -8,7 +8,8 @@ use Rattle.format.specs.Contents.{code_of}
 use Rattle.format.specs.declared.contents.BspLeafContents.{BspLeafContents}
 use Rattle.math.specs.Vector as Vec
 use Rattle.math.specs.declared.vector.Vector3.{Vector3}
-use Rattle.walk.specs.Walk.{with_visits, point_walk}
+use Rattle.walk.specs.Walk.{with_visits, point_walk, walk}
+use Rattle.walk.specs.Private.{after}
 use Rattle.nodes.specs.Tables.{End, file_table}
 use Rattle.nodes.specs.Fast.{is_render, end_of, table, contents_met}
 use Rattle.nodes.specs.Walks.{ends, are_whole, Read}
@@ -76,6 +77,13 @@ QuickIn n m render root p r = (s : List ℕ) (t : Tables) → Whole s t n m rend
 -- the same, which says nothing of tables with more nodes than there are words
 abbrev pub WalkedIn : List ℕ → List ℕ → Bool → ℕ → Vector3 → ℕ → Type 0
 WalkedIn n m render root p r = (s : List ℕ) (t : Tables) → Whole s t n m render → quick_answer t.table r ≡ cond (nat_lt t.nodes.count 32768) (quick_in s t root p) (refused 0)
+
+-- what is left of a walk that stands at the node i, where v nodes were entered before
+abbrev pub rest_in : List ℕ → Tables → ℕ → ℕ → Vector3 → Answer (End × ℕ)
+rest_in s t i v p = or_nothing (after v (walk (ends (table s t)) (t.nodes.count - v) i p))
+
+abbrev pub RestIn : List ℕ → List ℕ → Bool → ℕ → ℕ → Vector3 → ℕ → Type 0
+RestIn n m render i v p r = (s : List ℕ) (t : Tables) → Whole s t n m render → quick_answer t.table r ≡ rest_in s t i v p
 
 -- the code of contents, and 0 where there are none
 abbrev pub code_or : Answer BspLeafContents → ℕ

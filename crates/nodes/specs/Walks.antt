@@ -8,7 +8,6 @@ use Rattle.format.specs.Refusal.{number_of}
 use Rattle.format.specs.declared.refusal.Refusal.{Refusal}
 use Rattle.math.specs.Plane as Pl
 use Rattle.math.specs.declared.vector.Vector3.{Vector3}
-use Rattle.math.specs.declared.plane.Hyperplane.{Hyperplane}
 use Rattle.math.specs.declared.plane.HyperplaneSide.{HyperplaneSide}
 use Rattle.math.specs.declared.plane.HyperplaneSide.TheVariants.{Positive, Negative}
 use Rattle.walk.specs.Table.{Child, Node, Table, child_on}
@@ -58,11 +57,6 @@ MadeIn make render n m at x =
 abbrev pub found_answer : HullTable → Result (Words × Bor (List ℕ)) Refusal → Answer (Entered End)
 found_answer t (Ok (w, b)) = answer (record { nd = node_of t w; plane = plane_here b.now 0 })
 found_answer t (Err e) = refused (number_of e)
-
--- a group of points takes the node and its plane as they are
-abbrev pub entered_answer : HullTable → Result (Words × Hyperplane) Refusal → Answer (Entered End)
-entered_answer t (Ok (w, h)) = answer (record { nd = node_of t w; plane = h })
-entered_answer t (Err e) = refused (number_of e)
 
 -- a walk makes the child on the point's side
 abbrev pub child_toward : Vector3 → Entered End → Child End

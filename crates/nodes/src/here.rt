@@ -10,13 +10,16 @@ use format::contents::BspLeafContents;
 use format::refusal::{Answer, Refusal};
 use math::{Hyperplane, Vector3};
 
-// Whether the word of a clip node's child is neither a node nor contents: the codes are 65536 less it, 1 to 6 and 9 to 14. With the bit of 8
-// taken away both runs of codes are the words 65522 to 65527, and the words 32768 to 65521 are neither: one test, and so one branch.
-pub fn is_invalid(word: u16) -> bool
-    ensures { result ≡ Fast.invalid word }
+// Whether the word of one of a clip node's two children is neither a node nor contents, by the two words as one number: the codes are 65536 less a
+// word, 1 to 6 and 9 to 14. With the bit of 8 taken away both runs of codes are the words 65522 to 65527, and the words 32768 to 65521 are neither.
+// So a word is neither where its highest bit is set and, that taken away too, 65521 less it still has that bit. (Both words at once: one branch.)
+#[tactic(auto, using(crate::proofs::Clips::low_parts))]
+#[inline(always)]
+pub fn is_either_invalid(both: u32) -> bool
+    ensures { result ≡ Fast.either_invalid both }
 {
-    let lowered = word - word % 16 / 8 * 8;
-    lowered.wrapping_sub(32768) < 32754
+    let low = both & 0x7ff7_7ff7;
+    both & (0xfff1_fff1 - low) & 0x8000_8000 != 0
 }
 
 // The words of a clip node, of a file that has the bytes at some place. (Here and below both numbers are read before any test, and the plane's
@@ -27,10 +30,7 @@ pub fn clip_words(s: &[u8], at: usize) -> Answer<Words>
 {
     let plane = u32_at(s, at);
     let both = u32_at(s, at + 4);
-    if is_invalid((both % 65536) as u16) {
-        return Err(Refusal::Unreadable);
-    }
-    if is_invalid((both / 65536) as u16) {
+    if is_either_invalid(both) {
         return Err(Refusal::Unreadable);
     }
     if 2147483648 <= plane {

@@ -26,16 +26,25 @@ pub fn point_of(p: &[f32; 3]) -> Vector3
     }
 }
 
+// How far a point is from a slanted plane, or from one whose type is none: a call, as `ends_slanted`.
+#[inline(never)]
+fn dist_slanted(bytes: &[u8; 20], point: &[f32; 3]) -> f32
+    ensures { result ≡ Pl.point_dist (Pl.new_plane (Fast.normal bytes.now 0) (Fast.f32 bytes.now 12)) (Fast.point_of point.now) }
+{
+    Hyperplane::new(normal_of(bytes), f32_at(bytes, 12)).point_dist(point_of(point))
+}
+
 // The child's word on the side of the point's distance from a plane: 0 is the front, a NaN the back.
+#[inline(always)]
 fn word_by_distance(bytes: &[u8; 20], words: Words, point: &[f32; 3]) -> u16
     ensures { result ≡ Walks.word_at words (Pl.from_dist (Pl.point_dist (Fast.plane_here bytes.now 0) (Fast.point_of point.now))) }
 {
-    let dist = f32_at(bytes, 12);
     let kind = u32_at(bytes, 16);
     if kind < 3 {
+        let dist = f32_at(bytes, 12);
         return words.on(point[kind as usize] - dist >= 0.0);
     }
-    words.on(Hyperplane::new(normal_of(bytes), dist).point_dist(point_of(point)) >= 0.0)
+    words.on(dist_slanted(bytes, point) >= 0.0)
 }
 
 // How far two points are from a slanted plane, or from one whose type is none: a call, so that what a way down goes by stays in registers.
@@ -97,6 +106,7 @@ impl<'a> Sections<'a> {
 
     // The child's word on the side of the point's distance from a node's plane. 20: there is no such node.
     #[tactic(auto, using(crate::proofs::Handed::none_found))]
+    #[inline(always)]
     pub fn look_in(&self, index: usize, point: &[f32; 3]) -> Answer<u16>
         ensures { Walks.MadeOf (Walks.child_by_distance (Fast.point_of point.now)) self.now.render self.now.nodes.now self.now.planes.now index (λ t. Walks.onward_answer t result) }
     {

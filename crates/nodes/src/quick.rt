@@ -1,6 +1,7 @@
 // The walk of a point where the file has all nodes and planes, for the calls whose time counts: numbers alone go in and out, so that they
 // stay in registers. Where it says nothing the walk goes record by record (`walking`).
-ghost use Rattle.std.specs.Prelude.{◌≡◌, ◌+◌, ◌*◌, ◌/◌, ◌<◌, ◌≤◌, length, if◌then◌else◌, nat_lt, not};
+ghost use Rattle.std.specs.Prelude.{◌≡◌, ◌+◌, ◌*◌, ◌/◌, ◌%◌, ◌<◌, ◌≤◌, length, from_bits, if◌then◌else◌, nat_lt, not, true, false, IfSome, Ok};
+ghost use Rattle.std.specs.Float.{binary32};
 ghost use Rattle.format.specs.Code.{contents_of};
 ghost use Rattle.math.specs.Vector as Vec;
 ghost use Rattle.math.specs.Plane as Pl;
@@ -9,8 +10,8 @@ ghost use Rattle.nodes.specs.Tables as Spec;
 ghost use Rattle.nodes.specs.Walks as Walks;
 ghost use Rattle.nodes.specs.Quick as Quick;
 
-use crate::bytes::{f32_at, u32_at};
-use crate::here::normal_of;
+use crate::bytes::{f32_at, plane_bytes_at, u32_at};
+use crate::here::{is_either_invalid, normal_of};
 use crate::read::{Words, is_front};
 use crate::table::{HullTable, Tables, part_with};
 use crate::whole::{Sections, are_whole, node_bytes, plane_bytes};
@@ -26,10 +27,29 @@ pub(crate) fn is_ahead(bytes: &[u8; 20], x: f32, y: f32, z: f32) -> bool
     is_front(plane.point_side(Vector3 { x, y, z }))
 }
 
-// The child's word on the point's side of a plane. The side is a branch: where the points move little from call to call, as a game's do, a
-// processor predicts it. The coordinate comes from a list and not by a branch for each axis: fewer branches a node, of which fewer are foreseen
-// wrongly. (The readers of a plane here, in `here`, `lanes`, `lines`, `crossing` and `numbered` differ in how they come by a coordinate, which is
-// where their time goes: one reader for all would take that as a parameter, and be no plainer.)
+// The float of four bytes that are no NaN's pattern: nothing is tested.
+fn number_of(bits: u32) -> f32
+    requires { bits % 2147483648 ≤ 2139095040 }
+    ensures { result ≡ from_bits binary32 bits }
+{
+    f32::from_bits(bits)
+}
+
+// The child's word on the point's side of a plane along an axis, at a distance that is a number. The side is a branch: where the points move little
+// from call to call, as a game's do, a processor predicts it. The coordinate comes from a list and not by a branch for each axis: fewer branches a
+// node, of which fewer are foreseen wrongly.
+#[inline(always)]
+fn word_along(bytes: &[u8; 20], words: Words, point: &[f32; 3]) -> u16
+    requires { Fast.u32 bytes.now 16 < 3 × Fast.u32 bytes.now 12 % 2147483648 ≤ 2139095040 }
+    ensures { result ≡ Walks.word_at words (Pl.point_side (Fast.plane_here bytes.now 0) (Fast.point_of point.now)) }
+{
+    let kind = u32_at(bytes, 16);
+    let dist = number_of(u32_at(bytes, 12));
+    words.on(point[kind as usize] >= dist)
+}
+
+// The child's word on the point's side of any plane. (The readers of a plane here, in `here`, `lanes`, `lines`, `crossing` and `numbered` differ in
+// how they come by a coordinate, which is where their time goes: one reader for all would take that as a parameter, and be no plainer.)
 #[inline(always)]
 pub(crate) fn word_ahead(bytes: &[u8; 20], words: Words, point: &[f32; 3]) -> u16
     ensures { result ≡ Walks.word_at words (Pl.point_side (Fast.plane_here bytes.now 0) (Fast.point_of point.now)) }
@@ -42,35 +62,64 @@ pub(crate) fn word_ahead(bytes: &[u8; 20], words: Words, point: &[f32; 3]) -> u1
     words.on(is_ahead(bytes, point[0], point[1], point[2]))
 }
 
+// The words of a clip node whose plane is one of so many, as `clip_words` reads them; nothing where it has no such words. (Answered so, that the
+// plane's number has no sign and that it is a plane's are one test.)
+#[inline(always)]
+fn clip_at_once(s: &[u8], at: usize, planes: usize) -> Option<Words>
+    requires { at + 8 ≤ length s.now }
+    ensures { IfSome result (λ w. Fast.ReadsNode false s.now at (Ok w) × w.plane < planes) }
+{
+    let plane = u32_at(s, at);
+    let both = u32_at(s, at + 4);
+    if is_either_invalid(both) {
+        return None;
+    }
+    if planes <= (plane as usize) {
+        return None;
+    }
+    if 2147483648 <= plane {
+        return None;
+    }
+    Some(Words { plane, both })
+}
+
+// Whether a plane lies along an axis, at a distance that is no NaN's pattern.
+#[inline(always)]
+fn is_plain(bytes: &[u8; 20]) -> bool
+    ensures { result ≡ true → Fast.u32 bytes.now 16 < 3 × Fast.u32 bytes.now 12 % 2147483648 ≤ 2139095040 }
+{
+    if 2 < u32_at(bytes, 16) {
+        return false;
+    }
+    let bits = u32_at(bytes, 12);
+    bits.wrapping_add(bits) <= 4278190080
+}
+
 // Where a walk of so many visits stops that does not go on to a node: at the end of a word, or 0 where it is refused. (One number, as of
 // `walk_quick`.)
-fn stopped(word: u16, visits: u64) -> u64
-    requires { visits < 4294967296 }
+fn stopped(word: u16, visits: u32) -> u64
     ensures said { result ≡ (if nat_lt word 32768 then 0 else word * 4294967296 + visits) }
     ensures bounded { result < 281474976710656 }
 {
     if word < 32768 {
         return 0;
     }
-    (word as u64) * 4294967296 + visits
+    (word as u64) * 4294967296 + (visits as u64)
 }
 
 impl<'a> Sections<'a> {
-    // The walk by the bytes of the two sections, one number as of `walk_quick`. As a `for` over the visits it takes three instructions more a node,
-    // and some 4% more time.
+    // The walk on from a node, where so many were entered before, by whatever planes there are; one number as of `walk_quick`. As a `for` over the
+    // visits it takes three instructions more a node, and some 4% more time.
     #[inline(always)]
-    fn walk_whole(&self, root: usize, point: &[f32; 3]) -> u64
-        requires { length self.now.nodes.now / Fast.node_size self.now.render < 32768 }
-        ensures said { Quick.QuickIn self.now.nodes.now self.now.planes.now self.now.render root (Fast.point_of point.now) result }
+    fn go_on(&self, from: usize, before: u32, point: &[f32; 3]) -> u64
+        requires { (from < length self.now.nodes.now / Fast.node_size self.now.render) × (before ≤ length self.now.nodes.now / Fast.node_size self.now.render) × (length self.now.nodes.now / Fast.node_size self.now.render < 32768) }
+        ensures said { Quick.RestIn self.now.nodes.now self.now.planes.now self.now.render from before (Fast.point_of point.now) result }
         ensures bounded { result < 281474976710656 }
     {
         let count = self.node_count();
-        if count <= root {
-            return 0;
-        }
-        let mut node = root;
-        let mut visits: u64 = 0;
-        while visits < (count as u64) {
+        let mut node = from;
+        let mut visits = before;
+        while (visits as usize) < count {
             let Ok((words, plane)) = self.found_at(node) else {
                 return 0;
             };
@@ -84,6 +133,63 @@ impl<'a> Sections<'a> {
         0
     }
 
+    // The words of a clip node and the bytes of its plane, which lies along an axis at a number; nothing where the tests made here do not tell.
+    #[inline(always)]
+    fn clip_found(&self, index: usize) -> Option<(Words, &'a [u8; 20])>
+        requires { index * 8 + 8 ≤ length self.now.nodes.now }
+        ensures found { IfSome result (λ x. Walks.MadeIn (λ y. y) false self.now.nodes.now self.now.planes.now (index * 8) (Walks.found_answer (Spec.file_table false) (Ok x))) }
+        ensures plain { IfSome result (λ x. Fast.u32 x.1.now 16 < 3 × Fast.u32 x.1.now 12 % 2147483648 ≤ 2139095040) }
+    {
+        let words = clip_at_once(self.nodes, index * 8, self.planes.len() / 20)?;
+        let bytes = plane_bytes_at(self.planes, (words.plane as usize) * 20);
+        if !is_plain(bytes) {
+            return None;
+        }
+        Some((words, bytes))
+    }
+
+    // The walk down clip nodes. From the first node on that few tests do not tell, or whose plane is slanted or lies at a NaN, `walk_rest` goes on:
+    // nothing is put aside for a call in this loop, and nothing is refused in it.
+    #[inline(always)]
+    fn walk_clips(&self, root: usize, point: &[f32; 3]) -> u64
+        requires { length self.now.nodes.now / 8 < 32768 }
+        ensures said { Quick.QuickIn self.now.nodes.now self.now.planes.now false root (Fast.point_of point.now) result }
+        ensures bounded { result < 281474976710656 }
+    {
+        let count = self.nodes.len() / 8;
+        if count <= root {
+            return 0;
+        }
+        let mut node = root;
+        let mut visits: u32 = 0;
+        while (visits as usize) < count {
+            let Some((words, plane)) = self.clip_found(node) else {
+                let [x, y, z] = *point;
+                return walk_rest(self.nodes, self.planes, false, node, visits, x, y, z);
+            };
+            let word = word_along(plane, words, point);
+            visits += 1;
+            if count <= (word as usize) {
+                return stopped(word, visits);
+            }
+            node = word as usize;
+        }
+        0
+    }
+
+    // The walk by the bytes of the two sections, one number as of `walk_quick`.
+    #[inline(always)]
+    fn walk_whole(&self, root: usize, point: &[f32; 3]) -> u64
+        requires { length self.now.nodes.now / Fast.node_size self.now.render < 32768 }
+        ensures said { Quick.QuickIn self.now.nodes.now self.now.planes.now self.now.render root (Fast.point_of point.now) result }
+        ensures bounded { result < 281474976710656 }
+    {
+        if self.node_count() <= root {
+            return 0;
+        }
+        self.go_on(root, 0, point)
+    }
+
     // The same, for one who has the bytes already; nothing where there are more nodes than words for them. (A call.)
     #[inline(never)]
     pub fn walk_on(&self, root: usize, x: f32, y: f32, z: f32) -> u64
@@ -95,6 +201,40 @@ impl<'a> Sections<'a> {
         }
         self.walk_whole(root, &[x, y, z])
     }
+}
+
+// What is left of a walk that stands at a node, where so many were entered before. (A call, by numbers; and a loop for each kind of nodes: in one for
+// both the kind is a branch more at each node.)
+#[inline(never)]
+fn walk_rest(
+    nodes: &[u8],
+    planes: &[u8],
+    render: bool,
+    node: usize,
+    visits: u32,
+    x: f32,
+    y: f32,
+    z: f32,
+) -> u64
+    requires { (node < length nodes.now / Fast.node_size render) × (visits ≤ length nodes.now / Fast.node_size render) × (length nodes.now / Fast.node_size render < 32768) }
+    ensures said { Quick.RestIn nodes.now planes.now render node visits (Vec.vector x y z) result }
+    ensures bounded { result < 281474976710656 }
+{
+    let point = [x, y, z];
+    if render {
+        let sections = Sections {
+            nodes,
+            planes,
+            render: true,
+        };
+        return sections.go_on(node, visits, &point);
+    }
+    let sections = Sections {
+        nodes,
+        planes,
+        render: false,
+    };
+    sections.go_on(node, visits, &point)
 }
 
 fn tables_by(render: bool, at: u32, count: u32, planes_at: u32, planes_count: u32) -> Tables
@@ -136,7 +276,7 @@ fn walk_here(
     let nodes = node_bytes(s, t, whole);
     let planes = plane_bytes(s, t, whole);
     let point = [x, y, z];
-    // a loop for each kind of nodes: in one for both the kind is a branch more at each node
+    // a loop for each kind of nodes, as in `walk_rest`; clip nodes have tests of their own
     if render {
         let sections = Sections {
             nodes,
@@ -150,7 +290,7 @@ fn walk_here(
         planes,
         render: false,
     };
-    sections.walk_whole(root, &point)
+    sections.walk_clips(root, &point)
 }
 
 // The same, as a call.
@@ -177,8 +317,7 @@ fn walk_called(
 // planes: the end's word times 2^32 and the visits, or 0 where the file does not have all of them or the walk is refused. (The places, the counts
 // and the coordinates travel as numbers: lent as structs they are written to memory and read again before the walk begins. And one number is
 // answered, not an Option of two: an end's word is 32768 or more, so 0 is no answer. Down the render
-// nodes in line: its callers are calls of their own that take little and know the kind. Down the clip nodes a call: in line a node's longer tests
-// leave too few registers, and a slanted plane puts more of them aside.)
+// nodes in line: its callers are calls of their own that take little and know the kind. Down the clip nodes a call: its loop then has all registers.)
 #[inline(always)]
 pub fn walk_quick(
     s: &[u8],
@@ -201,7 +340,10 @@ pub fn walk_quick(
     walk_called(s, at, count, planes_at, planes_count, false, root, x, y, z)
 }
 
-// Whether a number is a contents code: 1 to 6 and 9 to 14.
+// The contents codes, as bits: 1 to 6 and 9 to 14.
+const CODES: u32 = 32382;
+
+// Whether a number is a contents code.
 #[inline(always)]
 fn is_code(code: u32) -> bool
     ensures { result ≡ not (Fast.is_invalid (contents_of code)) }
@@ -209,11 +351,7 @@ fn is_code(code: u32) -> bool
     if 15 <= code {
         return false;
     }
-    let low = code % 8;
-    if low == 0 {
-        return false;
-    }
-    low < 7
+    (CODES >> code) % 2 == 1
 }
 
 // The code of the leaf at a place, 0 where it is refused: no code is 0. (One number, as of the walk; that of the file, negated: nothing is looked

@@ -5,11 +5,10 @@ ghost use Rattle.nodes.specs.Tables as Spec;
 ghost use Rattle.nodes.specs.Walks as Walks;
 
 use crate::bytes::plane_bytes_at;
-use crate::here::{clip_words, plane_here, render_words};
+use crate::here::{clip_words, render_words};
 use crate::read::Words;
 use crate::table::{Part, Tables};
 use format::refusal::{Answer, Refusal};
-use math::Hyperplane;
 
 pub(crate) fn node_size(render: bool) -> u8
     ensures { result ≡ Fast.node_size render }
@@ -143,25 +142,16 @@ impl<'a> Sections<'a> {
         Ok((words, plane_bytes_at(self.planes, plane * 20)))
     }
 
-    // The same of the node of an index, whatever the bytes are. 20: there is no such node. Every other reader is made of this one.
+    // The same of the node of an index, whatever the bytes are. 20: there is no such node. Every other reader is made of this one. (A group of points
+    // asks it: one reading for all of them.)
     #[tactic(auto, using(crate::proofs::Making::room))]
     #[inline(always)]
-    pub(crate) fn found_in(&self, index: usize) -> Answer<(Words, &'a [u8; 20])>
+    pub fn found_in(&self, index: usize) -> Answer<(Words, &'a [u8; 20])>
         ensures { Walks.MadeOf (λ x. x) self.now.render self.now.nodes.now self.now.planes.now index (λ t. Walks.found_answer t result) }
     {
         if self.has_node(index) {
             return self.found_at(index);
         }
         Err(Refusal::NoSuchRecord)
-    }
-
-    // The words of a node and its plane, for a group of points: one reading for all of them.
-    #[tactic(auto, using(crate::proofs::Handed::none_found))]
-    #[inline(always)]
-    pub fn entered_in(&self, index: usize) -> Answer<(Words, Hyperplane)>
-        ensures { Walks.MadeOf (λ x. x) self.now.render self.now.nodes.now self.now.planes.now index (λ t. Walks.entered_answer t result) }
-    {
-        let (words, plane) = self.found_in(index)?;
-        Ok((words, plane_here(plane)))
     }
 }

@@ -1,7 +1,7 @@
 -- The place that is said of a file has loading's own number: each step of loading is a step here, with the same answer.
 -- Assumes nothing.
 use mathlib.Core.Path.{◌≡◌, refl}
-use Rattle.std.specs.Prelude.{ℕ, List}
+use Rattle.std.specs.Prelude.{ℕ}
 use Rattle.format.specs.Answer.{Answer, mapped}
 use Rattle.format.specs.Field.{u16_at}
 use Rattle.format.specs.Step.{Step, ok, refused, and_then}

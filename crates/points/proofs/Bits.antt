@@ -17,7 +17,7 @@ use Rattle.math.specs.declared.vector.Axis.{Axis}
 use Rattle.math.specs.declared.plane.Alignment.TheVariants.{Axis as Aligned}
 use Rattle.math.specs.declared.plane.Hyperplane.{Hyperplane}
 use Rattle.ways.specs.Groups.{kept, fill, in_front}
-use Rattle.points.specs.Going.{point_at, axis_number, reaches, members_from, members, chosen_from, chosen, first, from}
+use Rattle.points.specs.Going.{point_at, axis_number, reaches, members_from, members, chosen_from, chosen, first, second, from}
 use Rattle.points.proofs.Lists.{reaches_is}
 
 -- a number without its lowest bit
@@ -249,6 +249,14 @@ pub one_member : (x : ℕ) → 0 < x → x < 18446744073709551616 → cleared x 
 one_member x h m e =
     let place : 0 + first x ≡ first x = omega arith in
     members_next 64 0 x h m ∙ ap (λ (y : ℕ). (0 + first x) ∷ members y) e ∙ ap (λ (l : List ℕ). (0 + first x) ∷ l) (members_none 64 0) ∙ ap (λ (q : ℕ). q ∷ []) place
+
+-- ---- a group of two points
+
+pub two_members : (x : ℕ) → 0 < x → x < 18446744073709551616 → (cleared x ≡ 0 → ⊥) → cleared (cleared x) ≡ 0 → members x ≡ first x ∷ second x ∷ []
+two_members x h m n e =
+    let place : 0 + first x ≡ first x = omega arith in
+    members_next 64 0 x h m ∙ ap (λ (q : ℕ). q ∷ members (cleared x)) place
+    ∙ ap (λ (l : List ℕ). first x ∷ l) (one_member (cleared x) (omega (arith, n)) (omega (arith, cleared_less x h, m)) e)
 
 -- ---- all points of a call
 

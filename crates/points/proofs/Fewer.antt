@@ -2,7 +2,7 @@
 use Prim.Native.Nat.{ℕ, suc, ◌+◌, ◌-◌, ◌<◌, ◌≤◌}
 use native.Mathlib.Omega.{arith}
 use mathlib.Core.Bool.{Bool, true, false}
-use mathlib.Core.List.{List, [], ◌∷◌}
+use mathlib.Core.List.{List, []}
 use mathlib.Core.Path.{◌≡◌, refl, sym, ◌∙◌, ap, subst}
 use lib.Ieee.{Float}
 use Rattle.format.specs.Contents.{code_of}
@@ -11,15 +11,16 @@ use Rattle.walk.specs.Table.{Child}
 use Rattle.walk.specs.Walk.{Entered}
 use Rattle.nodes.specs.Tables.{End}
 use Rattle.nodes.proofs.Entering.{child_of_word}
-use Rattle.nodes.specs.Fast.{onto_child, onto_word, table, child_of, node_of, word_on}
+use Rattle.nodes.specs.Fast.{onto_child, onto_word, table, child_of, node_of, plane_here, word_on}
+use Rattle.std.specs.Borrow.{Bor}
 use Rattle.nodes.specs.declared.table.Tables.{Tables}
 use Rattle.nodes.specs.declared.read.Words.{Words as WordsT}
 use Rattle.nodes.specs.declared.read.Onto.{Onto}
 use Rattle.ways.specs.Groups.{settled, onward, meets, fill, in_front, fronts, backs}
 use Rattle.ways.proofs.Divided.{reads_none, settled_reads, settled_bytes, some_left, divided_reads, divided_bytes}
-use Rattle.points.specs.Going.{point_at, meeting_meets, met, reads_of, settled_by, Settles, TwoSettled, members, chosen}
-use Rattle.points.specs.declared.group.Meeting.{Meeting}
-use Rattle.points.specs.declared.group.Meeting.TheVariants as M
+use Rattle.points.specs.Going.{point_at, met_meets, met, reads_of, settled_by, Settles, members, chosen}
+use Rattle.points.specs.declared.few.Met.{Met}
+use Rattle.points.specs.declared.few.Met.TheVariants as K
 use Rattle.points.proofs.Bits.{members_some, members_few, members_none, chosen_members, others_members}
 use Rattle.points.proofs.Downward.{few_reads}
 
@@ -52,22 +53,25 @@ module _ (s : List ℕ) (t : Tables) (cs : List Float) where
         let y : Settles s t cs k (child_at c) (members x) out m out' = subst (λ (l : List ℕ). Settles s t cs k (child_at c) l out m out') (sym e) z in
         record { counted = omega (arith, g.counted, y.counted); bytes = y.bytes ∙ sym g.bytes }
 
-    module _ (r : Meeting) (is-r : meeting_meets t.table r ≡ met s t k c) where
-      pub at_rest : {b : ℕ} → r ≡ M.Settled b → {out' : List ℕ} → out' ≡ fill (λ q. b) (members x) out → Settles s t cs k₀ (child_at c₀) (members x₀) out₀ n out'
+    module _ (r : Met) (is-r : met_meets t.table r ≡ met s t k c) where
+      pub at_rest : {b : ℕ} → r ≡ K.Settled b → {out' : List ℕ} → out' ≡ fill (λ q. b) (members x) out → Settles s t cs k₀ (child_at c₀) (members x₀) out₀ n out'
       at_rest {b} q {out'} e =
-          let m : met s t k c ≡ settled b = sym is-r ∙ ap (meeting_meets t.table) q in
+          let m : met s t k c ≡ settled b = sym is-r ∙ ap (met_meets t.table) q in
           let z : reads_of s t cs k (child_at c) (members x) ≡ 0 = settled_reads (table s t) code_of (point_at cs) (child_at c) b k m (members x) in
           record {
             counted = omega (arith, g.counted, z);
             bytes = e ∙ sym (settled_bytes (table s t) code_of (point_at cs) (child_at c) b k m (members x) out) ∙ sym g.bytes;
           }
 
-      module _ {w : WordsT} {h : Hyperplane} (q : r ≡ M.Node w h) where
+      module _ {w : WordsT} {pb : Bor (List ℕ)} (q : r ≡ K.Node w pb) where
+        abbrev h : Hyperplane
+        h = plane_here pb.now 0
+
         abbrev entered : Entered End
         entered = record { nd = node_of t.table w; plane = h }
 
         is_node : met s t k c ≡ onward entered
-        is_node = sym is-r ∙ ap (meeting_meets t.table) q
+        is_node = sym is-r ∙ ap (met_meets t.table) q
 
         pub may_enter : 0 < k
         may_enter = some_left (table s t) code_of (point_at cs) (child_at c) entered k is_node
@@ -156,12 +160,4 @@ module _ (s : List ℕ) (t : Tables) (cs : List Float) where
                 fewer = omega (arith, g.fewer);
                 counted = rw v (omega (arith, reads_here, none, ap (λ (y : ℕ). reads_of s t cs j (on true) (members y)) all));
                 bytes = rw v (bytes_here ∙ ap (λ (l : List ℕ). settled_by s t cs j (on false) l (settled_by s t cs j (on true) F out)) no ∙ ap (λ (y : ℕ). settled_by s t cs j (on true) (members y) out) all);
-              }
-
-          -- two points go apart and are settled
-          pub two_settled : {p p' : ℕ} → F ≡ p ∷ [] → B ≡ p' ∷ [] → {m : ℕ} {out' : List ℕ} → TwoSettled s t cs j w (p ∷ p' ∷ []) out m out' → Settles s t cs k₀ (child_at c₀) (members x₀) out₀ (n + 1 + m) out'
-          two_settled {p} {p'} u v {m} {out'} z =
-              record {
-                counted = omega (arith, reads_here, z.counted, ap (reads_of s t cs j (on true)) u, ap (reads_of s t cs j (on false)) v);
-                bytes = z.bytes ∙ sym (bytes_here ∙ ap (λ (l : List ℕ). settled_by s t cs j (on false) B (settled_by s t cs j (on true) l out)) u ∙ ap (λ (l : List ℕ). settled_by s t cs j (on false) l (settled_by s t cs j (on true) (p ∷ []) out)) v);
               }

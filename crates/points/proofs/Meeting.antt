@@ -1,6 +1,7 @@
 -- What a group meets at a child.
 use Rattle.nodes.specs.declared.read.Words.{Words}
 use Rattle.std.specs.Prelude.{Result, Ok, Err}
+use Rattle.std.specs.Borrow.{Bor}
 use Prim.Native.Nat.{ℕ, zero, suc, ◌<◌}
 use Rattle.format.specs.Answers.{answer_of}
 use native.Mathlib.Omega.{arith}
@@ -19,10 +20,10 @@ use Rattle.math.specs.declared.plane.HyperplaneSide.{HyperplaneSide}
 use Rattle.format.specs.Answer as Ans
 use Rattle.format.specs.Answer.{Answer, answer, mapped}
 use Rattle.nodes.specs.Tables.{End}
-use Rattle.nodes.specs.Walks.{Read, MadeOf, entered_answer}
+use Rattle.nodes.specs.Walks.{Read, MadeOf, found_answer}
 use Rattle.nodes.specs.Fast.{is_render}
 use Rattle.walk.specs.Walk.{Entered, enter}
-use Rattle.nodes.specs.Fast.{contents_met, table, node_of, words_answer, plane_in}
+use Rattle.nodes.specs.Fast.{contents_met, table, node_of, words_answer, plane_here, plane_in}
 use Rattle.nodes.specs.Fast as Fast
 use Rattle.nodes.proofs.Entering.{enter_not, enter_is, enter_no_plane}
 use Rattle.nodes.specs.declared.table.Tables.{Tables}
@@ -89,25 +90,25 @@ module _ (s : List ℕ) (t : Tables) where
 -- ---- by the nodes' and the planes' own bytes
 
 module _ (s : List ℕ) (t : Tables) (k : ℕ) (c : Onto) (i : ℕ) (q : c ≡ O.Node i) (some : 0 < k) (h : i < t.nodes.count) (n m : List ℕ) (render : Bool) (read : Read s t n m true) (is-r : render ≡ is_render t.table)
-    (r : Result (Words × Hyperplane) Refusal) (g : MadeOf (λ x. x) render n m i (λ u. entered_answer u r)) where
+    (r : Result (Words × Bor (List ℕ)) Refusal) (g : MadeOf (λ x. x) render n m i (λ u. found_answer u r)) where
   met_in : met s t k c ≡ entering (table s t) code_of (enter (table s t) i)
   met_in = entered_at s t k c i q some h
 
-  entered_is : entered_answer t.table r ≡ mapped (λ x. x) (enter (table s t) i)
-  entered_is = g.1 s t true read refl is-r
+  found_is : found_answer t.table r ≡ mapped (λ x. x) (enter (table s t) i)
+  found_is = g.1 s t true read refl is-r
 
   pub unread_in : (e : Refusal) → r ≡ Err e → settled 0 ≡ met s t k c
-  unread_in e y = go (enter (table s t) i) refl (sym (ap (entered_answer t.table) y) ∙ entered_is)
+  unread_in e y = go (enter (table s t) i) refl (sym (ap (found_answer t.table) y) ∙ found_is)
     where
       go : (a : Answer (Entered End)) → enter (table s t) i ≡ a → Ans.refused (number_of e) ≡ mapped (λ x. x) a → settled 0 ≡ met s t k c
       go (answer x) u v = let z : ◌≡◌ {A = ℕ} 0 1 = cc in absurd (omega arith)
       go (Ans.refused x) u v = sym (met_in ∙ ap (entering (table s t) code_of) u)
 
-  pub node_in : (w : Words) (p : Hyperplane) → r ≡ Ok (w, p) → onward (record { nd = node_of t.table w; plane = p }) ≡ met s t k c
-  node_in w p y = go (enter (table s t) i) refl (sym (ap (entered_answer t.table) y) ∙ entered_is)
+  pub node_in : (w : Words) (p : Bor (List ℕ)) → r ≡ Ok (w, p) → onward (record { nd = node_of t.table w; plane = plane_here p.now 0 }) ≡ met s t k c
+  node_in w p y = go (enter (table s t) i) refl (sym (ap (found_answer t.table) y) ∙ found_is)
     where
-      go : (a : Answer (Entered End)) → enter (table s t) i ≡ a → answer (record { nd = node_of t.table w; plane = p }) ≡ mapped (λ x. x) a → onward (record { nd = node_of t.table w; plane = p }) ≡ met s t k c
+      go : (a : Answer (Entered End)) → enter (table s t) i ≡ a → answer (record { nd = node_of t.table w; plane = plane_here p.now 0 }) ≡ mapped (λ x. x) a → onward (record { nd = node_of t.table w; plane = plane_here p.now 0 }) ≡ met s t k c
       go (answer x) u v =
-          let z : ◌≡◌ {A = Entered End} (record { nd = node_of t.table w; plane = p }) x = cc in
+          let z : ◌≡◌ {A = Entered End} (record { nd = node_of t.table w; plane = plane_here p.now 0 }) x = cc in
           sym (met_in ∙ ap (entering (table s t) code_of) u ∙ sym (ap onward z))
       go (Ans.refused x) u v = let z : ◌≡◌ {A = ℕ} 0 1 = cc in absurd (omega arith)

@@ -3,6 +3,7 @@
 use Rattle.std.specs.Prelude.{ℕ, zero, suc, ◌+◌, ◌*◌, ◌<◌, ◌≤◌, ◌-◌, ◌/◌, ◌%◌, ◌≡◌, Bool, true, false, cond, not, List, [], ◌∷◌, leb, eqb, Float, length, get_or, take, drop}
 use Rattle.std.specs.Float.{nan}
 use Rattle.std.specs.Int.{w64, trailing_zeros}
+use Rattle.std.specs.Prelude.{bit_and}
 use Rattle.std.specs.Float.Ieee.{le}
 use Rattle.format.specs.Contents.{code_of}
 use Rattle.math.specs.Vector.{vector}
@@ -17,9 +18,12 @@ use Rattle.nodes.specs.declared.table.HullTable.{HullTable}
 use Rattle.nodes.specs.declared.table.Tables.{Tables}
 use Rattle.nodes.specs.declared.read.Onto.{Onto}
 use Rattle.nodes.specs.declared.read.Words.{Words}
-use Rattle.nodes.specs.Fast.{is_render}
+use Rattle.nodes.specs.Fast.{is_render, plane_here}
+use Rattle.nodes.specs.Lanes.{point_in}
 use Rattle.nodes.specs.Walks.{Read}
 use Rattle.points.specs.declared.few.Given.{Given}
+use Rattle.points.specs.declared.few.Met.{Met}
+use Rattle.points.specs.declared.few.Met.TheVariants as K
 use Rattle.ways.specs.Groups.{Meets, settled, onward, meets, byte_at, reads_at, fill, kept}
 use Rattle.points.specs.declared.one.Pair.{Pair}
 use Rattle.points.specs.declared.one.Passing.{Passing}
@@ -37,6 +41,10 @@ point_at cs q = vector (get_or cs (q * 3) nan) (get_or cs (q * 3 + 1) nan) (get_
 abbrev pub meeting_meets : HullTable → Meeting → Meets End
 meeting_meets t (H.Settled b) = settled b
 meeting_meets t (H.Node w h) = onward (record { nd = node_of t w; plane = h })
+
+abbrev pub met_meets : HullTable → Met → Meets End
+met_meets t (K.Settled b) = settled b
+met_meets t (K.Node w p) = onward (record { nd = node_of t w; plane = plane_here p.now 0 })
 
 -- what a group meets at a child, with k nodes more to enter
 abbrev pub met : List ℕ → Tables → ℕ → Onto → Meets End
@@ -151,6 +159,10 @@ members x = members_from 64 0 x
 abbrev pub first : ℕ → ℕ
 first x = trailing_zeros w64 x
 
+-- and the next
+abbrev pub second : ℕ → ℕ
+second x = first (bit_and x (x - 1))
+
 -- of a group those for which a test holds
 unfoldable pub chosen_from : (ℕ → Bool) → ℕ → ℕ → ℕ → ℕ
 chosen_from f zero i x = 0
@@ -159,9 +171,15 @@ chosen_from f (suc n) i x = cond (f i) (x % 2) 0 + 2 * chosen_from f n (suc i) (
 abbrev pub chosen : (ℕ → Bool) → ℕ → ℕ
 chosen f x = chosen_from f 64 0 x
 
--- the nodes' and the planes' own bytes, of a file that has all of them
+-- the first eight points, wherever they stand
+abbrev pub Eight : List Float → List Float → Type 0
+Eight cs l = (q : ℕ) → q < 8 → point_in l q ≡ point_at cs q
+
+-- the nodes' and the planes' own bytes, of a file that has all of them, and the first eight points
 abbrev pub Whole : Given → Type 0
-Whole g = Read g.s.now g.t g.sections.nodes.now g.sections.planes.now true × (g.sections.render ≡ is_render g.t.table)
+Whole g =
+    Read g.s.now g.t g.sections.nodes.now g.sections.planes.now true
+    × ((g.sections.render ≡ is_render g.t.table) × Eight g.coords.now g.eight.now)
 
 -- coordinates of some points, at most `most`, and a list with an entry for each of them
 pub record Asked (most : ℕ) (cs : List Float) (lent : ℕ) : Type 0 where

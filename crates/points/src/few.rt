@@ -1,4 +1,5 @@
-// At most 64 points: a group is a number, in which each point has the bit of its own number. Nothing is moved where the group is divided.
+// At most 64 points: a group is a number, in which each point has the bit of its own number. Nothing is moved where the group is divided, and where
+// it has none but the first eight points their sides are found without a loop over them.
 ghost use Rattle.std.specs.Prelude.{◌≡◌, ◌<◌, ◌≤◌, ℕ, Bool, true, List, [], ◌∷◌, length};
 ghost use Rattle.nodes.specs.Fast as Fast;
 ghost use Rattle.nodes.specs.Walks as Walks;
@@ -6,9 +7,10 @@ ghost use Rattle.ways.specs.Groups.{fill, in_front};
 ghost use Rattle.points.specs.Going as Going;
 
 use crate::divide::{axis_number, in_front, point_at, put, reaches};
-use crate::group::{Meeting, end_byte};
+use crate::group::end_byte;
 use crate::one::{settle_one, settle_two};
 use math::{Alignment, Hyperplane};
+use nodes::lanes::{plane_of, sides, two_sides};
 use nodes::read::{Onto, Words};
 use nodes::table::Tables;
 use nodes::whole::{Sections, node_bytes, plane_bytes};
@@ -39,8 +41,9 @@ fn chosen_by<F: Fn(u16) -> bool>(ids: u64, goes_front: F) -> u64
     front
 }
 
-// The points of a group in front of a plane.
-fn fronts(coords: &[f32], plane: Hyperplane, ids: u64) -> u64
+// The points of a group in front of a plane, one after the other. (A call: in line it takes the registers of the group.)
+#[inline(never)]
+fn fronts_of(coords: &[f32], plane: Hyperplane, ids: u64) -> u64
     ensures { result ≡ Going.chosen (in_front (Going.point_at coords.now) plane) ids }
 {
     match plane.alignment {
@@ -79,29 +82,61 @@ fn is_one(ids: u64) -> bool
     ids & (ids - 1) == 0
 }
 
-// Whether two groups have one point each.
-fn are_ones(a: u64, b: u64) -> bool
-    requires { (0 < a) × (0 < b) }
-    ensures { result ≡ true → (Going.members a ≡ Going.first a ∷ []) × (Going.members b ≡ Going.first b ∷ []) }
+// The second point of a group.
+fn second(ids: u64) -> u16
+    requires { 0 < ids }
+    ensures { result ≡ Going.second ids }
 {
-    if is_one(a) {
-        return is_one(b);
-    }
-    false
+    (ids & (ids - 1)).trailing_zeros() as u16
 }
 
-// What a group goes by: the file, its tables, the nodes' and the planes' own bytes, and the coordinates. Lent, as the file has all nodes and planes.
+// Whether a group has two points.
+fn is_two(ids: u64) -> bool
+    requires { 0 < ids }
+    ensures { result ≡ true → Going.members ids ≡ Going.first ids ∷ Going.second ids ∷ [] }
+{
+    let rest = ids & (ids - 1);
+    if rest == 0 {
+        return false;
+    }
+    rest & (rest - 1) == 0
+}
+
+// The first eight points, with NaNs in the place of those that are not there.
+#[inline(always)]
+pub fn first_eight(coords: &[f32]) -> [f32; 24]
+    ensures { Going.Eight coords.now result }
+{
+    let count = coords.len();
+    let mut all = [f32::NAN; 24];
+    if 24 <= count {
+        all[..24].copy_from_slice(&coords[..24]);
+        return all;
+    }
+    all[..count].copy_from_slice(coords);
+    all
+}
+
+// What a group goes by: the file, its tables, the nodes' and the planes' own bytes, the coordinates, and the first eight points of them. Lent, as the
+// file has all nodes and planes.
 #[derive(Clone, Copy)]
 pub struct Given<'a> {
     pub s: &'a [u8],
     pub t: Tables,
     pub sections: Sections<'a>,
     pub coords: &'a [f32],
+    pub eight: &'a [f32; 24],
 }
 
 #[inline(always)]
-pub fn lent<'a>(s: &'a [u8], t: Tables, coords: &'a [f32], whole: bool) -> Given<'a>
-    requires { (whole ≡ true) × (whole ≡ Walks.are_whole t (length s.now)) }
+pub fn lent<'a>(
+    s: &'a [u8],
+    t: Tables,
+    coords: &'a [f32],
+    eight: &'a [f32; 24],
+    whole: bool,
+) -> Given<'a>
+    requires { (whole ≡ true) × ((whole ≡ Walks.are_whole t (length s.now)) × Going.Eight coords.now eight.now) }
     ensures { Going.Whole result × ((result.s.now ≡ s.now) × ((result.t ≡ t) × (result.coords.now ≡ coords.now))) }
 {
     let table = t.table;
@@ -114,34 +149,54 @@ pub fn lent<'a>(s: &'a [u8], t: Tables, coords: &'a [f32], whole: bool) -> Given
             render: table.is_render(),
         },
         coords,
+        eight,
     }
 }
 
-// What a group meets at a child, with so many nodes left to enter. (As `meet_child`, by the sections' own bytes, and in line: the plane stays in
-// registers.)
+// What a group meets there: the byte that settles its points, or a node and the bytes of its plane. (As `Meeting` of `group`, of a plane that is not
+// made: the sides of the first eight points are found by its bytes.)
+#[derive(Clone, Copy)]
+pub enum Met<'a> {
+    Settled(u8),
+    Node(Words, &'a [u8; 20]),
+}
+
+// What a group meets at a child, with so many nodes left to enter. (As `meet_child`, by the sections' own bytes, and in line.)
 #[tactic(auto, unfolding(ways::specs::Groups::meets))]
 #[inline(always)]
-fn meet(g: &Given, child: Onto, left: u32) -> Meeting
+fn meet<'a>(g: &Given<'a>, child: Onto, left: u32) -> Met<'a>
     requires { Going.Whole g.now }
-    ensures { Going.meeting_meets g.now.t.table result ≡ Going.met g.now.s.now g.now.t left child }
+    ensures { Going.met_meets g.now.t.table result ≡ Going.met g.now.s.now g.now.t left child }
 {
     let t = g.t;
     match child {
-        Onto::End(word) => Meeting::Settled(end_byte(g.s, t, word)),
+        Onto::End(word) => Met::Settled(end_byte(g.s, t, word)),
         Onto::Node(node) => {
             if left == 0 {
-                return Meeting::Settled(0);
+                return Met::Settled(0);
             }
             let part = t.nodes;
             if (part.count as usize) <= node {
-                return Meeting::Settled(0);
+                return Met::Settled(0);
             }
-            match g.sections.entered_in(node) {
-                Err(_) => Meeting::Settled(0),
-                Ok((words, plane)) => Meeting::Node(words, plane),
+            match g.sections.found_in(node) {
+                Err(_) => Met::Settled(0),
+                Ok((words, plane)) => Met::Node(words, plane),
             }
         }
     }
+}
+
+// The points of a group in front of the plane of twenty bytes.
+#[inline(always)]
+fn fronts(g: &Given, plane: &[u8; 20], ids: u64) -> u64
+    requires { Going.Whole g.now }
+    ensures { result ≡ Going.chosen (in_front (Going.point_at g.now.coords.now) (Fast.plane_here plane.now 0)) ids }
+{
+    if ids < 256 {
+        return sides(plane, g.eight) & ids;
+    }
+    fronts_of(g.coords, plane_of(plane), ids)
 }
 
 // A group of one point, all the way down: by a walk over the sections' own bytes, where that comes to an end within what is left. How often a node
@@ -165,22 +220,68 @@ fn settle_alone(g: &Given, child: Onto, left: u32, id: u16, out: &mut [u8]) -> u
 
 // Two points that are divided at a node, each from there on, side by side: the first in front, the second behind.
 #[inline(never)]
-fn settle_both(g: &Given, words: Words, left: u32, first: u16, second: u16, out: &mut [u8]) -> u64
-    requires { Going.Whole g.now }
+fn settle_both(
+    g: &Given,
+    words: Words,
+    left: u32,
+    first: u16,
+    second: u16,
+    one: &[f32; 3],
+    other: &[f32; 3],
+    out: &mut [u8],
+) -> u64
+    requires { Going.Whole g.now × ((Fast.point_of one.now ≡ Going.point_at g.now.coords.now first) × (Fast.point_of other.now ≡ Going.point_at g.now.coords.now second)) }
     ensures { Going.TwoSettled g.now.s.now g.now.t g.now.coords.now left words (first ∷ second ∷ []) out.old result out.new }
 {
-    let t = g.t;
-    let part = t.nodes;
-    let p = point_at(g.coords, first);
-    let q = point_at(g.coords, second);
-    let sections = g.sections;
-    match sections.walk_two(part.count, words.on(true), words.on(false), p, q) {
+    let count = g.t.nodes.count;
+    match g
+        .sections
+        .walk_two(count, words.on(true), words.on(false), one, other)
+    {
         Some((a, b)) if a.visits <= left && b.visits <= left => {
-            put(out, first, end_byte(g.s, t, a.word));
-            put(out, second, end_byte(g.s, t, b.word));
+            put(out, first, end_byte(g.s, g.t, a.word));
+            put(out, second, end_byte(g.s, g.t, b.word));
             (a.visits as u64) + (b.visits as u64)
         }
-        _ => settle_two(g.s, t, g.coords, words, left, &[first, second], out),
+        _ => settle_two(g.s, g.t, g.coords, words, left, &[first, second], out),
+    }
+}
+
+// A group of two points, together until they are divided, and then side by side: the sides are those of two points, and not of eight. How often a
+// node was read.
+#[tactic(auto, using(crate::proofs::Pairs::together_none))]
+#[inline(never)]
+fn settle_pair(g: &Given, child: Onto, left: u32, first: u16, second: u16, out: &mut [u8]) -> u64
+    requires { Going.Whole g.now }
+    ensures { Going.Settles g.now.s.now g.now.t g.now.coords.now left (Fast.onto_child g.now.t.table child) (first ∷ second ∷ []) out.old result out.new }
+{
+    let p = point_at(g.coords, first);
+    let q = point_at(g.coords, second);
+    let one = [p.x, p.y, p.z];
+    let other = [q.x, q.y, q.z];
+    let mut at = child;
+    let mut more = left;
+    let mut reads: u64 = 0;
+    loop {
+        match meet(g, at, more) {
+            Met::Settled(byte) => {
+                put(out, first, byte);
+                put(out, second, byte);
+                return reads;
+            }
+            Met::Node(words, plane) => {
+                let (a, b) = two_sides(plane, &one, &other);
+                more -= 1;
+                reads += 1;
+                if a == b {
+                    at = words.onto(a);
+                } else if a {
+                    return reads + settle_both(g, words, more, first, second, &one, &other, out);
+                } else {
+                    return reads + settle_both(g, words, more, second, first, &other, &one, out);
+                }
+            }
+        }
     }
 }
 
@@ -199,13 +300,16 @@ pub fn settle(g: &Given, child: Onto, left: u32, ids: u64, out: &mut [u8]) -> u6
         if is_one(rest) {
             return reads + settle_alone(g, at, more, first(rest), out);
         }
+        if is_two(rest) {
+            return reads + settle_pair(g, at, more, first(rest), second(rest), out);
+        }
         match meet(g, at, more) {
-            Meeting::Settled(byte) => {
+            Met::Settled(byte) => {
                 settle_all(rest, byte, out);
                 return reads;
             }
-            Meeting::Node(words, plane) => {
-                let front = fronts(g.coords, plane, rest);
+            Met::Node(words, plane) => {
+                let front = fronts(g, plane, rest);
                 let back = rest - front;
                 more -= 1;
                 reads += 1;
@@ -213,8 +317,6 @@ pub fn settle(g: &Given, child: Onto, left: u32, ids: u64, out: &mut [u8]) -> u6
                     at = words.onto(false);
                 } else if back == 0 {
                     at = words.onto(true);
-                } else if are_ones(front, back) {
-                    return reads + settle_both(g, words, more, first(front), first(back), out);
                 } else {
                     reads += settle(g, words.onto(true), more, front, out);
                     at = words.onto(false);

@@ -120,7 +120,8 @@ fn answer_few(s: &[u8], t: Tables, root: usize, coords: &[f32], list: &mut [u8])
     if !whole {
         return answer_up_to::<64>(s, t, root, coords, list);
     }
-    let given = few::lent(s, t, coords, whole);
+    let eight = few::first_eight(coords);
+    let given = few::lent(s, t, coords, &eight, whole);
     let count = coords.len() / 3;
     let mut bytes = [0u8; 64];
     let ids = few::all(count);

@@ -1,2 +1,3 @@
 -- Many points from a root that passed the tree check.
 pub mod EveryPoint
+pub mod Trials

@@ -3,7 +3,7 @@ ghost use Rattle.std.specs.Prelude.{◌≡◌, ℕ, List};
 ghost use Rattle.format.specs.Step.{Step};
 ghost use Rattle.sections.specs.Answers.{position_step};
 ghost use Rattle.sections.specs.Reads.{ReadsAs};
-ghost use Rattle.sections.specs.Records as Row;
+ghost use Rattle.sections.specs.Records as Records;
 ghost use Rattle.sections.specs.Records.{plain, plain_section, blob};
 
 use crate::position::check_end_position;
@@ -32,7 +32,7 @@ pub fn read_records<T: Copy, F: Fn(&[u8], usize) -> Read<T>>(
     read: F,
 ) -> Answer<usize>
     requires { F.IsAlwaysCallable read }
-    ensures { (one : List ℕ → ℕ → Step T) → ReadsAs (F.post read) one → position_step result ≡ Row.records one s.now count at }
+    ensures { (one : List ℕ → ℕ → Step T) → ReadsAs (F.post read) one → position_step result ≡ Records.records one s.now count at }
 {
     let mut p = at;
     for _ in 0..count {
@@ -49,7 +49,7 @@ pub fn check_records<T: Copy, F: Fn(&[u8], usize) -> Read<T>>(
     read: F,
 ) -> Answer<usize>
     requires { F.IsAlwaysCallable read }
-    ensures { (one : List ℕ → ℕ → Step T) → ReadsAs (F.post read) one → position_step result ≡ Row.section one id s.now section }
+    ensures { (one : List ℕ → ℕ → Step T) → ReadsAs (F.post read) one → position_step result ≡ Records.section one id s.now section }
 {
     let end = read_records(s, section.offset as usize, section.record_count(id), read)?;
     check_end_position(section, end)

@@ -205,9 +205,6 @@ module _ (file : List ℕ) (z : BspFileSection) where
   pub data_read : (v : List ℕ) → answer v ≡ visibility_of file z → v ≡ data_of file z
   data_read v e = ap or_none e
 
-  pub never_unread : {P : Type 0} (n : ℕ) → refused n ≡ visibility_of file z → visibility_of file z ≡ answer (data_of file z) → P
-  never_unread n e f = let w : ◌≡◌ {A = ℕ} 0 1 = cc in absurd (omega arith)
-
 -- ---- cursors at the starts: all groups are 0
 
 -- sixteen zeros

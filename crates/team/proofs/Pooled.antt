@@ -13,7 +13,7 @@ use Rattle.format.specs.declared.section.BspData.{BspData}
 use Rattle.vis.specs.Pvs.{pvs_of}
 use Rattle.team.specs.Team.{holds, seen, pooled, lists_of, team_of}
 use Rattle.team.specs.Pooled.{Increasing, SeenBy, EveryTeam, OneList}
-use Rattle.team.proofs.Ranges.{no, one_of, in_range, pvs_range}
+use Rattle.team.proofs.Ranges.{no, none_held, one_of, in_range, pvs_range}
 
 -- all numbers of the list are at least k, and each is below the next
 rising : ℕ → List ℕ → Type 0
@@ -193,10 +193,6 @@ not_below j y ys x r e = go (ltb x y) refl
 later_held : (k x : ℕ) (xs : List ℕ) → (x ≡ k → ⊥) → holds k (x ∷ xs) ≡ holds k xs
 unfolding holds
 later_held k x xs n = rw (ne_eqb x k n)
-
-none_held : (k : ℕ) → holds k [] ≡ true → ⊥
-unfolding holds
-none_held k e = no e
 
 one_rising : (j : ℕ) (xs ys : List ℕ) → rising j xs → rising j ys → ((k : ℕ) → holds k xs ≡ holds k ys) → xs ≡ ys
 unfolding rising

@@ -178,9 +178,6 @@ module _ (s : List ℕ) (leaves : ℕ) (ats₀ groups₀ : List ℕ) where
     pub small : this ≤ 267386880
     pub cursors : Cursors s leaves this ats groups
 
-  pub walk_starts : Cursors s leaves 0 ats₀ groups₀ → Walking ats₀ groups₀ 0 1
-  walk_starts c = record { as_many = refl; as_many_groups = refl; first = refl; small = omega arith; cursors = c }
-
   module _ (ats groups : List ℕ) (this leaf : ℕ) (p : Walking ats groups this leaf) where
     -- the leaves that they list together from here on
     abbrev pub rest : List ℕ
@@ -188,9 +185,6 @@ module _ (s : List ℕ) (leaves : ℕ) (ats₀ groups₀ : List ℕ) where
 
     pub none_rest : leaves ≤ leaf → rest ≡ []
     none_rest h = sym (none_left_over (rests_of s leaves ats groups) leaf (leaves - leaf) (omega arith))
-
-    pub in_leaves : leaf < leaves → 1 + 8 * this < leaves
-    in_leaves h = omega (arith, p.first)
 
     module _ (h : leaf < leaves) (some : 0 < length ats₀) (limit : length s ≤ 1048576) (ats' groups' : List ℕ) (byte next : ℕ)
         (l : length ats' ≡ length ats) (g : length groups' ≡ length groups)
@@ -211,9 +205,6 @@ module _ (s : List ℕ) (leaves : ℕ) (ats₀ groups₀ : List ℕ) where
     pub walking : Walking ats groups this leaf
     pub few : count ≤ 8 * this
     pub total : count + length (pooled (rests_of s leaves ats groups) leaf (leaves - leaf)) ≡ length whole
-
-  pub count_starts : Cursors s leaves 0 ats₀ groups₀ → Counting ats₀ groups₀ 0 1 0
-  count_starts c = record { walking = walk_starts c; few = omega arith; total = omega arith }
 
   module _ (ats groups : List ℕ) (this leaf count : ℕ) (p : Counting ats groups this leaf count) where
     pub count_ends : leaves ≤ leaf → count ≡ length whole

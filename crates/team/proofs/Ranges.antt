@@ -50,7 +50,7 @@ abbrev pub in_range : ℕ → ℕ → Answer (List ℕ) → Type 0
 in_range leaf count (answer l) = (k : ℕ) → holds k l ≡ true → (leaf ≤ k) × (k < count)
 in_range leaf count (refused n) = Unit
 
-none_held : (k : ℕ) → holds k [] ≡ true → ⊥
+pub none_held : (k : ℕ) → holds k [] ≡ true → ⊥
 unfolding holds
 none_held k e = no e
 

@@ -6,7 +6,7 @@ use mathlib.Core.Bool.{Bool, true, false, ◌||◌, cond}
 use mathlib.Core.List.{List, [], ◌∷◌, ◌++◌}
 use native.Mathlib.Nat.{not-suc-le-zero}
 use native.Mathlib.Omega.{arith}
-use borrow.Author.Tests.{eqb-true, eqb-false, eq-eqb, ltb-true, ltb-false, lt-ltb}
+use borrow.Author.Tests.{eqb-true, eqb-false, eq-eqb, ltb-true, ltb-false}
 use lib.Dec.{eqb, ltb}
 use lib.ListN.{length, get_or, set, replicate, drop, get_or-replicate}
 use lib.Seq.{get_or-set_same, get_or-set_other}
@@ -281,9 +281,6 @@ module _ (p : ℕ → Bool) (ka kb : ℕ → ℕ) where
         by : (x : Bool) → ltb i from ≡ x → known_of p ka kb from i ≡ known_of p ka kb (cond (ltb i from) to from) i
         by true e = rw e (known_before from to i order (ltb-true i from e))
         by false e = rw e refl
-
-    pub known_all : (list : List ℕ) (j : ℕ) → n ≤ j → KnownTo p ka kb n from to j list → Known p ka kb n to list
-    known_all list j h known i k = known i k ∙ rw (lt-ltb i j (omega (arith, h, k))) refl
 
   pub known_none : (n : ℕ) (list : List ℕ) → list ≡ replicate n 4294967295 → Known p ka kb n 0 list
   unfolding any

@@ -1,7 +1,7 @@
 -- Document 01's trials about the definitions that the contracts cite, in one table: beside what a definition says, what the document says.
 -- The marked ones (★) come first, in the document's order and words; then others of the same kinds. proofs/Trials.antt computes them all.
 use Rattle.std.specs.Prelude.{ℕ, ◌*◌, Bool, true, false, List, [], ◌∷◌, ◌++◌, ℤ, pos, negsuc, Float, replicate}
-use Rattle.std.specs.Float.{fin, nan}
+use Rattle.std.specs.Float.{fin, nan, inf}
 use Rattle.float.specs.Whole.{of_whole}
 use Rattle.math.specs.Vector.{vector, dot, normalize}
 use Rattle.math.specs.Plane.{axis_x, axis_y, with_normal, new_plane}
@@ -139,8 +139,16 @@ cut_sounds = furnished (replicate 56 0 ++ (word 193 ++ (word 28 ++ replicate 24 
 abbrev pub leaf_holds : ℕ → List ℕ
 leaf_holds low = furnished (replicate 56 0 ++ (word 193 ++ (word 28 ++ replicate 24 0))) (low ∷ replicate 3 255 ++ replicate 24 0)
 
+-- the 193-byte map with two leaves from 193 on, of which the second, at 221, has no contents code
+abbrev pub two_leaves : List ℕ
+two_leaves = furnished (replicate 56 0 ++ (word 193 ++ (word 56 ++ replicate 24 0))) (replicate 4 255 ++ (replicate 24 0 ++ (249 ∷ replicate 3 255 ++ replicate 24 0)))
+
 abbrev pub leaf_map : BspData
 leaf_map = map_with (section_with 124 1) (section_with 0 0) (section_with 125 4) (section_with 0 0) (section_with 193 28) (section_with 129 64)
+
+-- an edge list of 512,001 entries, one more than there may be, of which the file has none
+abbrev pub long_edge_list : List ℕ
+long_edge_list = furnished (replicate 80 0 ++ (word 193 ++ (4 ∷ 64 ∷ 31 ∷ 0 ∷ []))) []
 
 -- a render node at 193 and a leaf at 217; both children of the node have the low byte given and the high byte 255
 abbrev pub one_leaf : ℕ → List ℕ
@@ -165,6 +173,12 @@ box = for_bounds (vector minus_one minus_one minus_one) (vector one one one)
 
 abbrev pub in_box : Vector3 → Said
 in_box p = contents (then_answer box (λ h. with_visits (point_walk (hull_table [] smallest_map h) h.node_id p)))
+
+-- one without an end towards positive x
+abbrev pub in_long_box : Vector3 → Said
+in_long_box p =
+    contents (then_answer (for_bounds (vector minus_one minus_one minus_one) (vector (inf false) one one)) (λ h.
+    with_visits (point_walk (hull_table [] smallest_map h) h.node_id p)))
 
 -- the nodes on the way to a point, in order
 abbrev pub nodes_to : {A : Type 0} → Outcome A → Answer (List ℕ)
@@ -222,6 +236,10 @@ clip_hull = record { table = Clip; node_id = 0; node_count = 2; mins = on_x zero
 abbrev pub size_below : List ℕ → List ℕ → Said
 size_below first second = contents (mapped (λ h. (Empty, h.tree_nodes)) (check_hull (clip_file first second) clip_map clip_hull (0 ∷ 0 ∷ [])).answer)
 
+-- whether there is a node of an index, of two
+abbrev pub node_of_two : ℕ → Said
+node_of_two i = contents (mapped (λ n. (Empty, 0)) ((nodes_of (clip_file (1 ∷ 0 ∷ 255 ∷ 255 ∷ []) (255 ∷ 255 ∷ 254 ∷ 255 ∷ [])) clip_map Clip).node_at i))
+
 -- what a word says where it is met as an end of a clip table; no node is entered
 abbrev pub met_in_clip : ℕ → Said
 met_in_clip word = contents (mapped (λ c. (c, 0)) (contents_met [] (tables_of clip_map Clip (on_x zero32) (on_x zero32)) word))
@@ -262,6 +280,9 @@ trials =
     -- a file that ends inside the visibility data, or inside the last leaf's four sound bytes: 7, not 1
     ∷ (loading (load_of cut_visibility) gives loading (refused 7))
     ∷ (loading (load_of cut_sounds) gives loading (refused 7))
+    -- of two leaves the second has no contents code: 10; an edge list above the limit: 6
+    ∷ (loading (load_of two_leaves) gives loading (refused 10))
+    ∷ (loading (load_of long_edge_list) gives loading (refused 6))
     -- a render node's child -2 is leaf 1, which one leaf does not have: 11
     ∷ (loading (load_of (one_leaf 254)) gives loading (refused 11))
     -- The 193-byte map, contents in hull 1: 30.
@@ -279,6 +300,8 @@ trials =
     ∷ (contents (mapped (λ h. (Empty, 0)) (for_bounds (vector minus_one one minus_one) (vector one one one))) gives contents (refused 21))
     -- a NaN coordinate Empty
     ∷ (in_box (vector nan zero32 zero32) gives contents (answer (Empty, 2)))
+    -- at infinity a point is in front of a plane there: the coordinate and the distance are compared, not subtracted
+    ∷ (in_long_box (on_x (inf false)) gives contents (answer (Empty, 1)))
     ∷ (in_box (vector zero32 nan zero32) gives contents (answer (Empty, 4)))
     ∷ (in_box (vector zero32 zero32 nan) gives contents (answer (Empty, 6)))
     -- Cast difference 125: extent 2,000, accepted; 126: 12
@@ -324,6 +347,9 @@ trials =
     ∷ (contents (mapped (λ h. (Empty, h.tree_nodes)) box) gives contents (answer (Empty, 0)))
     -- node 0 with node 1 in front: two nodes
     ∷ (size_below (1 ∷ 0 ∷ 255 ∷ 255 ∷ []) (255 ∷ 255 ∷ 254 ∷ 255 ∷ []) gives contents (answer (Empty, 2)))
+    -- the second of two nodes, and a third, which the file does not have: 20
+    ∷ (node_of_two 1 gives contents (answer (Empty, 0)))
+    ∷ (node_of_two 2 gives contents (refused 20))
     -- a record whose last byte is not there: 23
     ∷ (cut_plane (255 ∷ 255 ∷ 254 ∷ 255 ∷ []) (255 ∷ 255 ∷ 254 ∷ 255 ∷ []) (on_x one) gives contents (refused 23))
     ∷ []

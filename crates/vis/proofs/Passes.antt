@@ -4,7 +4,7 @@ use mathlib.Core.Path.{◌≡◌, refl, sym, ap, ◌∙◌}
 use mathlib.Core.Bool.{Bool, true, false}
 use mathlib.Core.List.{List, ◌++◌, append-nil}
 use Prim.Native.Nat.{ℕ, ◌+◌, ◌*◌, ◌^◌, ◌<◌, ◌≤◌}
-use native.Mathlib.Nat.{add-zero, zero-add, mod-le}
+use native.Mathlib.Nat.{add-zero, mod-le}
 use native.Mathlib.Omega.{arith}
 use lib.Count.{ones, ones-le}
 use lib.Dec.{leb}
@@ -19,10 +19,6 @@ use Rattle.vis.proofs.Rows.{kept_bits, before_before, done, ended, cut, skipped,
 abbrev pub plus : ℕ → Answer ℕ → Answer ℕ
 plus n (answer m) = answer (n + m)
 plus n (refused k) = refused k
-
-plus_none : (a : Answer ℕ) → plus 0 a ≡ a
-plus_none (answer n) = ap answer (zero-add n)
-plus_none (refused k) = refl
 
 plus_length : (n : ℕ) (xs : List ℕ) (a : Answer (List ℕ)) → plus (n + length xs) (mapped length a) ≡ plus n (mapped length (before xs a))
 plus_length n xs (answer ys) = ap answer (rw length-append (omega arith))
@@ -47,9 +43,6 @@ module _ (s : List ℕ) (offset leaves : ℕ) where
     pub small : leaf ≤ 1 + 1020 * at
     pub few : count ≤ 8 * at
     pub total : plus count (mapped length (row_from leaves leaf (drop at s))) ≡ mapped length row
-
-  pub count_starts : offset ≤ length s → Counting offset 1 0
-  count_starts h = record { inside = h; small = omega arith; few = omega arith; total = plus_none (mapped length row) }
 
   module _ (at leaf count : ℕ) (p : Counting at leaf count) where
     pub count_done : leaves ≤ leaf → answer count ≡ mapped length row

@@ -18,6 +18,9 @@ pub const LIST_TOO_SHORT: u32 = Refusal::ListTooShort as u32;
 
 pub const NO_SUCH_RECORD: u32 = Refusal::NoSuchRecord as u32;
 
+// How many words a map record has.
+pub const MAP_WORDS: usize = 31;
+
 // Writes the items to the front of the list, if they fit in it, and says whether they do. What lies past them is kept.
 fn put_front<T: Copy>(items: &[T], out: &mut [T]) -> bool
     ensures fits { result ≡ leb (length items.now) (length out.old) }
@@ -188,7 +191,7 @@ pub fn float_at(floats: &[f32], at: usize) -> f32
 
 // The section of two words from a place on.
 #[inline(always)]
-pub fn section_at(words: &[u32], at: u8) -> BspFileSection
+pub fn section_in(words: &[u32], at: u8) -> BspFileSection
     ensures { result ≡ Words.section_in words.now at }
 {
     let at = usize::from(at);
@@ -204,27 +207,27 @@ pub fn map_of(words: &[u32]) -> BspData
     ensures { result ≡ Words.map_of words.now }
 {
     BspData {
-        entities: section_at(words, 0),
-        planes: section_at(words, 2),
-        textures: section_at(words, 4),
-        vertices: section_at(words, 6),
-        visibility: section_at(words, 8),
-        render_nodes: section_at(words, 10),
-        texinfo: section_at(words, 12),
-        faces: section_at(words, 14),
-        lightmaps: section_at(words, 16),
-        collision_nodes: section_at(words, 18),
-        leaves: section_at(words, 20),
-        facelist: section_at(words, 22),
-        edges: section_at(words, 24),
-        edgelist: section_at(words, 26),
-        models: section_at(words, 28),
+        entities: section_in(words, 0),
+        planes: section_in(words, 2),
+        textures: section_in(words, 4),
+        vertices: section_in(words, 6),
+        visibility: section_in(words, 8),
+        render_nodes: section_in(words, 10),
+        texinfo: section_in(words, 12),
+        faces: section_in(words, 14),
+        lightmaps: section_in(words, 16),
+        collision_nodes: section_in(words, 18),
+        leaves: section_in(words, 20),
+        facelist: section_in(words, 22),
+        edges: section_in(words, 24),
+        edgelist: section_in(words, 26),
+        models: section_in(words, 28),
         texture_count: word_at(words, 30),
     }
 }
 
 // The 31 words of a map record.
-pub fn map_words(map: BspData) -> [u32; 31]
+pub fn map_words(map: BspData) -> [u32; MAP_WORDS]
     ensures { result ≡ Words.map_words map }
 {
     [

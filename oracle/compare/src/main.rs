@@ -99,7 +99,7 @@ fn run(mode: &str, given: &Arguments) -> bool {
         "sample" => sample::run(given.path(), given.number("--seed", 1), !given.has("--no-nodes")),
         "bench" => bench::run(&given.plan(30), given.text("--maps")),
         "bench-real" => bench::run_real(&given.plan(30), given.text("--maps")),
-        "bench-points" => bench::run_points(&given.plan(30)),
+        "bench-points" => bench::run_points(&given.plan(30), given.text("--maps")),
         _ => wrong("compare: a mode of oracle/run"),
     }
 }

@@ -1,29 +1,33 @@
 -- `ffi_points::contents_points` meets its contract. Assumes nothing.
-use mathlib.Core.Path.{◌∙◌}
-use Rattle.format.specs.Answers.{answer_of}
-use Rattle.words.specs.Words.{number_words, listed_in}
-use Rattle.words.proofs.Giving.{counts, told_given}
-use Rattle.hull.specs.Hull.{hull_table}
-use Rattle.points.specs.Points.{points_of, codes_and_reads, filled}
-use Rattle.points.proofs.Opening.{all_right}
-use Rattle.ffi_hull.proofs.Walked.{no_hull, the_hull, room}
-use Rattle.ffi_points.proofs.Calling.{opened_at}
+use native.Mathlib.Omega.{arith}
+use mathlib.Core.Bool.{true, false}
+use mathlib.Core.Path.{sym}
+use Rattle.std.proofs.Common.{length-take-le}
+use Rattle.ffi_hull.proofs.Walked.{room, whole_map}
+use Rattle.ffi_points.proofs.Single.{of_kind, some_first}
 use Rattle.ffi_points.proofs.contents_points.Goals as goal
 
-pub returns-in-Err : goal.returns-in-Err
-returns-in-Err c = let a = c.args in
-    no_hull (λ x. listed_in (filled x a.list.now) a.out.now) _ _ _ _ _ _ _ (λ T root. codes_and_reads T root (points_of a.points.now))
-    _ c.asked.ensures _ c.in-Err.is _ c.number.ensures
-    ∙ opened_at a.file.now a.map.now a.hull.now a.points.now a.list.now a.out.now c.if-points-gt3072.false c.if-points-ne0.false c.if-list-points.false
+pub slice_bounds-its-end : goal.slice_bounds-its-end
+slice_bounds-its-end c = sym (length-take-le 31 _ (whole_map _ _ _ _ _ _ _ c.asked.ensures _ _ c.in-Ok.is))
 
-pub returns-in-Ok : goal.returns-in-Ok
-returns-in-Ok c = let a = c.args in
-    let m = c.in-Ok.m in
-    let h = c.in-Ok.h in
-    let met = c.codes_at in
-    counts (answer_of met.result) met.new.list a.out.now
-    (c.give_number.ensures ∙ told_given number_words (answer_of met.result) a.out.now (λ n. room _ _ _ _ _ _ _ c.asked.ensures _ _ c.in-Ok.is))
-    (met.ensures ∙ all_right (hull_table a.file.now m h) h.node_id a.points.now a.list.now c.if-points-gt3072.false c.if-points-ne0.false c.if-list-points.false)
-    ∙ the_hull (λ x. listed_in (filled x a.list.now) a.out.now) _ _ _ _ _ _ _ (λ T root. codes_and_reads T root (points_of a.points.now))
-    _ c.asked.ensures _ _ c.in-Ok.is
-    ∙ opened_at a.file.now a.map.now a.hull.now a.points.now a.list.now a.out.now c.if-points-gt3072.false c.if-points-ne0.false c.if-list-points.false
+pub slice_bounds-word-end : goal.slice_bounds-word-end
+slice_bounds-word-end c = room _ _ _ _ _ _ _ c.asked.ensures _ _ c.in-Ok.is
+
+pub slice_bounds-word-end-in-Ok : goal.slice_bounds-word-end-in-Ok
+slice_bounds-word-end-in-Ok c = sym (length-take-le 1 _ (room _ _ _ _ _ _ _ c.asked.ensures _ _ c.in-Ok.is))
+
+pub one_drawn-requires : goal.one_drawn-requires
+one_drawn-requires c = (some_first _ (omega (arith, c.if-list-ge1.true)), some_first _ (omega (arith, room _ _ _ _ _ _ _ c.asked.ensures _ _ c.in-Ok.is)))
+
+pub one_clipped-requires : goal.one_clipped-requires
+one_clipped-requires c = (some_first _ (omega (arith, c.if-list-ge1.true)), some_first _ (omega (arith, room _ _ _ _ _ _ _ c.asked.ensures _ _ c.in-Ok.is)))
+
+pub returns-in-Render : goal.returns-in-Render
+returns-in-Render c = let s = c.args in
+    of_kind true s.file.now s.map.now s.hull.now (λ i. omega (arith, c.type_inv.map i)) s.points.now (omega (arith, c.if-points-eq3.true)) s.list.now s.out.now (omega (arith, c.if-list-ge1.true))
+    _ c.asked.ensures _ _ c.in-Ok.is c.in-Render.is _ c.first_point-p.ensures _ c.one_drawn.ensures
+
+pub returns-in-Clip : goal.returns-in-Clip
+returns-in-Clip c = let s = c.args in
+    of_kind false s.file.now s.map.now s.hull.now (λ i. omega (arith, c.type_inv.map i)) s.points.now (omega (arith, c.if-points-eq3.true)) s.list.now s.out.now (omega (arith, c.if-list-ge1.true))
+    _ c.asked.ensures _ _ c.in-Ok.is c.in-Clip.is _ c.first_point-p.ensures _ c.one_clipped.ensures

@@ -8,6 +8,6 @@ pub returns : goal.returns
 unfolding bsp_pvs_team
 returns c = grind (arith, counts, told_given)
 
-pub returns-then-map-lt31 : goal.returns-then-map-lt31
+pub returns-then-map-lt-MAP_WORDS : goal.returns-then-map-lt-MAP_WORDS
 unfolding bsp_pvs_team
-returns-then-map-lt31 c = grind arith
+returns-then-map-lt-MAP_WORDS c = grind arith

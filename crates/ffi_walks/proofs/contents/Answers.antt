@@ -46,3 +46,9 @@ returns-in-Render c = let s = c.args in
 pub returns-in-Clip : goal.returns-in-Clip
 returns-in-Clip c = let s = c.args in
     of_kind false s.file.now s.map.now s.hull.now s.point.now s.out.now _ c.asked.ensures _ _ c.in-Ok.is c.in-Clip.is _ c.first_point-p.ensures _ c.contents_clipped.ensures
+
+pub contents_drawn-requires : goal.contents_drawn-requires
+contents_drawn-requires c = room _ _ _ _ _ _ _ c.asked.ensures _ _ c.in-Ok.is
+
+pub contents_clipped-requires : goal.contents_clipped-requires
+contents_clipped-requires c = room _ _ _ _ _ _ _ c.asked.ensures _ _ c.in-Ok.is

@@ -15,5 +15,5 @@ pub returns-in-Some : goal.returns-in-Some
 unfolding contents_at_once
 returns-in-Some c = let s = c.args in
     let (a, e, z) = was_answered code_and_visits _ _ _ (sym c.in-Some.is ∙ c.quick_contents.ensures) in
-    c.give.ensures ∙ ap (λ x. told x s.out.now) (ap (λ (q : ℕ × ℕ). answer (q.0 ∷ q.1 ∷ [])) z ∙ ap (mapped contents_words) e)
+    c.put_two.ensures ∙ ap (λ x. told x s.out.now) (ap (λ (q : ℕ × ℕ). answer (q.0 ∷ q.1 ∷ [])) z ∙ ap (mapped contents_words) e)
     ∙ ap₂ (λ m h. contents_told s.file.now m h (vector s.x s.y s.z) s.out.now) c.walked_map-m.ensures c.node_hull-h.ensures

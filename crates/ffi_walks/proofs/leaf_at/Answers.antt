@@ -12,6 +12,6 @@ pub returns-in-Some : goal.returns-in-Some
 unfolding leaf_at_once
 returns-in-Some c = let s = c.args in
     let (a, e, z) = was_answered (λ a. a) _ _ _ (sym c.in-Some.is ∙ c.quick_leaf.ensures) in
-    c.give.ensures ∙ ap (λ l. give l s.out.now) c.leaf_words.ensures
+    c.put_two.ensures ∙ ap (λ l. give l s.out.now) c.leaf_words.ensures
     ∙ ap (λ x. told x s.out.now) (ap (λ q. answer (leaf_words q)) z ∙ ap (mapped leaf_words) e)
     ∙ ap (λ m. leaf_told s.file.now m s.root (vector s.x s.y s.z) s.out.now) c.walked_map-m.ensures

@@ -40,7 +40,7 @@ const LISTS: usize = 1_000;
 const TEAMS: usize = 100;
 
 /// Points asked at once, and the part of the map's side that a room takes.
-const AT_ONCE: [usize; 4] = [1_024, 64, 8, 1];
+const AT_ONCE: [usize; 5] = [1_024, 64, 8, 2, 1];
 const ROOM: f32 = 1.0 / 16.0;
 
 /// Loading and the tree check, one call a slice, take so many times the slices.
@@ -73,7 +73,7 @@ pub fn run(plan: &Plan, folder: Option<&str>) -> bool {
     of_rooms(&mut table, &mut Seed::named(plan.seed, "rooms"), ROOMS);
     equal &= table.equal;
     equal &= run_real(plan, folder);
-    equal &= run_points(plan);
+    equal &= run_points(plan, folder);
     textures::run();
     equal
 }
@@ -106,20 +106,26 @@ fn worlds() -> [(&'static str, World); 3] {
     ]
 }
 
-/// Many points in one call, on the same maps.
-pub fn run_points(plan: &Plan) -> bool {
+/// Many points in one call, on the same maps and on compiled ones.
+pub fn run_points(plan: &Plan, folder: Option<&str>) -> bool {
     println!(
         "many points in one call: ns a point, beside a call for each point and the Rust's calls"
     );
     println!(
-        "{:<9} {:<14} {:>6} {:>7} {:>8} {:>8} {:>8} {:>8} {:>8}",
+        "{:<10} {:<14} {:>6} {:>7} {:>8} {:>8} {:>8} {:>8} {:>8}",
         "map", "points", "n", "reads", "many", "alone", "Rust", "/ alone", "/ Rust"
     );
     let mut equal = true;
     for (name, world) in worlds() {
         let mut seed = Seed::named(plan.seed, name);
         let file = tables(&mut seed, &world).file(&Layout::plain());
-        equal &= many_points(name, plan.cases, &mut seed, &file);
+        let of = |rust: &richter::Map, number| rust.table(number).with_root(0);
+        equal &= many_points((name, plan.cases), &mut seed, &file, Some([[-SIDE; 3], [SIDE; 3]]), of);
+    }
+    for (name, file) in compiled::files(folder) {
+        let mut seed = Seed::named(plan.seed, name);
+        let of = |rust: &richter::Map, number| rust.hull(0, number).expect("a hull");
+        equal &= many_points((name, plan.cases), &mut seed, &file, None, of);
     }
     equal
 }
@@ -696,13 +702,24 @@ fn accept(table: &mut Table, (file, map): (&[u8], &[u32])) {
     table.line("acceptance", (1, records), ours, None);
 }
 
-/// Many points at once, spread over the map and in rooms of a sixteenth of its side, a room for each
-/// 1,024.
-fn many_points(name: &str, slices: u64, seed: &mut Seed, file: &[u8]) -> bool {
+/// Many points at once, spread over a box (the world's where none is given) and in rooms of a sixteenth of
+/// its sides, a room for each 1,024; in a hull of each kind of nodes.
+fn many_points(
+    (name, slices): (&str, u64),
+    seed: &mut Seed,
+    file: &[u8],
+    within: Option<[[f32; 3]; 2]>,
+    of: impl Fn(&richter::Map, usize) -> Hull,
+) -> bool {
     let mut map = [0u32; 31];
     let (0, Ok(rust)) = (calls::load(file, &mut map), richter::load(file)) else { return false };
+    let world = &rust.models()[0];
+    let [min, max] = within.unwrap_or([world.min, world.max]);
+    let place = |seed: &mut Seed| {
+        [0, 1, 2].map(|n| min[n] + (floats::half(seed) + 0.5) * (max[n] - min[n]))
+    };
     let count = INPUTS / AT_ONCE[0] * AT_ONCE[0];
-    let spread: Vec<[f32; 3]> = (0..count).map(|_| point(seed)).collect();
+    let spread: Vec<[f32; 3]> = (0..count).map(|_| place(seed)).collect();
     let mut near = spread.clone();
     for room in near.chunks_mut(AT_ONCE[0]) {
         let corner = room[0].map(|x| x * (1.0 - ROOM));
@@ -712,7 +729,7 @@ fn many_points(name: &str, slices: u64, seed: &mut Seed, file: &[u8]) -> bool {
     }
     let mut equal = true;
     for (number, nodes) in [(1, "clip"), (0, "render")] {
-        let hull = rust.table(number).with_root(0);
+        let hull = of(&rust, number);
         let words = words::hull(number as u64, &hull);
         for (kind, points) in [("spread", &spread), ("near", &near)] {
             for n in AT_ONCE {
@@ -765,14 +782,14 @@ fn at_once(
     let mut rust = |points: &[[f32; 3]]| rust_walked(hull, points);
     let one = many(points);
     if one != alone(points) || one != rust(points) {
-        println!("{name:<9} {kind:<14} {n:>6} the answers differ");
+        println!("{name:<10} {kind:<14} {n:>6} the answers differ");
         return false;
     }
     let sums = by_turns(slices, points, [&mut many, &mut alone, &mut rust]);
     let reads = all_reads as f64 / (points.len() as u64 * (slices + 1)) as f64;
     let [many, alone, rust] = sums.map(|time| time / points.len() as f64);
     println!(
-        "{name:<9} {kind:<14} {n:>6} {reads:>7.2} {many:>8.1} {alone:>8.1} {rust:>8.1} {:>8.2} {:>8.2}",
+        "{name:<10} {kind:<14} {n:>6} {reads:>7.2} {many:>8.1} {alone:>8.1} {rust:>8.1} {:>8.2} {:>8.2}",
         many / alone,
         many / rust
     );

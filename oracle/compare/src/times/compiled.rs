@@ -25,7 +25,7 @@ const PART: usize = 2_500;
 
 /// The maps of a folder that `oracle/real-maps` filled, with visibility and light; else those that are
 /// kept in `maps/`.
-fn files(folder: Option<&str>) -> Vec<(&'static str, Vec<u8>)> {
+pub(super) fn files(folder: Option<&str>) -> Vec<(&'static str, Vec<u8>)> {
     let kept = Path::new(concat!(env!("CARGO_MANIFEST_DIR"), "/../../maps"));
     let mut found = Vec::new();
     for name in NAMES {

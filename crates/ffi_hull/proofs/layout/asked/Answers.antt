@@ -4,9 +4,9 @@ use Rattle.format.proofs.Answers.{handed_answer}
 use Rattle.ffi_hull.specs.Layout.{asked}
 use Rattle.ffi_hull.proofs.layout.asked.Goals as goal
 
-pub returns-then-map-lt31 : goal.returns-then-map-lt31
+pub returns-then-map-lt-MAP_WORDS : goal.returns-then-map-lt-MAP_WORDS
 unfolding asked
-returns-then-map-lt31 c = grind arith
+returns-then-map-lt-MAP_WORDS c = grind arith
 
 pub returns-in_err-h : goal.returns-in_err-h
 unfolding asked

@@ -2,19 +2,14 @@
 -- Assumes nothing.
 use Rattle.std.proofs.Common.{sym, ap, ◌∙◌, arith}
 use Rattle.nodes.specs.Fast.{u16}
-use Rattle.nodes.proofs.Clips.{bad_plane, unless_plane, bad_front, bad_back, all_good}
+use Rattle.nodes.proofs.Clips.{bad_plane, unless_plane, bad_words, all_good, neither}
 use Rattle.nodes.proofs.Sections.{two_words}
 use Rattle.nodes.proofs.here.clip_words.Goals as goal
 
-pub returns-then-is_invalid : goal.returns-then-is_invalid
-returns-then-is_invalid c = λ file a w.
+pub returns-then-is_either_invalid : goal.returns-then-is_either_invalid
+returns-then-is_either_invalid c = λ file a w.
     let p = two_words _ _ _ (λ i. omega (arith, c.type_inv.s i)) c.u32_at-both.ensures in
-    unless_plane _ file a _ _ 0 0 w c.requires c.u32_at-plane.ensures (λ l. bad_front _ file a _ _ _ 0 w c.requires c.u32_at-plane.ensures l p.0 (omega arith) (sym c.is_invalid.ensures ∙ c.if-is_invalid.true))
-
-pub returns-then-is_invalid-2 : goal.returns-then-is_invalid-2
-returns-then-is_invalid-2 c = λ file a w.
-    let p = two_words _ _ _ (λ i. omega (arith, c.type_inv.s i)) c.u32_at-both.ensures in
-    unless_plane _ file a _ _ 0 0 w c.requires c.u32_at-plane.ensures (λ l. bad_back _ file a _ _ _ _ w c.requires c.u32_at-plane.ensures l p.0 (omega arith) (sym c.is_invalid.ensures ∙ c.if-is_invalid.false) (p.1 ∙ ap (u16 c.args.s.now) (omega arith)) (omega arith) (sym c.is_invalid-2.ensures ∙ c.if-is_invalid-2.true))
+    unless_plane _ file a _ _ 0 0 w c.requires c.u32_at-plane.ensures (λ l. bad_words _ file a _ _ _ _ w c.requires c.u32_at-plane.ensures l p.0 (omega arith) (p.1 ∙ ap (u16 c.args.s.now) (omega arith)) (omega arith) (sym c.is_either_invalid.ensures ∙ c.if-is_either_invalid.true))
 
 pub returns-then-plane-ge2147483648 : goal.returns-then-plane-ge2147483648
 returns-then-plane-ge2147483648 c = λ file a w. bad_plane _ file a _ _ 0 0 w c.requires c.u32_at-plane.ensures c.if-plane-ge2147483648.true
@@ -22,4 +17,5 @@ returns-then-plane-ge2147483648 c = λ file a w. bad_plane _ file a _ _ 0 0 w c.
 pub returns : goal.returns
 returns c = λ file a w.
     let p = two_words _ _ _ (λ i. omega (arith, c.type_inv.s i)) c.u32_at-both.ensures in
-    all_good _ file a _ _ _ _ w c.requires c.u32_at-plane.ensures c.if-plane-ge2147483648.false p.0 (omega arith) (sym c.is_invalid.ensures ∙ c.if-is_invalid.false) (p.1 ∙ ap (u16 c.args.s.now) (omega arith)) (omega arith) _ p (sym c.is_invalid-2.ensures ∙ c.if-is_invalid-2.false)
+    let good = neither _ _ (sym c.is_either_invalid.ensures ∙ c.if-is_either_invalid.false) in
+    all_good _ file a _ _ _ _ w c.requires c.u32_at-plane.ensures c.if-plane-ge2147483648.false p.0 (omega arith) good.0 (p.1 ∙ ap (u16 c.args.s.now) (omega arith)) (omega arith) _ p good.1

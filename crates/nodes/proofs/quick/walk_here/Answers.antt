@@ -17,11 +17,11 @@ returns-then-render c = let a = c.args in record {
   bounded = c.walk_whole.ensures.bounded;
 }
 
-pub walk_whole-requires-2 : goal.walk_whole-requires-2
-walk_whole-requires-2 c = let a = c.args in few_of a.s.now a.render a.at a.count a.planes_at a.planes_count _ c.tables_by-t.ensures _ c.are_whole-whole.ensures _ _ c.if-not-whole.false c.node_bytes-nodes.ensures c.plane_bytes-planes.ensures false c.if-render.false
+pub walk_clips-requires : goal.walk_clips-requires
+walk_clips-requires c = let a = c.args in few_of a.s.now a.render a.at a.count a.planes_at a.planes_count _ c.tables_by-t.ensures _ c.are_whole-whole.ensures _ _ c.if-not-whole.false c.node_bytes-nodes.ensures c.plane_bytes-planes.ensures false c.if-render.false
 
 pub returns : goal.returns
 returns c = let a = c.args in record {
-  said = by_kind a.s.now a.render a.at a.count a.planes_at a.planes_count _ c.tables_by-t.ensures _ c.are_whole-whole.ensures _ _ c.if-not-whole.false c.node_bytes-nodes.ensures c.plane_bytes-planes.ensures false c.if-render.false a.root (vector a.x a.y a.z) _ c.walk_whole-2.ensures.said;
-  bounded = c.walk_whole-2.ensures.bounded;
+  said = by_kind a.s.now a.render a.at a.count a.planes_at a.planes_count _ c.tables_by-t.ensures _ c.are_whole-whole.ensures _ _ c.if-not-whole.false c.node_bytes-nodes.ensures c.plane_bytes-planes.ensures false c.if-render.false a.root (vector a.x a.y a.z) _ c.walk_clips.ensures.said;
+  bounded = c.walk_clips.ensures.bounded;
 }

@@ -4,10 +4,11 @@ use Prim.Native.Nat.{ℕ, ◌<◌}
 use native.Mathlib.Omega.{arith}
 use mathlib.Core.List.{[], ◌∷◌}
 use mathlib.Core.Path.{sym, ◌∙◌, ap}
+use Rattle.nodes.specs.Fast.{plane_here}
 use Rattle.ways.specs.Groups.{in_front}
-use Rattle.points.specs.Going.{point_at}
+use Rattle.points.specs.Going.{first, point_at}
 use Rattle.points.proofs.Bits.{chosen_most}
-use Rattle.points.proofs.Fewer.{few_settled, settled_left, at_rest, may_enter, few_more, few_front, front_settled, none_in_front, all_in_front, two_settled}
+use Rattle.points.proofs.Fewer.{few_settled, settled_left, at_rest, may_enter, few_more, few_front, front_settled, none_in_front, all_in_front}
 use Rattle.points.proofs.few.+settle.Goals.{In-Node}
 use Rattle.points.proofs.few.+settle.Goals as goal
 
@@ -20,11 +21,16 @@ overflow_add-result t c =
     let one = c.is_one.ensures c.if-is_one.true ∙ sym (ap (λ q. q ∷ []) c.first.ensures) in
     omega (arith, few_settled _ _ _ c.args.left c.args.child c.args.ids (settled_left _ _ _ c.loop-out.invariant one c.settle_alone.ensures) (omega (arith, c.ranges.left.fits)))
 
+pub overflow_add-result-then-is_two : goal.overflow_add-result-then-is_two
+overflow_add-result-then-is_two t c =
+    let two = c.is_two.ensures c.if-is_two.true ∙ sym (ap (λ q. q ∷ c.second.result ∷ []) c.first-then-is_two.ensures ∙ ap (λ q. first c.loop-out.rest ∷ q ∷ []) c.second.ensures) in
+    omega (arith, few_settled _ _ _ c.args.left c.args.child c.args.ids (settled_left _ _ _ c.loop-out.invariant two c.settle_pair.ensures) (omega (arith, c.ranges.left.fits)))
+
 pub returns-in-Settled : goal.returns-in-Settled
 returns-in-Settled t c = at_rest _ _ _ c.loop-out.invariant _ c.meet.ensures c.in-Settled.is c.settle_all.ensures
 
 pub overflow_sub-back : goal.overflow_sub-back
-overflow_sub-back t c = omega (arith, c.fronts-front.ensures, chosen_most (in_front (point_at c.args.g.now.coords.now) c.in-Node.plane) 64 0 c.loop-out.rest)
+overflow_sub-back t c = omega (arith, c.fronts-front.ensures, chosen_most (in_front (point_at c.args.g.now.coords.now) (plane_here c.in-Node.plane.now 0)) 64 0 c.loop-out.rest)
 
 pub overflow_sub-more : goal.overflow_sub-more
 overflow_sub-more t c = may t (goal.at.overflow_sub-more t c).In-Node
@@ -43,30 +49,16 @@ loop-out-smaller-then-back-eq0 t c = omega (arith, may t (goal.at.loop-out-small
 
 pub loop-out-preserved-then-back-eq0 : goal.loop-out-preserved-then-back-eq0
 loop-out-preserved-then-back-eq0 t c =
-    let most = chosen_most (in_front (point_at c.args.g.now.coords.now) c.in-Node.plane) 64 0 c.loop-out.rest in
+    let most = chosen_most (in_front (point_at c.args.g.now.coords.now) (plane_here c.in-Node.plane.now 0)) 64 0 c.loop-out.rest in
     all_in_front _ _ _ c.loop-out.invariant _ c.meet.ensures c.in-Node.is c.fronts-front.ensures c.if-back-eq0.true (omega (arith, c.fronts-front.ensures, most)) c.onto-at-then-back-eq0.ensures
-
-pub overflow_add-result-then-are_ones : goal.overflow_add-result-then-are_ones
-overflow_add-result-then-are_ones t c =
-    let ones = c.are_ones.ensures c.if-are_ones.true in
-    let a = ones.0 ∙ sym (ap (λ q. q ∷ []) c.first-then-are_ones.ensures) in
-    let b = ones.1 ∙ sym (ap (λ q. q ∷ []) c.first-then-are_ones-2.ensures) in
-    omega (arith, few_settled _ _ _ c.args.left c.args.child c.args.ids (two_settled _ _ _ c.loop-out.invariant _ c.meet.ensures c.in-Node.is c.fronts-front.ensures a b c.settle_both.ensures) (omega (arith, c.ranges.left.fits)))
-
-pub returns-then-are_ones : goal.returns-then-are_ones
-returns-then-are_ones t c =
-    let ones = c.are_ones.ensures c.if-are_ones.true in
-    let a = ones.0 ∙ sym (ap (λ q. q ∷ []) c.first-then-are_ones.ensures) in
-    let b = ones.1 ∙ sym (ap (λ q. q ∷ []) c.first-then-are_ones-2.ensures) in
-    two_settled _ _ _ c.loop-out.invariant _ c.meet.ensures c.in-Node.is c.fronts-front.ensures a b c.settle_both.ensures
 
 pub settle-reads-requires : goal.settle-reads-requires
 settle-reads-requires t c =
     let more = may t (goal.at.settle-reads-requires t c).In-Node in
     (omega (arith, more, c.loop-out.invariant.fewer, c.decreases), (c.requires.0, omega (arith, c.if-front-eq0.false)))
 
-pub overflow_add-reads-else-are_ones : goal.overflow_add-reads-else-are_ones
-overflow_add-reads-else-are_ones t c =
+pub overflow_add-reads-else-back-eq0 : goal.overflow_add-reads-else-back-eq0
+overflow_add-reads-else-back-eq0 t c =
     omega (arith, few_front _ _ _ c.loop-out.invariant _ c.meet.ensures c.in-Node.is c.fronts-front.ensures c.onto.ensures c.settle-reads.ensures (omega (arith, c.ranges.left.fits)))
 
 pub loop-out-smaller : goal.loop-out-smaller
@@ -74,4 +66,4 @@ loop-out-smaller t c = omega (arith, may t (goal.at.loop-out-smaller t c).In-Nod
 
 pub loop-out-preserved : goal.loop-out-preserved
 loop-out-preserved t c =
-    front_settled _ _ _ c.loop-out.invariant _ c.meet.ensures c.in-Node.is c.fronts-front.ensures (omega (arith, c.if-back-eq0.false)) c.onto.ensures c.settle-reads.ensures c.onto-at-else-are_ones.ensures
+    front_settled _ _ _ c.loop-out.invariant _ c.meet.ensures c.in-Node.is c.fronts-front.ensures (omega (arith, c.if-back-eq0.false)) c.onto.ensures c.settle-reads.ensures c.onto-at-else-back-eq0.ensures

@@ -1,12 +1,8 @@
--- `fronts` meets its contract: by the plane's alignment.
+-- `fronts` meets its contract: of the first eight points by the bits of their sides.
 -- Assumes nothing.
-use Rattle.std.proofs.Common.{◌∙◌, rules, tests}
-use Rattle.points.specs.Going.{reaches}
-use Rattle.points.proofs.Bits.{chosen_axis}
+use Rattle.points.proofs.Eights.{sides_chosen}
 use Rattle.points.proofs.few.fronts.Goals as goal
 
-pub returns-in-Axis : goal.returns-in-Axis
-returns-in-Axis c = let a = c.args in
-    let k = c.axis_number-axis in
-    c.chosen_by.ensures (reaches a.coords.now k.result a.plane.dist) (λ q b e. search (rules, tests))
-    ∙ chosen_axis a.coords.now a.plane _ c.in-Axis.is _ k.ensures a.ids
+pub returns-then-ids-lt256 : goal.returns-then-ids-lt256
+returns-then-ids-lt256 c = let a = c.args in
+    sides_chosen a.g.now.coords.now a.g.now.eight.now c.requires.1.1 _ _ c.sides.ensures a.ids c.if-ids-lt256.true

@@ -2,7 +2,8 @@
 use Prim.Native.Nat.{ℕ}
 use native.Mathlib.Omega.{arith}
 use mathlib.Core.Path.{ap, ◌∙◌}
-use Rattle.line.specs.Line.{onward}
+use Rattle.nodes.specs.Fast as Fast
+use Rattle.line.specs.Line.{onward, line_from}
 use Rattle.line.specs.Private.{Crossed}
 use Rattle.line.proofs.Lines.{child_line, child_met, far_fails, far_ends, far_goes}
 use Rattle.line.proofs.ground.Ground.+child_line_from.Goals.{line_from-In-Crossing}
@@ -12,7 +13,7 @@ use Rattle.format.proofs.Answers.{handed_on}
 -- the way down came to a crossing
 at_crossing : (t : ℕ) (c : line_from-In-Crossing t) →
     let x = c.in-Crossing in
-    Crossed c.args.self.now.s.now c.args.self.now.t c.loop-c.node c.loop-c.left c.loop-c.part x.w x.a x.b x.below
+    Crossed c.args.self.now.s.now c.args.self.now.t c.loop-c.left c.loop-c.part x.w x.a x.b x.below (λ root l. line_from (Fast.table c.args.self.now.s.now c.args.self.now.t) root c.loop-c.left c.loop-c.node c.loop-c.part l)
 at_crossing t c = rw c.in-Crossing.is at c.in_ok-c.ensures
 
 pub child-returns-then-word-lt32768 : goal.child-returns-then-word-lt32768

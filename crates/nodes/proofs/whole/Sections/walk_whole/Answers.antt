@@ -1,22 +1,12 @@
--- `walk_whole` meets its contract. The loop's invariant: the walk from the root on is the walk from the present node, which may enter as many
--- nodes as are left.
+-- `walk_whole` meets its contract: what is left of a walk that stands at its root.
 -- Assumes nothing.
 use Rattle.std.proofs.Common.{arith}
 use Rattle.nodes.specs.Fast.{point_of}
-use Rattle.nodes.proofs.Quicks.{no_root, spent, refused_here, on_to, stops}
+use Rattle.nodes.proofs.Quicks.{first, from_root, handed_on, no_root}
 use Rattle.nodes.proofs.whole.Sections.walk_whole.Goals as goal
 
-pub returns-then-count-root : goal.returns-then-count-root
-returns-then-count-root c = let a = c.args in record { said = no_root a.self.now.nodes.now a.self.now.planes.now a.self.now.render a.root (point_of a.point.now) (omega (arith, c.if-count-root.true, c.node_count-count.ensures)); bounded = omega arith }
-
-pub returns-in_default : goal.returns-in_default
-returns-in_default c = let a = c.args in record { said = refused_here a.self.now.nodes.now a.self.now.planes.now a.self.now.render a.root (point_of a.point.now) c.loop-visits.node c.loop-visits.visits c.loop-visits.invariant.2 c.loop-visits.invariant.0 (omega (arith, c.node_count-count.ensures)) c.found_at.result c.found_at.ensures _ c.in_default.is; bounded = omega arith }
-
-pub returns-then-count-word : goal.returns-then-count-word
-returns-then-count-word c = let a = c.args in record { said = stops a.self.now.nodes.now a.self.now.planes.now a.self.now.render a.root (point_of a.point.now) c.loop-visits.node c.loop-visits.visits c.loop-visits.invariant.2 c.loop-visits.invariant.0 (omega (arith, c.node_count-count.ensures)) c.found_at.result c.found_at.ensures _ _ c.in-Ok.is _ c.word_ahead-word.ensures (omega (arith, c.requires, c.node_count-count.ensures)) (omega (arith, c.if-count-word.true, c.node_count-count.ensures)) _ c.stopped.ensures.said; bounded = c.stopped.ensures.bounded }
-
-pub loop-visits-preserved : goal.loop-visits-preserved
-loop-visits-preserved c = let a = c.args in (omega (arith, c.if-count-word.false, c.node_count-count.ensures), omega (arith, c.node_count-count.ensures), on_to a.self.now.nodes.now a.self.now.planes.now a.self.now.render a.root (point_of a.point.now) c.loop-visits.node c.loop-visits.visits c.loop-visits.invariant.2 c.loop-visits.invariant.0 (omega (arith, c.node_count-count.ensures)) c.found_at.result c.found_at.ensures _ _ c.in-Ok.is _ c.word_ahead-word.ensures (omega (arith, c.if-count-word.false, c.requires, c.node_count-count.ensures)))
+pub returns-then-node_count-root : goal.returns-then-node_count-root
+returns-then-node_count-root c = let a = c.args in record { said = no_root a.self.now.nodes.now a.self.now.planes.now a.self.now.render (point_of a.point.now) a.root (omega (arith, c.if-node_count-root.true, c.node_count.ensures)); bounded = omega arith }
 
 pub returns : goal.returns
-returns c = let a = c.args in record { said = spent a.self.now.nodes.now a.self.now.planes.now a.self.now.render a.root (point_of a.point.now) c.loop-visits.node c.loop-visits.visits c.loop-visits.invariant.2 c.loop-visits.invariant.0 (omega (arith, c.node_count-count.ensures)); bounded = omega arith }
+returns c = let a = c.args in record { said = handed_on a.self.now.nodes.now a.self.now.planes.now a.self.now.render (point_of a.point.now) (from_root a.root (point_of a.point.now)) a.root 0 (first a.self.now.nodes.now a.self.now.planes.now a.self.now.render (point_of a.point.now) a.root) c.go_on.result c.go_on.ensures.said; bounded = c.go_on.ensures.bounded }

@@ -1,0 +1,2 @@
+-- What the list holds in which a line's words were written.
+mod Written
