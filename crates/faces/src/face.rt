@@ -4,6 +4,7 @@ ghost use Rattle.format.specs.Answers.{step_of, answer_of};
 ghost use Rattle.faces.specs.Face.{side_at, styles_at, face_at, file_face_of};
 
 use format::field::{Read, read_index, read_u8};
+use format::reader::Reader;
 use format::refusal::{Answer, Refusal};
 use format::section::{BspData, BspFileSectionId};
 use records::access::record;
@@ -108,13 +109,31 @@ pub fn read_face(s: &[u8], at: usize, plane_count: u32, texinfo_count: u32) -> R
     ))
 }
 
+// The reader of faces, in a map of so many planes and texture infos.
+#[derive(Clone, Copy)]
+pub struct FaceReader {
+    pub plane_count: u32,
+    pub texinfo_count: u32,
+}
+
+impl Reader for FaceReader {
+    type Record = BspFace;
+
+    ghost reads = { λ reader. face_at reader.plane_count reader.texinfo_count };
+
+    #[inline(always)]
+    fn read(self, s: &[u8], at: usize) -> Read<BspFace> {
+        read_face(s, at, self.plane_count, self.texinfo_count)
+    }
+}
+
 // The face of an index, with texture mins and extents of 0.
 pub fn file_face(s: &[u8], map: BspData, index: usize) -> Answer<BspFace>
     ensures { answer_of result ≡ file_face_of s.now map index }
 {
-    let planes = map.planes.record_count(BspFileSectionId::Planes);
-    let infos = map.texinfo.record_count(BspFileSectionId::TextureInfo);
-    record(s, map, BspFileSectionId::Faces, index, |s, at| {
-        read_face(s, at, planes, infos)
-    })
+    let reader = FaceReader {
+        plane_count: map.planes.record_count(BspFileSectionId::Planes),
+        texinfo_count: map.texinfo.record_count(BspFileSectionId::TextureInfo),
+    };
+    record(s, map, BspFileSectionId::Faces, index, reader)
 }

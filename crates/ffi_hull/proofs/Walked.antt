@@ -167,3 +167,11 @@ module _ (ms ws : List ℕ) (fs : List Float) (least : ℕ) (out : List ℕ) (wo
 
     pub its_map : m ≡ walked_map ms
     its_map = with_its_map (walked_from ws) (answer (m, h)) all_passed.2
+
+-- ---- a call that asks something of a hull by words: its four lists are long enough
+
+module _ {A : Type 0} (words : A → List ℕ) (ms ws : List ℕ) (fs : List Float) (k d : ℕ) (out : List ℕ) (a : Answer A) where
+  pub long_enough : map_length ≤ length ms → hull_asked ≤ length ws → k ≤ length fs → d ≤ length out → (w : Written) → w ≡ given (mapped words a) out
+      → w ≡ at_least map_length ms out (at_least hull_asked ws out (at_least k fs out (at_least d out out (given (mapped words a) out))))
+  long_enough e f g h w q =
+      q ∙ simp (le-ltb (length ms) map_length e, le-ltb (length ws) hull_asked f, le-ltb (length fs) k g, le-ltb (length out) d h)

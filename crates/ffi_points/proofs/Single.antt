@@ -39,7 +39,7 @@ use Rattle.ffi_points.specs.Calls.{bsp_contents_points}
 use Rattle.ffi_points.specs.Private.{its_code, one_told}
 use Rattle.ffi_points.proofs.Calling.{opened_at}
 
-code_small : (c : BspLeafContents) → code_of c < 256
+pub code_small : (c : BspLeafContents) → code_of c < 256
 code_small Empty = omega arith
 code_small Solid = omega arith
 code_small Water = omega arith

@@ -5,7 +5,7 @@ use mathlib.Core.Path.{◌≡◌, refl}
 use native.Mathlib.Omega.{arith}
 use Prim.Native.Nat.{ℕ, ◌≤◌}
 use lib.ListN.{length}
-use Rattle.std.specs.Prelude.{Option, Some, None}
+use Rattle.std.specs.Prelude.{Some, None}
 use Rattle.phys.specs.declared.Trace.{Trace}
 use Rattle.ffi_traces.specs.Layout.{trace_words, kind_words}
 use Rattle.phys.specs.declared.TraceEndKind.{TraceEndKind}

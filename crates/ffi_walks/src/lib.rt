@@ -15,7 +15,7 @@ use format::section::BspData;
 use hull::collision::BspCollisionHull;
 use hull::point::{contents_at_point, find_leaf_from};
 use math::Vector3;
-use nodes::quick::{end_code, walk_quick};
+use nodes::quick::{end_code_sized, walk_quick};
 use nodes::table::{HullTable, tables_of};
 use walk_words::contents_words;
 use words::{LIST_TOO_SHORT, MAP_WORDS, give_words};
@@ -47,7 +47,7 @@ pub fn quick_contents(
         return None;
     }
     let l = map.leaves;
-    let code = end_code(file, l.offset, l.size, drawn, (end / 4294967296) as u16);
+    let code = end_code_sized(file, l.offset, l.size, drawn, (end / 4294967296) as u16);
     if code == 0 {
         return None;
     }

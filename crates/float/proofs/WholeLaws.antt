@@ -1,13 +1,15 @@
--- What `x != x` says of a NaN, and `floor_value` and `ceil_value`: `floor_of` and `ceil_of` have the whole number as their value that they hand to `round`. Assumes nothing.
-use Rattle.std.proofs.Common.{◌≡◌, ℕ, zero, suc, ◌+◌, ◌-◌, ◌*◌, ◌/◌, ◌%◌, ◌^◌, ◌<◌, ◌≤◌, Bool, true, false, cond, not, ◌&&◌, T, eqb, ltb, leb, ◌⊎◌, ℤ, pos, negsuc, sym, refl, ap, ◌∙◌, subst, inl, inr, le_trans, le_of_eq, lt_of_lt_of_le, le_of_suc-le-suc, lt_irrefl, zero-lt-suc, mul_assoc, div-lt_iff_lt-mul, mul-lt-mul_of_pos_right, mul-pos, zero-mul, mul-one, arith, lit<, lit≤, ltb→lt, pow_pos, pow-add}
+-- What `x != x` says of a NaN, and `floor_value` and `ceil_value`: `floor_of` and `ceil_of` have the whole number as their value that they hand to `round`. `floor_above` and `i16_below`: from 2 ^ 23 on a float is its own floor, and at -2 ^ 15 and below it the cast is the lowest `i16`. Assumes nothing.
+use Rattle.std.proofs.Common.{◌≡◌, ℕ, zero, suc, ◌+◌, ◌-◌, ◌*◌, ◌/◌, ◌%◌, ◌^◌, ◌<◌, ◌≤◌, min, Bool, true, false, cond, not, ◌&&◌, ◌||◌, T, eqb, ltb, leb, ◌⊎◌, ℤ, pos, negsuc, neg_ℤ, sym, refl, ap, ◌∙◌, subst, inl, inr, le_trans, le_of_eq, lt_of_lt_of_le, le_of_suc-le-suc, lt_irrefl, zero-lt-suc, mul_assoc, div-lt_iff_lt-mul, mul-lt-mul_of_pos_right, mul-pos, zero-mul, mul-one, arith, lit<, lit≤, ltb→lt, pow_pos, pow-add, le-div_iff_mul-le, eqb→eq}
 use native.Mathlib.Nat.{le-suc, pow-succ'}
 use lib.Arith.{digits_div}
-use lib.Ieee.{Float, fin, Format, binary32, prec, emax, low, up, down, round, ne, fits, is_nan}
-use lib.Ieee.Fits.{and_l, and_r, down_pos}
+use lib.Ieee.{Float, nan, inf, fin, Format, binary32, prec, emax, low, up, down, round, neg, ne, le, fits, is_nan, of_bits, to_signed}
+use mathlib.Core.Bool.{false≢true}
+use lib.Ieee.Fits.{and_l, and_r, down_pos, round-fits}
 use lib.Ieee.Exact.{HasValue, round_exact}
-use lib.Ieee.Back.{round_whole}
-use Rattle.float.specs.Whole.{cut, raised, floor_of, ceil_of}
-use Rattle.float.proofs.Compare.{eq_self, order}
+use lib.Ieee.Back.{round_whole, whole_unique}
+use Rattle.float.specs.Whole.{cut, raised, of_whole, floor_of, ceil_of}
+use Rattle.float.proofs.Compare.{eq_self, T_of, or_cases, order}
+use Rattle.float.proofs.Rounded as Rounded
 
 -- ---- min and max
 
@@ -26,6 +28,20 @@ is_nan_lem x h = sym (double (is_nan x)) ∙ ap not (sym (eq_self x)) ∙ h
     double : (b : Bool) → not (not b) ≡ b
     double true = refl
     double false = refl
+
+-- ---- a sign moves through `round`
+
+neg_neg : (x : Float) → neg (neg x) ≡ x
+unfolding neg
+neg_neg nan = refl
+neg_neg (inf true) = refl
+neg_neg (inf false) = refl
+neg_neg (fin true m e) = refl
+neg_neg (fin false m e) = refl
+
+pub round_neg : (f : Format) (s : Bool) (a c : ℕ) → neg (round f s a c) ≡ round f (not s) a c
+round_neg f true a c = ap neg (Rounded.round_neg f a c) ∙ neg_neg (round f false a c)
+round_neg f false a c = sym (Rounded.round_neg f a c)
 
 -- ---- whole quotients, and what is whole already
 
@@ -75,6 +91,71 @@ exact_big s m k F =
     let b = fits_odd binary32 s m (pos k) F in
     round_exact binary32 s (suc m * 2 ^ k) 1 (suc m) (k + 149) (zero-lt-suc 0) b.0 (room k (suc m) b.1)
     (mul_assoc (suc m) (2 ^ k) (2 ^ 149) ∙ ap (λ (x : ℕ). suc m * x) (sym (pow-add 2 k 149)) ∙ sym (mul-one (suc m * 2 ^ (k + 149))))
+
+-- ---- where a float is its own floor, and where the cast to an `i16` is at its lowest
+
+-- x is a / d with d dividing a, so it is its own floor
+floor_keeps : (s : Bool) (m : ℕ) (e : ℤ) (q : ℕ) → T (fits binary32 (fin s m e)) → m * up e ≡ q * down e → HasValue (round binary32 s q 1) s q 1 → fin s m e ≡ floor_of (fin s m e)
+unfolding floor_of of_whole
+floor_keeps s m e q F h v =
+    whole_unique binary32 (fin s m e) (round binary32 s q 1) s q F (round-fits binary32 s q 1) (refl, mul-one (m * up e) ∙ h) v
+    ∙ ap (λ (n : ℕ). round binary32 s n 1) (sym (either s))
+  where
+    either : (b : Bool) → cond b (raised (m * up e) (down e)) (cut (m * up e) (down e)) ≡ q
+    either true = raised_whole (m * up e) (down e) q (down_pos e) h
+    either false = cut_whole (m * up e) (down e) q (down_pos e) h
+
+floor_big : (s : Bool) (m : ℕ) (e : ℤ) → T (fits binary32 (fin s m e)) → 8388608 * down e ≤ m * up e * 1 → fin s m e ≡ floor_of (fin s m e)
+floor_big s zero e F h = absurd (lt_irrefl 0 (lt_of_lt_of_le (mul-pos (lit< {m = 0} {n = 8388608} tt) (down_pos e)) (le_trans h (le_of_eq (mul-one (0 * up e) ∙ zero-mul (up e))))))
+floor_big s (suc m) e F h =
+    let z = big_shape s (suc m) e F h in
+    subst (λ (x : ℤ). fin s (suc m) x ≡ floor_of (fin s (suc m) x)) (sym z.1)
+    (floor_keeps s (suc m) (pos z.0) (suc m * 2 ^ z.0) (subst (λ (x : ℤ). T (fits binary32 (fin s (suc m) x))) z.1 F) (sym (mul-one (suc m * 2 ^ z.0)))
+    (exact_big s m z.0 (subst (λ (x : ℤ). T (fits binary32 (fin s (suc m) x))) z.1 F)))
+
+-- what `le` says of two magnitudes
+le_bool : (a b : ℕ) (z : Bool) → T (ltb a b || (eqb a b && z)) → a ≤ b
+le_bool a b z t = elim (or_cases (ltb a b) (eqb a b && z) t) [
+  | inl u ↦ le_trans (le-suc a) (ltb→lt a b u)
+  | inr u ↦ le_of_eq (eqb→eq a b (and_l (eqb a b) z u))
+]
+
+-- and of two that are below zero
+le_turned : (a b : ℕ) → T (ltb b a || (eqb a b && true)) → b ≤ a
+le_turned a b t = elim (or_cases (ltb b a) (eqb a b && true) t) [
+  | inl u ↦ le_trans (le-suc b) (ltb→lt b a u)
+  | inr u ↦ le_of_eq (sym (eqb→eq a b (and_l (eqb a b) true u)))
+]
+
+-- a number above zero is not level with a value of the other sign
+not_level : (a b : ℕ) → 0 < a → T (false || (eqb a b && (false || eqb a 0))) → ⊥
+not_level a b h t = lt_irrefl 0 (subst (λ (x : ℕ). 0 < x) (eqb→eq a 0 (and_r (eqb a b) (eqb a 0) t)) h)
+
+not_level' : (a b : ℕ) → 0 < b → T (false || (eqb a b && (false || eqb a 0))) → ⊥
+not_level' a b h t = lt_irrefl 0 (subst (λ (x : ℕ). 0 < x) (sym (eqb→eq a b (and_l (eqb a b) (eqb a 0) t)) ∙ eqb→eq a 0 (and_r (eqb a b) (eqb a 0) t)) h)
+
+-- From 2 ^ 23 on, the pattern 0x4b000000, a float is whole, and so its own floor.
+pub floor_above : (x : Float) → fits binary32 x ≡ true → le (of_bits binary32 0x4b000000) x ≡ true → x ≡ floor_of x
+unfolding le of_bits
+floor_above nan F h = unfold floor_of in refl
+floor_above (inf s) F h = unfold floor_of in refl
+floor_above (fin true m e) F h = absurd (not_level (8388608 * down e) (m * up e * 1) (mul-pos (lit< {m = 0} {n = 8388608} tt) (down_pos e)) (T_of h))
+floor_above (fin false m e) F h = floor_big false m e (T_of F) (le_bool (8388608 * down e) (m * up e * 1) true (T_of h))
+
+-- At -2 ^ 15 and below it, which is the pattern 0x47000000 negated, the cast is the lowest `i16`.
+pub i16_below : (x : Float) → le x (neg (of_bits binary32 0x47000000)) ≡ true → negsuc 32767 ≡ to_signed 15 x
+unfolding le to_signed of_bits neg
+i16_below nan h = absurd (false≢true h)
+i16_below (inf true) h = refl
+i16_below (inf false) h = absurd (false≢true h)
+i16_below (fin false m e) h = absurd (not_level' (m * up e * 1) (32768 * down e) (mul-pos (lit< {m = 0} {n = 32768} tt) (down_pos e)) (T_of h))
+i16_below (fin true m e) h = ap (λ (q : ℕ). neg_ℤ (pos q)) (capped (m * up e / down e) (reaches (le_turned (m * up e * 1) (32768 * down e) (T_of h))))
+  where
+    capped : (q : ℕ) → 32768 ≤ q → 32768 ≡ min q 32768
+    capped q k = omega arith
+
+    reaches : 32768 * down e ≤ m * up e * 1 → 32768 ≤ m * up e / down e
+    reaches h = (le-div_iff_mul-le (down_pos e)).1 (subst (λ (x : ℕ). 32768 * down e ≤ x) (mul-one (m * up e)) h)
 
 -- ---- `round` changes nothing at the numbers that `floor_of` and `ceil_of` hand it
 

@@ -10,3 +10,4 @@ pub mod Chain
 pub mod Same
 pub mod Answers
 pub mod Listing
+pub mod Copies

@@ -4,5 +4,7 @@
 pub mod code;
 pub mod contents;
 pub mod field;
+pub mod list;
+pub mod reader;
 pub mod refusal;
 pub mod section;

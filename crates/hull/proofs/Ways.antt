@@ -1,6 +1,6 @@
 -- A trace by numbers alone beside the trace that it stands for: whether it ends with its near part, and its two parts joined.
 -- Assumes nothing.
-use Rattle.std.proofs.Common.{Ok}
+use Rattle.std.proofs.Common.{Ok, Err}
 use Rattle.std.specs.Prelude.{Result}
 use Prim.Native.Nat.{ℕ, ◌^◌, ◌<◌}
 use mathlib.Core.Path.{◌≡◌, refl, sym, ap, ◌∙◌}
@@ -48,6 +48,11 @@ neither false true e = (refl, refl)
 neither false false e = let z : ◌≡◌ {A = ℕ} 0 1 = cc in absurd (omega arith)
 neither true b e = let z : ◌≡◌ {A = ℕ} 0 1 = cc in absurd (omega arith)
 
+-- the near part joined with the far one, which is refused where that is
+abbrev pub join_way : Went → Result Went Refusal → Result Went Refusal
+join_way g (Ok u) = Ok (join_parts g u)
+join_way g (Err e) = Err e
+
 module _ (f : List ℕ) (t : Tables) (st : TraceStart) (g : Went) (m : Vector3) where
   abbrev near : TraceT
   near = went_trace f t st g
@@ -75,10 +80,11 @@ module _ (f : List ℕ) (t : Tables) (st : TraceStart) (g : Went) (m : Vector3) 
       unfolding Tr.join
       met = simp (open_end.0, open_end.1)
 
-    pub joins_way : (u : Went) → way_answer f t st (Ok (join_parts g u)) ≡ join_far near (way_answer f t (Tr.start m k) (Ok u))
-    joins_way u =
+    pub joins_way : (w : Result Went Refusal) → way_answer f t st (join_way g w) ≡ join_far near (way_answer f t (Tr.start m k) w)
+    joins_way (Ok u) =
         ap answer (chosen u (Contents.equal g.contents u.contents) (Contents.equal g.contents Solid && not (Contents.equal u.contents Solid)))
         ∙ sym (ap (joined_with u.visits) (met u))
+    joins_way (Err e) = refl
 
 -- ---- a crossing that was come to, and its two parts, each a trace by numbers alone
 
@@ -159,7 +165,7 @@ module _ {f : List ℕ} {t : Tables} {w : WordsT} {s e mid : Vector3} {a b : Flo
         far_refused front side d q y r = goes_on (Ans.refused y) (far_by front side d q (Ans.refused y) r) (Ans.refused y) refl
 
         pub both_ways : (u : Went) → (r : Float) × (way_answer f t (Tr.start mid r) (Ok u) ≡ after g.visits far_in) → way_answer f t (at_start s) (Ok (join_parts g u)) ≡ all
-        both_ways u far = goes_on (way_answer f t (Tr.start mid far.0) (Ok u)) far.1 _ (joins_way f t (at_start s) g mid (sym is-st ∙ z) far.0 u)
+        both_ways u far = goes_on (way_answer f t (Tr.start mid far.0) (Ok u)) far.1 _ (joins_way f t (at_start s) g mid (sym is-st ∙ z) far.0 (Ok u))
 
 -- the same where the sides of both ends are told
 pub record Crosses (f : List ℕ) (t : Tables) (w : WordsT) (s e mid : Vector3) (a b : Float) (k n : ℕ) (front there : Bool) (all : Answer (TraceT × ℕ)) : Type 0 where

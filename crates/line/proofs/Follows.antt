@@ -288,8 +288,8 @@ abbrev pub blank : Mark
 blank = record { at = nan; point = []; held = 0 }
 
 -- the last is not written
-pub kept_last : (l : List Mark) (n : ℕ) (y : Mark) {q : Vector3} → 0 < n → n ≤ 9 → point_of (get_or l 9 blank).point ≡ q → point_of (get_or (set l (n - 1) y) 9 blank).point ≡ q
-kept_last l n y h k e = ap (λ (z : Mark). point_of z.point) (get_or-set_other l (n - 1) 9 y blank (λ z. omega (arith, h, k, z))) ∙ e
+pub kept_last : (l : List Mark) (n : ℕ) (y : Mark) {q : Vector3} → 0 < n → n ≤ 10 → point_of (get_or l 10 blank).point ≡ q → point_of (get_or (set l (n - 1) y) 10 blank).point ≡ q
+kept_last l n y h k e = ap (λ (z : Mark). point_of z.point) (get_or-set_other l (n - 1) 10 y blank (λ z. omega (arith, h, k, z))) ∙ e
 
 -- ---- the list of the planes that wait: the nearest stands at n, the others behind it
 

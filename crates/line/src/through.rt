@@ -290,7 +290,7 @@ impl<'a> Ground<'a> {
     }
 
     // The line from a child on. A tree of 32,767 nodes has fewer ends and planes than there are turns. (Ten places and the first that is used, and no
-    // list that grows: there is no heap, and ten are cleared without a call. The last is the line's end, the others the planes that wait. Where the
+    // list that grows: there is no heap, and eleven are cleared without a call. The last is the line's end, the others the planes that wait. Where the
     // line was to go is read there again: handed on it takes a register.)
     #[tactic(auto, using(crate::proofs::Follows::fewer_left, crate::proofs::Follows::few_met))]
     #[inline(always)]
@@ -298,9 +298,9 @@ impl<'a> Ground<'a> {
         requires { Private.Worded self.now }
         ensures { Private.Arrives self.now (Private.from_start root start end) result }
     {
-        let mut marks = [tip(0.0, Vector3::new(0.0, 0.0, 0.0)); 10];
-        let mut n: usize = 9;
-        marks[9] = tip(1.0, end);
+        let mut marks = [tip(0.0, Vector3::new(0.0, 0.0, 0.0)); 11];
+        let mut n: usize = 10;
+        marks[10] = tip(1.0, end);
         let mut x = tip(0.0, start);
         let mut word = root;
         let mut left: u32 = 512;
@@ -308,7 +308,7 @@ impl<'a> Ground<'a> {
         let mut looked = false;
         for _ in 0..131072u32 {
             match self.one_turn(word, left, &x, &marks[n], seen, looked)? {
-                Turn::Blocked => return Some(Came::Blocked(x, point_of(&marks[9].point), seen)),
+                Turn::Blocked => return Some(Came::Blocked(x, point_of(&marks[10].point), seen)),
                 Turn::Crossing(w, front, below, near) => {
                     if n == 0 {
                         return None;
@@ -320,8 +320,8 @@ impl<'a> Ground<'a> {
                 }
                 Turn::Into(so_far) => {
                     seen = so_far;
-                    if 9 <= n {
-                        return Some(Came::Through(point_of(&marks[9].point), seen));
+                    if 10 <= n {
+                        return Some(Came::Through(point_of(&marks[10].point), seen));
                     }
                     x = marks[n];
                     n += 1;

@@ -247,6 +247,10 @@ module _ (s : List ℕ) (m : BspData) (loads : load_of s ≡ answer m) where
       let a = leaf_ids i (omega arith) in
       (with_rest (record_count CollisionNodes m.collision_nodes) a.0 f.0, rw (f.1, a.1) refl)
 
+  -- there is a model
+  pub some_model : 0 < record_count Models m.models
+  some_model = let p = passed s m loads in (each_limit m p.limited.0 p.limited.1).some_model
+
   -- the entity text is the entity section
   pub entity_text_lem : entities_of s m ≡ part m.entities.offset m.entities.size
   unfolding entities_of

@@ -9,13 +9,14 @@ ghost use Rattle.sections.specs.Answers.{position_step};
 ghost use Rattle.sections.specs.Records as Records;
 ghost use Rattle.load.specs.Tested.{textured, texinfos, faces, outside, references_at, leaf_references};
 
-use faces::face::read_face;
+use faces::face::FaceReader;
 use format::field::Read;
+use format::reader::Reader;
 use format::refusal::{Answer, Refusal};
 use format::section::{BspData, BspFileSection, BspFileSectionId};
-use models::model::read_file_model;
-use records::leaf::read_leaf;
-use records::node::{BspRenderNodeChild, read_collision_node, read_render_node};
+use models::model::FileModelReader;
+use records::leaf::LeafReader;
+use records::node::{BspRenderNodeChild, CollisionNodeReader, RenderNodeReader, read_render_node};
 use records::texinfo::{BspTexInfo, read_texinfo};
 use sections::row::{check_records, read_records};
 
@@ -24,7 +25,7 @@ use sections::row::{check_records, read_records};
 pub fn check_render_nodes(s: &[u8], section: BspFileSection) -> Answer<usize>
     ensures { position_step result ≡ Records.section render_node_at Id.RenderNodes s.now section }
 {
-    check_records(s, section, BspFileSectionId::RenderNodes, read_render_node)
+    check_records(s, section, BspFileSectionId::RenderNodes, RenderNodeReader)
 }
 
 // A texture info, whose texture number must not be the texture count: on it the Rust panics.
@@ -39,23 +40,42 @@ pub fn read_textured(s: &[u8], at: usize, texture_count: u32) -> Read<BspTexInfo
     Ok((info, next))
 }
 
+// The reader of texture infos on loading, in a map of so many textures.
+#[derive(Clone, Copy)]
+struct TexturedReader {
+    texture_count: u32,
+}
+
+impl Reader for TexturedReader {
+    type Record = BspTexInfo;
+
+    ghost reads = { λ reader. textured reader.texture_count };
+
+    #[inline(always)]
+    fn read(self, s: &[u8], at: usize) -> Read<BspTexInfo> {
+        read_textured(s, at, self.texture_count)
+    }
+}
+
 #[tactic(auto, unfolding(crate::specs::Tested::texinfos))]
 pub fn check_texinfo(s: &[u8], map: BspData) -> Answer<usize>
     ensures { position_step result ≡ texinfos s.now map }
 {
-    let texture_count = map.texture_count;
-    let read = |s: &[u8], at: usize| read_textured(s, at, texture_count);
-    check_records(s, map.texinfo, BspFileSectionId::TextureInfo, read)
+    let reader = TexturedReader {
+        texture_count: map.texture_count,
+    };
+    check_records(s, map.texinfo, BspFileSectionId::TextureInfo, reader)
 }
 
 #[tactic(auto, unfolding(crate::specs::Tested::faces))]
 pub fn check_faces(s: &[u8], map: BspData) -> Answer<usize>
     ensures { position_step result ≡ faces s.now map }
 {
-    let planes = map.planes.record_count(BspFileSectionId::Planes);
-    let infos = map.texinfo.record_count(BspFileSectionId::TextureInfo);
-    let read = |s: &[u8], at: usize| read_face(s, at, planes, infos);
-    check_records(s, map.faces, BspFileSectionId::Faces, read)
+    let reader = FaceReader {
+        plane_count: map.planes.record_count(BspFileSectionId::Planes),
+        texinfo_count: map.texinfo.record_count(BspFileSectionId::TextureInfo),
+    };
+    check_records(s, map.faces, BspFileSectionId::Faces, reader)
 }
 
 pub fn check_collision_nodes(s: &[u8], section: BspFileSection) -> Answer<usize>
@@ -65,20 +85,20 @@ pub fn check_collision_nodes(s: &[u8], section: BspFileSection) -> Answer<usize>
         s,
         section,
         BspFileSectionId::CollisionNodes,
-        read_collision_node,
+        CollisionNodeReader,
     )
 }
 
 pub fn check_leaves(s: &[u8], section: BspFileSection) -> Answer<usize>
     ensures { position_step result ≡ Records.section leaf_at Id.Leaves s.now section }
 {
-    check_records(s, section, BspFileSectionId::Leaves, read_leaf)
+    check_records(s, section, BspFileSectionId::Leaves, LeafReader)
 }
 
 pub fn check_models(s: &[u8], section: BspFileSection) -> Answer<usize>
     ensures { position_step result ≡ Records.section file_model_at Id.Models s.now section }
 {
-    check_records(s, section, BspFileSectionId::Models, read_file_model)
+    check_records(s, section, BspFileSectionId::Models, FileModelReader)
 }
 
 // Whether a child is a leaf outside the table of leaves.
@@ -104,14 +124,32 @@ pub fn read_references(s: &[u8], at: usize, leaves: u32) -> Answer<usize>
     Ok(next)
 }
 
+// The reader of render nodes for their leaves, in a map of so many leaves.
+#[derive(Clone, Copy)]
+struct ReferencesReader {
+    leaves: u32,
+}
+
+impl Reader for ReferencesReader {
+    type Record = ();
+
+    ghost reads = { λ reader. references_at reader.leaves };
+
+    #[inline(always)]
+    fn read(self, s: &[u8], at: usize) -> Read<()> {
+        read_references(s, at, self.leaves).map(|next| ((), next))
+    }
+}
+
 // Every leaf that a render node names is in the table of leaves.
 #[tactic(auto, unfolding(crate::specs::Tested::leaf_references))]
 pub fn check_leaf_references(s: &[u8], map: BspData) -> Answer<usize>
     ensures { position_step result ≡ leaf_references s.now map }
 {
-    let leaves = map.leaves.record_count(BspFileSectionId::Leaves);
     let nodes = map.render_nodes;
     let count = nodes.record_count(BspFileSectionId::RenderNodes);
-    let read = |s: &[u8], at: usize| read_references(s, at, leaves).map(|next| ((), next));
-    read_records(s, nodes.offset as usize, count, read)
+    let reader = ReferencesReader {
+        leaves: map.leaves.record_count(BspFileSectionId::Leaves),
+    };
+    read_records(s, nodes.offset as usize, count, reader)
 }

@@ -4,6 +4,7 @@ ghost use Rattle.format.specs.Answers.{step_of, answer_of};
 ghost use Rattle.models.specs.Model.{padded_bounds, bounds_at, roots_at, file_model_at, file_model_of, leaf_id_of, node_counts, with_rest, model_of, leaf_range};
 
 use format::field::{Read, read_i32, read_index};
+use format::reader::Reader;
 use format::refusal::{Answer, Refusal};
 use format::section::{BspData, BspFileSectionId};
 use math::Vector3;
@@ -102,11 +103,26 @@ pub fn read_file_model(s: &[u8], at: usize) -> Read<BspFileModel>
     ))
 }
 
+// The reader of models' own records.
+#[derive(Clone, Copy)]
+pub struct FileModelReader;
+
+impl Reader for FileModelReader {
+    type Record = BspFileModel;
+
+    ghost reads = { λ reader. file_model_at };
+
+    #[inline(always)]
+    fn read(self, s: &[u8], at: usize) -> Read<BspFileModel> {
+        read_file_model(s, at)
+    }
+}
+
 // A model's own record, by its index. One line over `record`, as the accessors of `records`.
 pub fn file_model(s: &[u8], map: BspData, index: usize) -> Answer<BspFileModel>
     ensures { answer_of result ≡ file_model_of s.now map index }
 {
-    record(s, map, BspFileSectionId::Models, index, read_file_model)
+    record(s, map, BspFileSectionId::Models, index, FileModelReader)
 }
 
 // The leaf counts of the models before an index, added up.

@@ -385,7 +385,7 @@ pub(crate) fn word_code(word: u16) -> u32
 // one number is answered, as of the walk. The leaf's end is compared with the bytes: to count the leaves is a division. 917504 bytes are one leaf
 // more than the limit.)
 #[inline(always)]
-pub fn end_code(s: &[u8], at: u32, size: u32, render: bool, word: u16) -> u32
+pub fn end_code_sized(s: &[u8], at: u32, size: u32, render: bool, word: u16) -> u32
     ensures { result ≡ Quick.end_code s.now render at (size / 28) word }
 {
     if !render {
@@ -403,4 +403,17 @@ pub fn end_code(s: &[u8], at: u32, size: u32, render: bool, word: u16) -> u32
         return 0;
     }
     leaf_code(s, end - 28)
+}
+
+// The same with so many leaves. (More than the limit are refused first, so that their bytes are a number of 32 bits.)
+pub fn end_code(s: &[u8], at: u32, count: u32, render: bool, word: u16) -> u32
+    ensures { result ≡ Quick.end_code s.now render at count word }
+{
+    if !render {
+        return word_code(word);
+    }
+    if 32767 < count {
+        return 0;
+    }
+    end_code_sized(s, at, count * 28, render, word)
 }

@@ -1,8 +1,9 @@
 // Points by their numbers, divided by a plane.
-ghost use Rattle.std.specs.Prelude.{◌≡◌, ◌++◌, ◌≤◌, ℕ, Bool, length, set};
+ghost use Rattle.std.specs.Prelude.{◌≡◌, ◌++◌, ◌≤◌, ℕ, Bool, length, take, drop, set};
 ghost use Rattle.ways.specs.Groups.{kept, in_front, fronts, backs, fill};
 ghost use Rattle.points.specs.Going as Going;
 
+use format::list::copy_front;
 use math::{Alignment, Axis, Hyperplane, Vector3};
 use nodes::read::is_front;
 use words::float_at;
@@ -102,6 +103,14 @@ fn count(coords: &[f32], plane: Hyperplane, ids: &[u16]) -> usize
     }
 }
 
+// `copy_front` as a call: in line, where it is seen that the lists lie apart, the compiler makes it a call of `memcpy`.
+#[inline(never)]
+pub fn copy_apart<T: Copy>(items: &[T], list: &mut [T])
+    ensures { list.new ≡ take (length list.old) items.now ++ drop (length items.now) list.old }
+{
+    copy_front(items, list)
+}
+
 // The points in front of the plane first, then those behind it, each in their order; how many are in front.
 fn reorder(coords: &[f32], plane: Hyperplane, ids: &mut [u16], aside: &mut [u16]) -> usize
     requires { length ids.old ≤ length aside.old }
@@ -109,7 +118,7 @@ fn reorder(coords: &[f32], plane: Hyperplane, ids: &mut [u16], aside: &mut [u16]
 {
     let front = part(coords, plane, ids, aside);
     let behind = ids.len() - front;
-    ids[front..].copy_from_slice(&aside[..behind]);
+    copy_apart(&aside[..behind], &mut ids[front..]);
     front
 }
 

@@ -6,9 +6,9 @@ ghost use Rattle.nodes.specs.Walks as Walks;
 ghost use Rattle.ways.specs.Groups.{fill, in_front};
 ghost use Rattle.points.specs.Going as Going;
 
-use crate::divide::{axis_number, in_front, point_at, put, reaches};
+use crate::divide::{axis_number, copy_apart, in_front, point_at, put, reaches};
 use crate::group::end_byte;
-use crate::one::{settle_one, settle_two};
+use crate::one::{settle_each, settle_one};
 use math::{Alignment, Hyperplane};
 use nodes::lanes::{plane_of, sides, two_sides};
 use nodes::read::{Onto, Words};
@@ -113,7 +113,7 @@ pub fn first_eight(coords: &[f32]) -> [f32; 24]
         all[..24].copy_from_slice(&coords[..24]);
         return all;
     }
-    all[..count].copy_from_slice(coords);
+    copy_apart(coords, &mut all[..count]);
     all
 }
 
@@ -243,7 +243,7 @@ fn settle_both(
             put(out, second, end_byte(g.s, g.t, b.word));
             (a.visits as u64) + (b.visits as u64)
         }
-        _ => settle_two(g.s, g.t, g.coords, words, left, &[first, second], out),
+        _ => settle_each(g.s, g.t, g.coords, words, left, first, second, out),
     }
 }
 

@@ -8,7 +8,7 @@ ghost use Rattle.nodes.specs.Fast as Fast;
 ghost use Rattle.points.specs.Points as Points;
 ghost use Rattle.points.specs.Going as Going;
 
-use crate::divide::point_at;
+use crate::divide::{copy_apart, point_at};
 use crate::few;
 use crate::group::settle_group;
 use format::refusal::{Answer, Refusal};
@@ -60,7 +60,7 @@ fn told(
         // never: a point that is answered has a code
         return Err(Refusal::NotPoints);
     }
-    list[..count].copy_from_slice(bytes);
+    copy_apart(bytes, &mut list[..count]);
     Ok(reads)
 }
 

@@ -1,17 +1,11 @@
 -- A record by its index: 20 where the index is at or past the count; 23 where the section is above its limit, the record's own bytes
 -- are not in the file, or the reader that loading uses refuses it.
-use Rattle.std.specs.Prelude.{◌≡◌, ℕ, Result, List, length}
+use Rattle.std.specs.Prelude.{ℕ, List, length}
 use Rattle.format.specs.Answer.{Answer, answer, refused}
-use Rattle.format.specs.Answers.{step_of}
 use Rattle.format.specs.Step.{Step}
 use Rattle.format.specs.Section.{section_of, place}
-use Rattle.format.specs.declared.refusal.Refusal.{Refusal}
 use Rattle.format.specs.declared.section.BspData.{BspData}
 use Rattle.format.specs.declared.section.BspFileSectionId.{BspFileSectionId}
-
--- Whatever a reader may give at a position is what `one` says: `gives` is what the reader's contract promises of its result there.
-abbrev pub Reads : {A : Type 0} → (ℕ → Result (A × ℕ) Refusal → Type 0) → (ℕ → Step A) → Type 0
-Reads {A} gives one = (at : ℕ) (r : Result (A × ℕ) Refusal) → gives at r → step_of r ≡ one at
 
 -- what a reader gave, any refusal of it turned into 23
 abbrev pub reading : {A : Type 0} → Step A → Answer A

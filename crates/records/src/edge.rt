@@ -1,10 +1,12 @@
 // Edges, the list of edges and the list of faces.
 ghost use Rattle.std.specs.Prelude.{◌≡◌};
 ghost use Rattle.format.specs.Answers.{step_of, answer_of};
+ghost use Rattle.format.specs.Field.{u16_at};
 ghost use Rattle.records.specs.Edge.{edge_at, edge_of, edge_index, edge_index_at, edgelist_of, facelist_of};
 
 use crate::access::record;
 use format::field::{Read, read_i32, read_u16};
+use format::reader::Reader;
 use format::refusal::Answer;
 use format::section::{BspData, BspFileSectionId};
 
@@ -30,11 +32,26 @@ fn read_edge(s: &[u8], at: usize) -> Read<BspEdge>
     ))
 }
 
+// The reader of edges.
+#[derive(Clone, Copy)]
+struct EdgeReader;
+
+impl Reader for EdgeReader {
+    type Record = BspEdge;
+
+    ghost reads = { λ reader. edge_at };
+
+    #[inline(always)]
+    fn read(self, s: &[u8], at: usize) -> Read<BspEdge> {
+        read_edge(s, at)
+    }
+}
+
 // The edge of an index.
 pub fn edge(s: &[u8], map: BspData, index: usize) -> Answer<BspEdge>
     ensures { answer_of result ≡ edge_of s.now map index }
 {
-    record(s, map, BspFileSectionId::Edges, index, read_edge)
+    record(s, map, BspFileSectionId::Edges, index, EdgeReader)
 }
 
 #[derive(Clone, Copy)]
@@ -77,17 +94,47 @@ fn read_edge_index(s: &[u8], at: usize) -> Read<BspEdgeIndex>
     Ok((edge_index_of(x), next))
 }
 
+// The reader of the list of edges.
+#[derive(Clone, Copy)]
+struct EdgeIndexReader;
+
+impl Reader for EdgeIndexReader {
+    type Record = BspEdgeIndex;
+
+    ghost reads = { λ reader. edge_index_at };
+
+    #[inline(always)]
+    fn read(self, s: &[u8], at: usize) -> Read<BspEdgeIndex> {
+        read_edge_index(s, at)
+    }
+}
+
 // The entry of an index of the list of edges.
 pub fn edgelist(s: &[u8], map: BspData, index: usize) -> Answer<BspEdgeIndex>
     ensures { answer_of result ≡ edgelist_of s.now map index }
 {
-    record(s, map, BspFileSectionId::EdgeList, index, read_edge_index)
+    record(s, map, BspFileSectionId::EdgeList, index, EdgeIndexReader)
+}
+
+// The reader of the list of faces.
+#[derive(Clone, Copy)]
+struct FaceIndexReader;
+
+impl Reader for FaceIndexReader {
+    type Record = u16;
+
+    ghost reads = { λ reader. u16_at };
+
+    #[inline(always)]
+    fn read(self, s: &[u8], at: usize) -> Read<u16> {
+        read_u16(s, at)
+    }
 }
 
 // The entry of an index of the list of faces.
 pub fn facelist(s: &[u8], map: BspData, index: usize) -> Answer<usize>
     ensures { answer_of result ≡ facelist_of s.now map index }
 {
-    let face = record(s, map, BspFileSectionId::FaceList, index, read_u16)?;
+    let face = record(s, map, BspFileSectionId::FaceList, index, FaceIndexReader)?;
     Ok(face as usize)
 }

@@ -10,6 +10,7 @@ use crate::triple::Point;
 use format::code::contents_of_negated_i32;
 use format::contents::BspLeafContents;
 use format::field::{Read, read_i32, read_u16};
+use format::reader::Reader;
 use format::refusal::{Answer, Refusal};
 use format::section::{BspData, BspFileSectionId};
 
@@ -91,9 +92,24 @@ pub fn read_leaf(s: &[u8], at: usize) -> Read<BspLeaf>
     ))
 }
 
+// The reader of leaves.
+#[derive(Clone, Copy)]
+pub struct LeafReader;
+
+impl Reader for LeafReader {
+    type Record = BspLeaf;
+
+    ghost reads = { λ reader. leaf_at };
+
+    #[inline(always)]
+    fn read(self, s: &[u8], at: usize) -> Read<BspLeaf> {
+        read_leaf(s, at)
+    }
+}
+
 // The leaf of an index, whose 28 bytes must all be there.
 pub fn leaf(s: &[u8], map: BspData, index: usize) -> Answer<BspLeaf>
     ensures { answer_of result ≡ leaf_of s.now map index }
 {
-    record(s, map, BspFileSectionId::Leaves, index, read_leaf)
+    record(s, map, BspFileSectionId::Leaves, index, LeafReader)
 }

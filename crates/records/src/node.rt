@@ -10,6 +10,7 @@ use crate::triple::Point;
 use format::code::contents_of_negated_i16;
 use format::contents::BspLeafContents;
 use format::field::{Read, read_i16, read_index, read_u16};
+use format::reader::Reader;
 use format::refusal::{Answer, Refusal};
 use format::section::{BspData, BspFileSectionId};
 
@@ -79,6 +80,21 @@ pub fn read_render_node(s: &[u8], at: usize) -> Read<BspRenderNode>
     ))
 }
 
+// The reader of render nodes.
+#[derive(Clone, Copy)]
+pub struct RenderNodeReader;
+
+impl Reader for RenderNodeReader {
+    type Record = BspRenderNode;
+
+    ghost reads = { λ reader. render_node_at };
+
+    #[inline(always)]
+    fn read(self, s: &[u8], at: usize) -> Read<BspRenderNode> {
+        read_render_node(s, at)
+    }
+}
+
 // The render node of an index.
 pub fn render_node(s: &[u8], map: BspData, index: usize) -> Answer<BspRenderNode>
     ensures { answer_of result ≡ render_node_of s.now map index }
@@ -88,7 +104,7 @@ pub fn render_node(s: &[u8], map: BspData, index: usize) -> Answer<BspRenderNode
         map,
         BspFileSectionId::RenderNodes,
         index,
-        read_render_node,
+        RenderNodeReader,
     )
 }
 
@@ -138,6 +154,21 @@ pub fn read_collision_node(s: &[u8], at: usize) -> Read<BspCollisionNode>
     ))
 }
 
+// The reader of collision nodes.
+#[derive(Clone, Copy)]
+pub struct CollisionNodeReader;
+
+impl Reader for CollisionNodeReader {
+    type Record = BspCollisionNode;
+
+    ghost reads = { λ reader. collision_node_at };
+
+    #[inline(always)]
+    fn read(self, s: &[u8], at: usize) -> Read<BspCollisionNode> {
+        read_collision_node(s, at)
+    }
+}
+
 // The collision node of an index.
 pub fn collision_node(s: &[u8], map: BspData, index: usize) -> Answer<BspCollisionNode>
     ensures { answer_of result ≡ collision_node_of s.now map index }
@@ -147,6 +178,6 @@ pub fn collision_node(s: &[u8], map: BspData, index: usize) -> Answer<BspCollisi
         map,
         BspFileSectionId::CollisionNodes,
         index,
-        read_collision_node,
+        CollisionNodeReader,
     )
 }

@@ -7,6 +7,7 @@ use crate::access::record;
 use crate::number::read_number;
 use crate::triple::read_vector;
 use format::field::{Read, read_f32, read_index};
+use format::reader::Reader;
 use format::refusal::{Answer, Refusal};
 use format::section::{BspData, BspFileSectionId};
 use math::Vector3;
@@ -61,6 +62,23 @@ pub fn read_texinfo(s: &[u8], at: usize, texture_count: u32) -> Read<BspTexInfo>
     ))
 }
 
+// The reader of texture infos, in a map of so many textures.
+#[derive(Clone, Copy)]
+struct TexinfoReader {
+    texture_count: u32,
+}
+
+impl Reader for TexinfoReader {
+    type Record = BspTexInfo;
+
+    ghost reads = { λ reader. texinfo_at reader.texture_count };
+
+    #[inline(always)]
+    fn read(self, s: &[u8], at: usize) -> Read<BspTexInfo> {
+        read_texinfo(s, at, self.texture_count)
+    }
+}
+
 // The texture info of an index.
 pub fn texinfo(s: &[u8], map: BspData, index: usize) -> Answer<BspTexInfo>
     ensures { answer_of result ≡ texinfo_of s.now map index }
@@ -70,6 +88,8 @@ pub fn texinfo(s: &[u8], map: BspData, index: usize) -> Answer<BspTexInfo>
         map,
         BspFileSectionId::TextureInfo,
         index,
-        |s, at| read_texinfo(s, at, map.texture_count),
+        TexinfoReader {
+            texture_count: map.texture_count,
+        },
     )
 }

@@ -3,4 +3,3 @@ pub mod Position
 pub mod Table
 pub mod Records
 pub mod Answers
-pub mod Reads

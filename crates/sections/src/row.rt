@@ -1,13 +1,11 @@
 // Sections whose fields are not tested as they are read: rows of records, and bytes that are kept as they are.
-ghost use Rattle.std.specs.Prelude.{◌≡◌, ℕ, List};
-ghost use Rattle.format.specs.Step.{Step};
+ghost use Rattle.std.specs.Prelude.{◌≡◌};
 ghost use Rattle.sections.specs.Answers.{position_step};
-ghost use Rattle.sections.specs.Reads.{ReadsAs};
 ghost use Rattle.sections.specs.Records as Records;
 ghost use Rattle.sections.specs.Records.{plain, plain_section, blob};
 
 use crate::position::check_end_position;
-use format::field::Read;
+use format::reader::Reader;
 use format::refusal::{Answer, Refusal};
 use format::section::{BspFileSection, BspFileSectionId};
 
@@ -24,34 +22,28 @@ pub fn read_plain(s: &[u8], at: usize, bytes: usize) -> Answer<usize>
     }
 }
 
-// So many records in a row from a position on, each read by `read`: the position after the last, or the first refusal.
-pub fn read_records<T: Copy, F: Fn(&[u8], usize) -> Read<T>>(
-    s: &[u8],
-    at: usize,
-    count: u32,
-    read: F,
-) -> Answer<usize>
-    requires { F.IsAlwaysCallable read }
-    ensures { (one : List ℕ → ℕ → Step T) → ReadsAs (F.post read) one → position_step result ≡ Records.records one s.now count at }
+// So many records in a row from a position on, each read by `reader`: the position after the last, or the first refusal.
+pub fn read_records<R: Reader + Copy>(s: &[u8], at: usize, count: u32, reader: R) -> Answer<usize>
+    ensures { position_step result ≡ Records.records (R.reads reader) s.now count at }
 {
     let mut p = at;
     for _ in 0..count {
-        (_, p) = read(s, p)?;
+        (_, p) = reader.read(s, p)?;
     }
     Ok(p)
 }
 
-// A section of records, each read by `read`, and the section's end.
-pub fn check_records<T: Copy, F: Fn(&[u8], usize) -> Read<T>>(
+// A section of records, each read by `reader`, and the section's end.
+#[tactic(auto, unfolding(crate::specs::Records::section))]
+pub fn check_records<R: Reader + Copy>(
     s: &[u8],
     section: BspFileSection,
     id: BspFileSectionId,
-    read: F,
+    reader: R,
 ) -> Answer<usize>
-    requires { F.IsAlwaysCallable read }
-    ensures { (one : List ℕ → ℕ → Step T) → ReadsAs (F.post read) one → position_step result ≡ Records.section one id s.now section }
+    ensures { position_step result ≡ Records.section (R.reads reader) id s.now section }
 {
-    let end = read_records(s, section.offset as usize, section.record_count(id), read)?;
+    let end = read_records(s, section.offset as usize, section.record_count(id), reader)?;
     check_end_position(section, end)
 }
 

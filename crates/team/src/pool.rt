@@ -1,7 +1,7 @@
 // The rows of a team, walked side by side, eight leaves at a time. A cursor for each row holds the position of the row's next byte and that
 // byte's group, the leaves from 1 + 8 * group on. A byte of the pool is the union of the rows' bytes for one group, and the next group is the
 // least that a cursor is at: groups that no row has a byte for are not looked at.
-ghost use Rattle.std.specs.Prelude.{◌≡◌, ◌+◌, ◌-◌, ◌*◌, ◌≤◌, ◌<◌, min, length, drop};
+ghost use Rattle.std.specs.Prelude.{◌≡◌, ◌++◌, ◌+◌, ◌-◌, ◌*◌, ◌≤◌, ◌<◌, min, length, take, drop};
 ghost use Rattle.format.specs.Answers.{answer_of};
 ghost use Rattle.format.specs.Answer.{answer, refused};
 ghost use Rattle.format.specs.Listed.{listed, into};
@@ -11,6 +11,7 @@ ghost use Rattle.team.specs.Team.{pooled};
 ghost use Rattle.team.specs.Starts.{data_of};
 ghost use Rattle.team.specs.SideBySide.{kept_bits, rests_of, rows_at, Cursors, Starts, Together};
 
+use format::list::copy_front;
 use format::refusal::{Answer, Refusal};
 use format::section::BspFileSection;
 use vis::row::{kept_bits, put_leaves, visibility_of};
@@ -131,6 +132,14 @@ fn put_pool(
     }
 }
 
+// `copy_front` as a call: in line, where it is seen that the lists lie apart, the compiler makes it a call of `memcpy`.
+#[inline(never)]
+fn copy_apart(items: &[usize], list: &mut [usize])
+    ensures { list.new ≡ take (length list.old) items.now ++ drop (length items.now) list.old }
+{
+    copy_front(items, list)
+}
+
 // Lists the leaves that the rows at the starts list together. There is a row, and at most 16. Each of the two
 // passes moves its own copy of the starts.
 fn list_pool(
@@ -144,7 +153,7 @@ fn list_pool(
 {
     let rows = starts.len();
     let mut ats = [0usize; 16];
-    ats[..rows].copy_from_slice(starts);
+    copy_apart(starts, &mut ats[..rows]);
     let mut again = ats;
     let mut groups = [0usize; 16];
     let count = pool_length(

@@ -12,6 +12,7 @@ ghost use Rattle.texture_list.specs.Texture as Texture;
 use crate::answer::BspTexture;
 use crate::name::{Header, is_ascii, number_of, read_name};
 use format::field::{Read, read_u32};
+use format::reader::Reader;
 use format::refusal::{Answer, Refusal};
 use format::section::BspData;
 use records::number::read_offset;
@@ -83,12 +84,27 @@ fn read_list(s: &[u8], base: u32, count: u32, end: usize) -> Answer<usize>
     Ok(end)
 }
 
+// The reader of the offsets of textures.
+#[derive(Clone, Copy)]
+struct OffsetReader;
+
+impl Reader for OffsetReader {
+    type Record = Option<u32>;
+
+    ghost reads = { λ reader. offset_at };
+
+    #[inline(always)]
+    fn read(self, s: &[u8], at: usize) -> Read<Option<u32>> {
+        read_offset(s, at)
+    }
+}
+
 // The offsets, and then the textures: where reading stops.
 #[tactic(auto, using(format::proofs::Chain::steps, sections::proofs::Chain::position_no), unfolding(crate::specs::List::textures_at))]
 pub fn read_textures(s: &[u8], base: u32, count: u32) -> Answer<usize>
     ensures { position_step result ≡ textures_at s.now base count }
 {
-    let end = read_records(s, (base as usize) + 4, count, read_offset)?;
+    let end = read_records(s, (base as usize) + 4, count, OffsetReader)?;
     read_list(s, base, count, end)
 }
 

@@ -1,7 +1,7 @@
 -- The library's `IsUtf8` says that bytes are the encoding of some characters. It holds exactly where the table of the standard takes the bytes.
 -- Assumes nothing.
 use lib.Utf8.{scalar, scalars, next, encode, encodes, scalar_cases, low_scalar}
-use Rattle.std.proofs.Common.{◌≡◌, ℕ, zero, suc, ◌+◌, ◌-◌, ◌*◌, ◌/◌, ◌<◌, ◌≤◌, Bool, true, false, eqb, List, [], ◌∷◌, ◌++◌, length, IsUtf8, Option, Some, None, inl, inr, refl, sym, ap, ◌∙◌, subst, arith, true≢false}
+use Rattle.std.proofs.Common.{◌≡◌, ℕ, zero, suc, ◌+◌, ◌-◌, ◌*◌, ◌/◌, ◌<◌, ◌≤◌, Bool, true, false, eqb, List, [], ◌∷◌, ◌++◌, length, slice_index_or, IsUtf8, Option, Some, None, inl, inr, refl, sym, ap, ◌∙◌, subst, arith, true≢false}
 use Rattle.std.proofs.lemmas.Bool.{and_parts, cases_lt}
 use Rattle.std.proofs.lemmas.Bool.Decides.{nat_tests}
 use Rattle.std.proofs.lemmas.Str.{IsUtf8-append, IsUtf8-encode}
@@ -329,3 +329,16 @@ by_flag false h = refl
 
 pub refused : (bs : List ℕ) → ¬ (IsUtf8 bs) → is_utf8 bs ≡ false
 refused bs n = by_flag (is_utf8 bs) (λ e. n (encoded bs e))
+
+-- Three bytes that begin with 0xed are a character where the next is at most 0x9f; above that lie the code points of surrogates.
+pub below_surrogates : (bs : List ℕ) → 3 ≤ length bs → length bs < 4 → slice_index_or bs 0 0 ≡ 237 → 128 ≤ slice_index_or bs 1 0 → slice_index_or bs 1 0 ≤ 159 → 128 ≤ slice_index_or bs 2 0 → slice_index_or bs 2 0 ≤ 191 → is_utf8 bs ≡ true
+unfolding is_utf8 whole run
+below_surrogates [] l h a b c d e = absurd (omega arith)
+below_surrogates (x ∷ []) l h a b c d e = absurd (omega arith)
+below_surrogates (x ∷ y ∷ []) l h a b c d e = absurd (omega arith)
+below_surrogates (x ∷ y ∷ z ∷ w ∷ r) l h a b c d e = absurd (omega arith)
+below_surrogates (x ∷ y ∷ z ∷ []) l h a b c d e =
+    ap whole
+    (step fresh x (y ∷ z ∷ []) (want_of 2 0x80 0x9f) (led x ∙ lead_ed x a)
+    ∙ step (want 2 0x80 0x9f) y (z ∷ []) (want_of 1 0x80 0xbf) (within 1 0x80 0x9f y b c)
+    ∙ step (want 1 0x80 0xbf) z [] (Some fresh) (within 0 0x80 0xbf z d e))

@@ -20,6 +20,10 @@ module _ (list next : List ℕ) (count r first byte : ℕ) where
   abbrev these : List ℕ
   these = byte_leaves first byte
 
+  -- the leaves of a byte that stand at the front
+  pub at_front : (leaves : List ℕ) → r ≡ min (length part) (length leaves) → next ≡ take (length part) leaves ++ drop r part → take r next ≡ take (length part) leaves
+  at_front leaves n e = ap (take r) e ∙ take_at (take (length part) leaves) (drop r part) r (length-take (length part) leaves ∙ sym n)
+
   -- they are all there, and what lay before them is kept
   pub placed : count + length these ≤ length list → first ≤ 4294967287 → length next ≡ length part
       → (r ≡ min (length part) (length (byte_leaves (min first 4294967287) byte))) × (take r next ≡ take (length part) (byte_leaves (min first 4294967287) byte))

@@ -9,6 +9,7 @@ ghost use Rattle.vis.specs.Answers.{bytes_of};
 ghost use Rattle.vis.specs.Pvs as Pvs;
 
 use crate::ones::{SET_BITS, set_bits};
+use format::list::copy_front;
 use format::refusal::{Answer, Refusal};
 use format::section::{BspFileSection, BspFileSectionId};
 
@@ -51,7 +52,7 @@ fn put_eight(byte: u8, first: u32, count: usize, list: &mut [u32]) -> usize
 #[tactic(auto, using(crate::proofs::SetBits::room_left))]
 fn put_last(byte: u8, first: u32, count: usize, list: &mut [u32]) -> usize
     requires { (count + length (byte_leaves first byte) ≤ length list.old) × (first ≤ 4294967287) }
-    ensures { (result ≡ count + length (byte_leaves first byte)) × (take result list.new ≡ take count list.old ++ byte_leaves first byte) }
+    ensures { (result ≡ count + length (byte_leaves first byte)) × (take result list.new ≡ take count list.old ++ byte_leaves first byte) × (drop (result + 1) list.new ≡ drop (result + 1) list.old) }
 {
     let mut rest = byte as usize;
     let mut at = count;
@@ -77,20 +78,32 @@ fn put_bits(byte: u8, left: usize, first: u32, count: usize, list: &mut [u32]) -
     put_last(kept_bits(byte, left), first, count, list)
 }
 
-// Lists the leaves of a byte at the front of any list, as many as there is room for, and answers how many. The entry after them may be
-// written over, and nothing is said of it; later ones are kept. A first leaf above `MOST_FIRST` counts as that one. A call: in line in
-// `team` it makes a pool of many leaves slower.
+// `copy_front` as a call: in line, where it is seen that the lists lie apart, the compiler makes it a call of `memcpy`.
+#[inline(never)]
+fn copy_apart(items: &[u32], list: &mut [u32])
+    ensures { list.new ≡ take (length list.old) items.now ++ drop (length items.now) list.old }
+{
+    copy_front(items, list)
+}
+
+// Lists the leaves of a byte at the front of any list, as many as there is room for, and answers how many; the other entries are kept. The
+// entry after the leaves, which `put_last` may write over, is put back. (By `put_last`, which ends with the last set bit: of a pool's bytes many
+// have few and low ones.) A first leaf above `MOST_FIRST` counts as that one. A call: in line in `team` it makes a pool of many leaves slower.
 #[inline(never)]
 pub fn put_leaves(byte: u8, first: u32, list: &mut [u32]) -> usize
-    ensures { (result ≡ min (length list.old) (length (byte_leaves (min first 4294967287) byte))) × (take result list.new ≡ take (length list.old) (byte_leaves (min first 4294967287) byte)) × (drop (result + 1) list.new ≡ drop (result + 1) list.old) }
+    ensures { (result ≡ min (length list.old) (length (byte_leaves (min first 4294967287) byte))) × (list.new ≡ take (length list.old) (byte_leaves (min first 4294967287) byte) ++ drop result list.old) }
 {
     let first = first.min(MOST_FIRST);
-    if 8 <= list.len() {
-        return put_eight(byte, first, 0, list);
+    let count = byte.count_ones() as usize;
+    if count < list.len() {
+        let kept = list[count];
+        put_last(byte, first, 0, list);
+        list[count] = kept;
+        return count;
     }
     let mut eight = [0; 8];
     let count = put_eight(byte, first, 0, &mut eight).min(list.len());
-    list[..count].copy_from_slice(&eight[..count]);
+    copy_apart(&eight[..count], list);
     count
 }
 

@@ -21,6 +21,11 @@ unfolding fill
 fill_same v w e [] out = refl
 fill_same v w e (q ∷ ids) out = fill_same v w e ids (set out q (v q)) ∙ ap (λ (x : ℕ). fill w ids (set out q x)) (e q)
 
+pub fill_length : (v : ℕ → ℕ) (ids out : List ℕ) → length (fill v ids out) ≡ length out
+unfolding fill
+fill_length v [] out = refl
+fill_length v (q ∷ ids) out = fill_length v ids (set out q (v q)) ∙ simp lib.ListN.length-set
+
 -- an entry of a point behind a plane is no entry of a point in front
 module _ (f : ℕ → Bool) where
   differ : (p q : ℕ) → f p ≡ false → f q ≡ true → p ≡ q → ⊥

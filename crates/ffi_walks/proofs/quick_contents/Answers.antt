@@ -20,12 +20,12 @@ pub returns-then-code-eq0 : goal.returns-then-code-eq0
 unfolding contents_at_once
 returns-then-code-eq0 c = let a = c.args in
     no_code a.file.now a.map a.hull.mins a.hull.maxs a.hull.node_id a.point a.hull.table _ c.is_render-drawn.ensures (sym c.is_box.ensures ∙ c.if-is_box.false) _
-    (c.tables_of-t.ensures ∙ ap (λ tab. tables_of a.map tab a.hull.mins a.hull.maxs) c.of_nodes.ensures) _ c.walk_quick-end.ensures.said c.if-end-eq0.false _ c.end_code-code.ensures
+    (c.tables_of-t.ensures ∙ ap (λ tab. tables_of a.map tab a.hull.mins a.hull.maxs) c.of_nodes.ensures) _ c.walk_quick-end.ensures.said c.if-end-eq0.false _ c.end_code_sized-code.ensures
     c.if-code-eq0.true
 
 pub returns : goal.returns
 unfolding contents_at_once
 returns c = let a = c.args in
     has_code a.file.now a.map a.hull.mins a.hull.maxs a.hull.node_id a.point a.hull.table _ c.is_render-drawn.ensures (sym c.is_box.ensures ∙ c.if-is_box.false) _
-    (c.tables_of-t.ensures ∙ ap (λ tab. tables_of a.map tab a.hull.mins a.hull.maxs) c.of_nodes.ensures) _ c.walk_quick-end.ensures.said c.if-end-eq0.false _ c.end_code-code.ensures
+    (c.tables_of-t.ensures ∙ ap (λ tab. tables_of a.map tab a.hull.mins a.hull.maxs) c.of_nodes.ensures) _ c.walk_quick-end.ensures.said c.if-end-eq0.false _ c.end_code_sized-code.ensures
     c.if-code-eq0.false

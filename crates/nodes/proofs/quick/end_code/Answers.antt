@@ -1,25 +1,16 @@
--- `end_code` meets its contract: a leaf's place and its record, or the code in the word.
+-- `end_code` meets its contract: so many leaves have so many times 28 bytes.
 -- Assumes nothing.
-use Rattle.std.proofs.Common.{◌/◌, refl, arith}
-use Rattle.nodes.proofs.Quicks.{code_word, code_many, code_none, code_past, code_leaf}
+use Rattle.std.proofs.Common.{ℕ, ◌*◌, ap, ◌∙◌, arith}
+use Rattle.nodes.specs.Quick.{end_code}
+use Rattle.nodes.proofs.Quicks.{code_word, code_many}
 use Rattle.nodes.proofs.quick.end_code.Goals as goal
 
 pub returns-then-not-render : goal.returns-then-not-render
 returns-then-not-render c = let a = c.args in code_word a.s.now a.at _ a.word a.render c.if-not-render.true _ c.word_code.ensures
 
-pub returns-then-size-ge917504 : goal.returns-then-size-ge917504
-returns-then-size-ge917504 c = let a = c.args in code_many a.s.now a.at (a.size / 28) a.word a.render c.if-not-render.false a.size refl c.if-size-ge917504.true
-
-pub returns-then-size-past : goal.returns-then-size-past
-returns-then-size-past c = let a = c.args in
-    code_none a.s.now a.at (a.size / 28) a.word a.render c.if-not-render.false a.size refl (omega (arith, c.if-size-past.true))
-
-pub returns-then-s-end : goal.returns-then-s-end
-returns-then-s-end c = let a = c.args in
-    code_past a.s.now a.at (a.size / 28) a.word a.render c.if-not-render.false a.size refl c.if-size-ge917504.false (omega (arith, c.if-size-past.false))
-    (omega (arith, c.if-s-end.true))
+pub returns-then-count-gt32767 : goal.returns-then-count-gt32767
+returns-then-count-gt32767 c = let a = c.args in
+    code_many a.s.now a.at a.count a.word a.render c.if-not-render.false (a.count * 28) (omega arith) (omega (arith, c.if-count-gt32767.true))
 
 pub returns : goal.returns
-returns c = let a = c.args in
-    code_leaf a.s.now a.at (a.size / 28) a.word a.render c.if-not-render.false a.size refl c.if-size-ge917504.false (omega (arith, c.if-size-past.false))
-    (omega (arith, c.if-s-end.false)) _ (omega arith) _ c.leaf_code.ensures
+returns c = let a = c.args in c.end_code_sized.ensures ∙ ap (λ (n : ℕ). end_code a.s.now a.render a.at n a.word) (omega arith)

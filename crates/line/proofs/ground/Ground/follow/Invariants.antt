@@ -10,5 +10,5 @@ use Rattle.line.proofs.ground.Ground.follow.Given as goal
 
 abbrev pub invariant-loop : goal.invariant-loop
 invariant-loop l =
-    (l.n ≤ 9) × (length l.marks ≡ 10) × (point_of (get_or l.marks 9 blank).point ≡ l.fn.end) × (l.left ≤ 512) × (l.seen < 8)
+    (l.n ≤ 10) × (length l.marks ≡ 11) × (point_of (get_or l.marks 10 blank).point ≡ l.fn.end) × (l.left ≤ 512) × (l.seen < 8)
     × Standing l.self.s.now l.self.t l.self.root (from_start l.fn.root l.fn.start l.fn.end).part (drop l.n l.marks) (stands l.word l.left l.x (get_or l.marks l.n blank)) (seen_line l.fn.end l.seen) l.x l.looked (stand_went l.self (from_start l.fn.root l.fn.start l.fn.end))
