@@ -18,7 +18,7 @@ use nodes::whole::Sections;
 // A point of the line at which a part of it ends, by its fraction and its coordinates. Where it is a plane whose far side waits, `held` is the calls
 // left below it, with 1024 more for each one of the word of the child there, 67108864 more where the line comes from its front and 4294967296 more
 // for each one of the plane's number. (The calls left are added as they stand: multiplied, they would be counted twice at each node. A mark is
-// copied in parts of 16 and 8 bytes, as it is written: other parts wait for the writing. Ten of them are cleared without a call:
+// copied in parts of 16 and 8 bytes, as it is written: other parts wait for the writing. Eleven of them are cleared without a call:
 // docs/DECISIONS.md 111.)
 #[derive(Clone, Copy)]
 pub struct Mark {
@@ -289,9 +289,9 @@ impl<'a> Ground<'a> {
         }
     }
 
-    // The line from a child on. A tree of 32,767 nodes has fewer ends and planes than there are turns. (Ten places and the first that is used, and no
-    // list that grows: there is no heap, and eleven are cleared without a call. The last is the line's end, the others the planes that wait. Where the
-    // line was to go is read there again: handed on it takes a register.)
+    // The line from a child on. A tree of 32,767 nodes has fewer ends and planes than there are turns. (Eleven places and the first that is used, and
+    // no list that grows: there is no heap, and eleven are cleared without a call. The last is the line's end, the others the planes that wait.
+    // Where the line was to go is read there again: handed on it takes a register.)
     #[tactic(auto, using(crate::proofs::Follows::fewer_left, crate::proofs::Follows::few_met))]
     #[inline(always)]
     pub fn follow(&self, root: u16, start: Vector3, end: Vector3) -> Option<Came>
